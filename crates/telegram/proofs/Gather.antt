@@ -1,0 +1,161 @@
+-- What is gathered octet by octet, for a layer that stores each data octet as it comes.
+use Prim.Native.Nat.{ℕ, _+_, _-_, _%_, _≤_, _<_}
+use native.Mathlib.Nat.{add-zero, zero-add}
+use native.Mathlib.Omega.{arith}
+use mathlib.Core.Path.{_≡_, refl, sym, ap, _∙_}
+use mathlib.Core.List.{List, [], _∷_, _++_}
+use mathlib.Core.Bool.{Bool, true, false, cond, _&&_}
+use borrow.Author.Tests.{ltb-true}
+use lib.Dec.{ltb, eqb}
+use lib.ListN.{length}
+use Rattle.telegram.specs.declared.Kind.the-variants.{Sd1, Sd2, Sd3, Sd4}
+use Rattle.telegram.specs.declared.reader.Phase.{Phase}
+use Rattle.telegram.specs.declared.reader.Phase.the-variants.{Start, Le, LeAgain, SdAgain, Da, Sa, Fc, Dsap, Ssap, Body, End, Done, Off}
+use Rattle.telegram.specs.declared.reader.Reader.{Reader}
+use Rattle.telegram.specs.declared.reader.Status.the-variants.{Inside, Complete, Broken}
+use Rattle.telegram.specs.Reading.{rd, before, moved, off, start, okAt, nextAt, step, runFrom, run, status, statusAt, inBody, takesData, gathered}
+use Rattle.telegram.proofs.Run.{no-true, off-stays}
+use Rattle.telegram.proofs.Continues.{small-run}
+
+pub gather-append : (r : Reader) (xs ys : List ℕ) → gathered r (xs ++ ys) ≡ gathered r xs ++ gathered (runFrom r xs) ys
+gather-append r [] ys = refl
+gather-append r (x ∷ xs) ys = go (takesData r) (gather-append (step r x) xs ys)
+  where
+    go : (c : Bool) → gathered (step r x) (xs ++ ys) ≡ gathered (step r x) xs ++ gathered (runFrom (step r x) xs) ys
+        → cond c (x ∷ gathered (step r x) (xs ++ ys)) (gathered (step r x) (xs ++ ys))
+        ≡ cond c (x ∷ gathered (step r x) xs) (gathered (step r x) xs) ++ gathered (runFrom (step r x) xs) ys
+    go true e = ap (λ (l : List ℕ). x ∷ l) e
+    go false e = e
+
+-- an octet comes behind those gathered if it is data, and nothing changes if not
+pub gather-snoc : (xs : List ℕ) (b : ℕ) → gathered start (xs ++ b ∷ []) ≡ gathered start xs ++ cond (takesData (run xs)) (b ∷ []) []
+gather-snoc xs b = gather-append start xs (b ∷ [])
+
+-- before its data a reader has counted none
+abbrev inHead : Phase → Bool
+inHead Start = true
+inHead Le = true
+inHead LeAgain = true
+inHead SdAgain = true
+inHead Da = true
+inHead Sa = true
+inHead Fc = true
+inHead Dsap = true
+inHead Ssap = true
+inHead Body = false
+inHead End = false
+inHead Done = false
+inHead Off = false
+
+abbrev None : Reader → Type 0
+None r = inHead (r .phase) ≡ true → r .at ≡ 0
+
+abbrev one : Bool → ℕ
+one true = 1
+one false = 0
+
+at-start : (p q s : Bool) → (cond p (before Da Sd1 0) (cond q (before Da Sd3 8) (cond s (before Da Sd4 0) (before Le Sd2 0)))) .at ≡ 0
+at-start true q s = refl
+at-start false true s = refl
+at-start false false true = refl
+at-start false false false = refl
+
+-- a step counts its octet if that is data
+next-at : (p : Phase) (r : Reader) (b : ℕ) → (inHead p ≡ true → r .at ≡ 0) → okAt p r b ≡ true
+    → (nextAt p r b) .at ≡ r .at + one (inBody p && ltb (r .at) (r .count))
+next-at Start r b f e = let z = f refl in at-start (eqb b 0x10) (eqb b 0xA2) (eqb b 0xDC) ∙ omega arith
+next-at Le r b f e = let z = f refl in omega arith
+next-at LeAgain r b f e = let z = f refl in omega arith
+next-at SdAgain r b f e = let z = f refl in omega arith
+next-at Da r b f e = sym (add-zero (r .at))
+next-at Sa r b f e = sym (add-zero (r .at))
+next-at Fc r b f e = sym (add-zero (r .at))
+next-at Dsap r b f e = sym (add-zero (r .at))
+next-at Ssap r b f e = sym (add-zero (r .at))
+next-at Body r b f e = go (ltb (r .at) (r .count))
+  where
+    go : (c : Bool)
+        → (cond c (rd Body (r .kind) (r .count) (r .at + 1) (r .da) (r .sa) (r .fc) (r .dsap) (r .ssap) ((r .sum + b) % 256)) (moved r End)) .at ≡ r .at + one c
+    go true = refl
+    go false = sym (add-zero (r .at))
+next-at End r b f e = sym (add-zero (r .at))
+next-at Done r b f e = no-true e
+next-at Off r b f e = no-true e
+
+none-next : (p : Phase) (r : Reader) (b : ℕ) → (inHead p ≡ true → r .at ≡ 0) → None (nextAt p r b)
+none-next Start r b f = λ _. at-start (eqb b 0x10) (eqb b 0xA2) (eqb b 0xDC)
+none-next Le r b f = λ _. refl
+none-next LeAgain r b f = λ _. refl
+none-next SdAgain r b f = λ _. refl
+none-next Da r b f = λ _. f refl
+none-next Sa r b f = λ _. f refl
+none-next Fc r b f = λ _. f refl
+none-next Dsap r b f = λ _. f refl
+none-next Ssap r b f = λ _. f refl
+none-next Body r b f = go (ltb (r .at) (r .count))
+  where
+    go : (c : Bool)
+        → None (cond c (rd Body (r .kind) (r .count) (r .at + 1) (r .da) (r .sa) (r .fc) (r .dsap) (r .ssap) ((r .sum + b) % 256)) (moved r End))
+    go true = λ e. no-true e
+    go false = λ e. no-true e
+none-next End r b f = λ e. no-true e
+none-next Done r b f = λ e. no-true e
+none-next Off r b f = λ e. no-true e
+
+length-cond : (c : Bool) (x : ℕ) (l : List ℕ) → length (cond c (x ∷ l) l) ≡ one c + length l
+length-cond true x l = omega arith
+length-cond false x l = omega arith
+
+counts-from : (r : Reader) (xs : List ℕ) → None r → ¬ (status (runFrom r xs) ≡ Broken)
+    → (runFrom r xs) .at ≡ r .at + length (gathered r xs)
+unfolding step
+counts-from r [] f n = sym (add-zero (r .at))
+counts-from r (x ∷ xs) f n = go (okAt (r .phase) r x) refl n (counts-from (step r x) xs)
+  where
+    go : (c : Bool) → okAt (r .phase) r x ≡ c
+        → ¬ (status (runFrom (cond c (nextAt (r .phase) r x) off) xs) ≡ Broken)
+        → (None (cond c (nextAt (r .phase) r x) off) → ¬ (status (runFrom (cond c (nextAt (r .phase) r x) off) xs) ≡ Broken)
+        → (runFrom (cond c (nextAt (r .phase) r x) off) xs) .at
+        ≡ (cond c (nextAt (r .phase) r x) off) .at + length (gathered (cond c (nextAt (r .phase) r x) off) xs))
+        → (runFrom (cond c (nextAt (r .phase) r x) off) xs) .at
+        ≡ r .at + length (cond (takesData r) (x ∷ gathered (cond c (nextAt (r .phase) r x) off) xs) (gathered (cond c (nextAt (r .phase) r x) off) xs))
+    go true e m ih =
+        let a = ih (none-next (r .phase) r x f) m in
+        let s = next-at (r .phase) r x f e in
+        let l = length-cond (takesData r) x (gathered (nextAt (r .phase) r x) xs) in
+        omega arith
+    go false e m ih = absurd (m (ap status (off-stays xs)))
+
+-- as many data octets are gathered as the reader has counted: the next one's number is r .at
+pub counts : (xs : List ℕ) → ¬ (status (run xs) ≡ Broken) → (run xs) .at ≡ length (gathered start xs)
+counts xs n = counts-from start xs (λ _. refl) n ∙ zero-add (length (gathered start xs))
+
+-- and a data octet's number is below 246
+pub room : (xs : List ℕ) → takesData (run xs) ≡ true → (run xs) .at < 246
+room xs e =
+    let l = ltb-true ((run xs) .at) ((run xs) .count) (right (inBody ((run xs) .phase)) (ltb ((run xs) .at) ((run xs) .count)) e) in
+    let s = small-run start xs (omega arith) in
+    omega arith
+  where
+    right : (p q : Bool) → p && q ≡ true → q ≡ true
+    right true q h = h
+    right false q h = no-true h
+
+-- where a data octet may come, a telegram is inside
+pub data-inside : (xs : List ℕ) → takesData (run xs) ≡ true → status (run xs) ≡ Inside
+data-inside xs e = at-phase ((run xs) .phase) (ltb ((run xs) .at) ((run xs) .count)) e
+  where
+    at-phase : (p : Phase) (c : Bool) → inBody p && c ≡ true → statusAt p ≡ Inside
+    at-phase Start c e = no-true e
+    at-phase Le c e = refl
+    at-phase LeAgain c e = refl
+    at-phase SdAgain c e = refl
+    at-phase Da c e = refl
+    at-phase Sa c e = refl
+    at-phase Fc c e = refl
+    at-phase Dsap c e = refl
+    at-phase Ssap c e = refl
+    at-phase Body c e = refl
+    at-phase End c e = refl
+    at-phase Done c e = no-true e
+    at-phase Off c e = no-true e

@@ -1,0 +1,61 @@
+-- A reader over lists of octets: the laws that the theorems share.
+use Prim.Native.Nat.{ℕ}
+use native.Mathlib.Omega.{arith}
+use mathlib.Core.Path.{_≡_, refl, sym, ap, _∙_}
+use mathlib.Core.List.{List, [], _∷_, _++_}
+use mathlib.Core.Bool.{Bool, true, false, cond}
+use Rattle.telegram.specs.declared.reader.Reader.{Reader}
+use Rattle.telegram.specs.declared.reader.Status.{Status}
+use Rattle.telegram.specs.declared.reader.Status.the-variants.{Fresh, Inside, Complete, Broken}
+use Rattle.telegram.specs.Reading.{start, off, okAt, nextAt, step, runFrom, run, status}
+
+-- a test that failed did not pass
+pub no-true : {A : Type 0} → false ≡ true → A
+no-true e = let z : _≡_ {A = ℕ} 0 1 = cc in absurd (omega arith)
+
+-- two statuses are never equal
+pub broken-complete : Broken ≡ Complete → ⊥
+broken-complete e = let z : _≡_ {A = ℕ} 0 1 = cc in omega arith
+
+pub inside-complete : Inside ≡ Complete → ⊥
+inside-complete e = let z : _≡_ {A = ℕ} 0 1 = cc in omega arith
+
+pub fresh-complete : Fresh ≡ Complete → ⊥
+fresh-complete e = let z : _≡_ {A = ℕ} 0 1 = cc in omega arith
+
+-- equal readers run alike
+pub on : {p q : Reader} (ys : List ℕ) → p ≡ q → runFrom p ys ≡ runFrom q ys
+on ys e = ap (λ (r : Reader). runFrom r ys) e
+
+pub run-append : (r : Reader) (xs ys : List ℕ) → runFrom r (xs ++ ys) ≡ runFrom (runFrom r xs) ys
+run-append r [] ys = refl
+run-append r (x ∷ xs) ys = run-append (step r x) xs ys
+
+-- one octet more
+pub run-snoc : (xs : List ℕ) (b : ℕ) → run (xs ++ b ∷ []) ≡ step (run xs) b
+run-snoc xs b = run-append start xs (b ∷ [])
+
+-- broken off stays so
+step-off : (b : ℕ) → step off b ≡ off
+unfolding step
+step-off b = refl
+
+pub off-stays : (ys : List ℕ) → runFrom off ys ≡ off
+off-stays [] = refl
+off-stays (y ∷ ys) = rw (step-off y) (off-stays ys)
+
+-- the octet may come: the step leads on
+pub goes : (r : Reader) (b : ℕ) → okAt (r .phase) r b ≡ true → step r b ≡ nextAt (r .phase) r b
+unfolding step
+goes r b h = rw h
+
+-- after an octet a reader completes only if the octet may come, from where the octet leads
+pub passed : (r : Reader) (b : ℕ) (ys : List ℕ) → status (runFrom (step r b) ys) ≡ Complete
+    → (okAt (r .phase) r b ≡ true) × (status (runFrom (nextAt (r .phase) r b) ys) ≡ Complete)
+unfolding step
+passed r b ys = go (okAt (r .phase) r b)
+  where
+    go : (t : Bool) → status (runFrom (cond t (nextAt (r .phase) r b) off) ys) ≡ Complete
+        → (t ≡ true) × (status (runFrom (nextAt (r .phase) r b) ys) ≡ Complete)
+    go true h = (refl, h)
+    go false h = absurd (broken-complete (ap status (sym (off-stays ys)) ∙ h))
