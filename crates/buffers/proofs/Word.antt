@@ -1,0 +1,134 @@
+-- The event word after its operations, event by event, and what is pending. Assumes nothing.
+use Prim.Native.Nat.{ℕ, zero, suc, _^_, _<_}
+use native.Mathlib.Omega.{arith}
+use mathlib.Core.Path.{_≡_, refl, ap, _∙_}
+use mathlib.Core.Bool.{Bool, true, false, not, cond, _&&_, _||_, and-true, and-false, or-true, or-false}
+use lib.Dec.{eqb, ltb}
+use lib.Pow.{pow-pos, pow-lt}
+use lib.Bits.{or-lt}
+use lib.Count.{trailing-of-zero}
+use borrow.Author.Tests.{eq-eqb, ne-eqb, lt-ltb, ltb-true}
+use Rattle.buffers.specs.declared.events.Events.{Events}
+use Rattle.buffers.specs.Events.{width, configuration, parameters, kept, bit, without, noEvents, only, raised, cleared, acknowledged, pendingOf}
+use Rattle.buffers.proofs.Bits.{bit-or, bit-without, bit-zero, bit-power, without-lt, lowest-below, lowest-set, lowest-lt}
+
+-- ---- event by event
+
+-- no event is set
+pub none-bit : (n : ℕ) → bit (noEvents .word) n ≡ false
+none-bit n = bit-zero n
+
+-- whether k is the number n and the word has a bit for it
+abbrev pub names : ℕ → ℕ → Bool
+names k n = ltb k width && eqb k n
+
+-- that event alone is set
+pub only-bit : (k n : ℕ) → bit (only k .word) n ≡ names k n
+only-bit k n = go (ltb k width)
+  where
+    go : (t : Bool) → bit (cond t (2 ^ k) 0) n ≡ (t && eqb k n)
+    go true = bit-power k n
+    go false = bit-zero n
+
+-- the event raised, and those that were set
+pub raised-bit : (e : Events) (k n : ℕ) → bit (raised e k .word) n ≡ (bit (e .word) n || names k n)
+raised-bit e k n = bit-or (e .word) (only k .word) n ∙ ap (λ t. bit (e .word) n || t) (only-bit k n)
+
+-- those that were set, without the event cleared
+pub cleared-bit : (e : Events) (k n : ℕ) → bit (cleared e k .word) n ≡ (bit (e .word) n && not (names k n))
+cleared-bit e k n = bit-without (e .word) (only k .word) n ∙ ap (λ t. bit (e .word) n && not t) (only-bit k n)
+
+-- a number names itself
+names-same : (n : ℕ) → n < width → names n n ≡ true
+names-same n h = ap (λ t. t && eqb n n) (lt-ltb n width h) ∙ eq-eqb n n refl
+
+-- and no other
+names-other : (k n : ℕ) → (k ≡ n → ⊥) → names k n ≡ false
+names-other k n d = ap (λ t. ltb k width && t) (ne-eqb k n d) ∙ and-false (ltb k width)
+
+-- the event that was raised is set
+pub raised-same : (e : Events) (n : ℕ) → n < width → bit (raised e n .word) n ≡ true
+raised-same e n h = raised-bit e n n ∙ ap (λ t. bit (e .word) n || t) (names-same n h) ∙ or-true (bit (e .word) n)
+
+-- every other is as it was
+pub raised-other : (e : Events) (k n : ℕ) → (k ≡ n → ⊥) → bit (raised e k .word) n ≡ bit (e .word) n
+raised-other e k n d = raised-bit e k n ∙ ap (λ t. bit (e .word) n || t) (names-other k n d) ∙ or-false (bit (e .word) n)
+
+-- the event that was cleared is not set
+pub cleared-same : (e : Events) (n : ℕ) → n < width → bit (cleared e n .word) n ≡ false
+cleared-same e n h = cleared-bit e n n ∙ ap (λ t. bit (e .word) n && not t) (names-same n h) ∙ and-false (bit (e .word) n)
+
+-- every other is as it was
+pub cleared-other : (e : Events) (k n : ℕ) → (k ≡ n → ⊥) → bit (cleared e k .word) n ≡ bit (e .word) n
+cleared-other e k n d = cleared-bit e k n ∙ ap (λ t. bit (e .word) n && not t) (names-other k n d) ∙ and-true (bit (e .word) n)
+
+-- ---- acknowledged
+
+-- the bits that are kept are those of two events
+pub kept-bit : (n : ℕ) → bit kept n ≡ (eqb configuration n || eqb parameters n)
+kept-bit n =
+    bit-or (2 ^ configuration) (2 ^ parameters) n
+    ∙ ap (λ t. t || bit (2 ^ parameters) n) (bit-power configuration n)
+    ∙ ap (λ t. eqb configuration n || t) (bit-power parameters n)
+
+-- those that were set, without those of the mask that are not kept
+pub acknowledged-bit : (e : Events) (mask n : ℕ) → bit (acknowledged e mask .word) n ≡ (bit (e .word) n && not (bit mask n && not (bit kept n)))
+acknowledged-bit e mask n =
+    bit-without (e .word) (without mask kept) n ∙ ap (λ t. bit (e .word) n && not t) (bit-without mask kept n)
+
+-- an open set's event stays
+pub acknowledged-keeps : (e : Events) (mask n : ℕ) → bit kept n ≡ true → bit (acknowledged e mask .word) n ≡ bit (e .word) n
+acknowledged-keeps e mask n h =
+    acknowledged-bit e mask n ∙ ap (λ t. bit (e .word) n && not (bit mask n && not t)) h ∙ go (bit (e .word) n) (bit mask n)
+  where
+    go : (s t : Bool) → (s && not (t && false)) ≡ s
+    go s true = and-true s
+    go s false = and-true s
+
+-- every other ends exactly if the mask has it
+pub acknowledged-clears : (e : Events) (mask n : ℕ) → bit kept n ≡ false → bit (acknowledged e mask .word) n ≡ (bit (e .word) n && not (bit mask n))
+acknowledged-clears e mask n h =
+    acknowledged-bit e mask n ∙ ap (λ t. bit (e .word) n && not (bit mask n && not t)) h
+    ∙ ap (λ t. bit (e .word) n && not t) (and-true (bit mask n))
+
+-- ---- a word of 16 bits stays one
+
+-- one event fits the word
+only-lt : (k : ℕ) → only k .word < 2 ^ width
+only-lt k = go (ltb k width) refl
+  where
+    go : (t : Bool) → ltb k width ≡ t → cond t (2 ^ k) 0 < 2 ^ width
+    go true e = pow-lt (ltb-true k width e)
+    go false e = pow-pos width
+
+-- after each operation
+pub raised-lt : (e : Events) (k : ℕ) → e .word < 2 ^ width → raised e k .word < 2 ^ width
+raised-lt e k h = or-lt width (e .word) (only k .word) h (only-lt k)
+
+pub cleared-lt : (e : Events) (k : ℕ) → e .word < 2 ^ width → cleared e k .word < 2 ^ width
+cleared-lt e k h = without-lt width (e .word) (only k .word) h
+
+pub acknowledged-lt : (e : Events) (mask : ℕ) → e .word < 2 ^ width → acknowledged e mask .word < 2 ^ width
+acknowledged-lt e mask h = without-lt width (e .word) (without mask kept) h
+
+-- ---- pending
+
+-- no event
+pub pending-none : (e : Events) → e .word ≡ 0 → pendingOf e ≡ width
+pending-none e h = ap (λ w. pendingOf (record { word = w })) h ∙ trailing-of-zero width
+
+-- an event that is set
+pub pending-set : (e : Events) → 0 < e .word → e .word < 2 ^ width → (pendingOf e < width) × (bit (e .word) (pendingOf e) ≡ true)
+pending-set e p h = (lowest-lt width (e .word) p h, lowest-set width (e .word) p h)
+
+-- the width is answered for no event alone
+pub pending-width : (e : Events) → e .word < 2 ^ width → pendingOf e ≡ width → e .word ≡ 0
+pending-width e h q = go (e .word) refl
+  where
+    go : (w : ℕ) → e .word ≡ w → e .word ≡ 0
+    go zero z = z
+    go (suc w) z = let l = lowest-lt width (e .word) (omega arith) h in absurd (omega arith)
+
+-- the lowest
+pub pending-lowest : (e : Events) (n : ℕ) → n < pendingOf e → bit (e .word) n ≡ false
+pending-lowest e n h = lowest-below width (e .word) n h

@@ -1,0 +1,75 @@
+-- The event word, a bit for each event. Assumes nothing.
+use Prim.Native.Nat.{ℕ, _/_, _%_, _^_}
+use mathlib.Core.Bool.{Bool, cond}
+use lib.Dec.{eqb, ltb}
+use lib.Bits.{bitAnd, bitOr, bitXor}
+use lib.Count.{trailingZeros}
+use Rattle.buffers.specs.declared.events.Events.{Events}
+
+-- the event numbers are those below the width
+abbrev pub width : ℕ
+width = 16
+
+-- DATA_EXCH entered or left
+abbrev pub dataExchange : ℕ
+dataExchange = 1
+
+-- the watchdog ran out
+abbrev pub watchdog : ℕ
+watchdog = 3
+
+-- a new Global_Control octet
+abbrev pub control : ℕ
+control = 8
+
+-- a configuration set is open
+abbrev pub configuration : ℕ
+configuration = 10
+
+-- a parameter set is open
+abbrev pub parameters : ℕ
+parameters = 11
+
+-- the diagnosis buffers changed
+abbrev pub diagnosis : ℕ
+diagnosis = 12
+
+-- outputs were published
+abbrev pub outputs : ℕ
+outputs = 13
+
+-- the events that end with the set that is open, never by being acknowledged
+abbrev pub kept : ℕ
+kept = bitOr (2 ^ configuration) (2 ^ parameters)
+
+-- whether bit n of a word is set
+unfoldable pub bit : ℕ → ℕ → Bool
+bit w n = eqb (w / 2 ^ n % 2) 1
+
+-- a word without the bits of a mask
+abbrev pub without : ℕ → ℕ → ℕ
+without w mask = bitXor w (bitAnd w mask)
+
+-- no event
+abbrev pub noEvents : Events
+noEvents = record { word = 0 }
+
+-- event n alone; a number that the word has no bit for gives none
+abbrev pub only : ℕ → Events
+only n = record { word = cond (ltb n width) (2 ^ n) 0 }
+
+-- event n is set beside the others
+abbrev pub raised : Events → ℕ → Events
+raised e n = record { word = bitOr (e .word) (only n .word) }
+
+-- event n is not set any more
+abbrev pub cleared : Events → ℕ → Events
+cleared e n = record { word = without (e .word) (only n .word) }
+
+-- the mask's events are not set any more, but for those that are kept
+abbrev pub acknowledged : Events → ℕ → Events
+acknowledged e mask = record { word = without (e .word) (without mask kept) }
+
+-- the number of the lowest event that is set, or the width for none
+abbrev pub pendingOf : Events → ℕ
+pendingOf e = trailingZeros width (e .word)

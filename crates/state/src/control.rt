@@ -1,0 +1,54 @@
+// The control part of the state: what the rules look at and change beside the buffers.
+use buffers::events::Events;
+
+// The phases of the DP state machine: WAIT_PRM, WAIT_CFG, DATA_EXCH.
+pub enum Phase {
+    WaitPrm,
+    WaitCfg,
+    DataExch,
+}
+
+// Ticks: what the watchdog is refilled to, 0 where it is off, and how many are left.
+pub struct Watchdog {
+    pub reload: u16,
+    pub left: u16,
+}
+
+// The flags that diagnosis shows, Diag_Flag, and whether the parameters were judged good.
+pub struct Flags {
+    pub prm_fault: bool,
+    pub cfg_fault: bool,
+    pub not_supported: bool,
+    pub ext_diag: bool,
+    pub stat_diag: bool,
+    pub overflow: bool,
+    pub diag_flag: bool,
+    pub parameters_good: bool,
+}
+
+// How many octets diagnosis has, and a new diagnosis that is delayed: its count, 0 where none is, and its flags.
+pub struct Diagnosis {
+    pub count: u8,
+    pub delayed_count: u8,
+    pub delayed_flags: u8,
+}
+
+pub struct Control {
+    pub phase: Phase,
+    // the address of the master that holds the station, or NO_OWNER
+    pub owner: u8,
+    pub group: u8,
+    // the stored control octet of Global_Control
+    pub stored: u8,
+    pub watchdog: Watchdog,
+    pub flags: Flags,
+    pub events: Events,
+    // a clear waits until the line is idle
+    pub noted: bool,
+    pub diagnosis: Diagnosis,
+}
+
+impl Control {
+    // What diagnosis shows for no owner.
+    pub const NO_OWNER: u8 = 255;
+}
