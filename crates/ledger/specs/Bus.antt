@@ -1,0 +1,104 @@
+-- The calls of the bus: octet, gap, send and tick (document 01, Telegrams, Services, and the Tick in User calls).
+use Prim.Native.Nat.{ℕ, _+_}
+use mathlib.Core.Bool.{Bool, true, false, cond, _||_}
+use mathlib.Core.List.{List, [], _∷_, _++_}
+use lib.ListN.{length, getD}
+use Rattle.telegram.specs.declared.reader.Status.{Status}
+use Rattle.telegram.specs.declared.reader.Status.the-variants.{Fresh, Inside, Complete, Broken}
+use Rattle.telegram.specs.Telegram.{Telegram, kindOf, daOf, saOf, fcOf, dsapOf, ssapOf, payloadOf}
+use Rattle.telegram.specs.Reading.{start, run, received, status, gathered, telegramOf}
+use Rattle.rules.specs.declared.request.Request.{Request}
+use Rattle.rules.specs.declared.request.Prm.{Prm}
+use Rattle.rules.specs.declared.outcome.Outcome.{Outcome}
+use Rattle.rules.specs.Requests.{masterOf, refilled, serviceOf}
+use Rattle.rules.specs.Services.{serve}
+use Rattle.rules.specs.Line.{ticked}
+use Rattle.ledger.specs.Ledger.{Line, Ledger, withLine, begun, busy, parametersOpen, configurationOpen}
+use Rattle.ledger.specs.Replies.{replyOf, diagnoses}
+use Rattle.ledger.specs.Deeds.{carried, onBuffers, settle}
+
+-- the telegram with these octets
+abbrev pub telegramOn : List ℕ → Telegram
+telegramOn xs = telegramOf (run xs) (gathered start xs)
+
+-- its header, as the rules see it
+abbrev pub requestBy : Telegram → Request
+requestBy t =
+    record { kind = kindOf t; da = daOf t; sa = saOf t; fc = fcOf t; dsap = dsapOf t; ssap = ssapOf t; count = length (payloadOf t) }
+
+-- the data octets that Set_Prm looks at
+abbrev pub prmBy : List ℕ → Prm
+prmBy ds =
+    record {
+      status = getD ds 0 0;
+      factor1 = getD ds 1 0;
+      factor2 = getD ds 2 0;
+      «ident_high» = getD ds 4 0;
+      «ident_low» = getD ds 5 0;
+      group = getD ds 6 0;
+    }
+
+-- what comes of a telegram
+abbrev pub outcomeOf : Ledger → Request → List ℕ → Outcome
+outcomeOf l r ds =
+    serve (serviceOf (l .setup) r) (l .setup) (refilled (l .setup) (l .control) r) (parametersOpen l) (configurationOpen l) r (prmBy ds) (getD ds 0 0) (getD ds 1 0)
+
+-- a last octet applies Services to all of them and fixes the reply whole; octets are ignored until a gap
+unfoldable pub answered : Ledger → Outcome → ℕ → List ℕ → Ledger
+answered l o master ds =
+    withLine (carried l o ds)
+    (record {
+      ignored = true;
+      telegram = [];
+      reply = replyOf (o .drawn) (l .setup) (l .slice) (o .control) (onBuffers o (l .setup) ds (l .buffers)) master;
+      diagnosing = diagnoses (o .drawn);
+    })
+
+abbrev pub completed : Ledger → Telegram → Ledger
+completed l t = answered l (outcomeOf l (requestBy t) (payloadOf t)) (masterOf (requestBy t)) (payloadOf t)
+
+-- broken off: octets are ignored until the next gap
+abbrev pub brokenOff : Line → Line
+brokenOff n = record { ignored = true; telegram = []; reply = n .reply; diagnosing = n .diagnosing }
+
+-- an inner octet only lengthens the telegram octets
+abbrev pub lengthened : Line → ℕ → Line
+lengthened n b = record { ignored = false; telegram = n .telegram ++ b ∷ []; reply = n .reply; diagnosing = n .diagnosing }
+
+-- a beginning drops an unfinished reply
+abbrev pub beginning : ℕ → Line
+beginning b = record { ignored = false; telegram = b ∷ []; reply = []; diagnosing = false }
+
+-- by what the octets are with this one
+abbrev pub heardAs : Status → Ledger → ℕ → Ledger
+heardAs Fresh l b = l
+heardAs Inside l b = cond (begun l) (withLine l (lengthened (l .line) b)) (settle (withLine l (beginning b)))
+heardAs Complete l b = settle (completed l (telegramOn (l .line .telegram ++ b ∷ [])))
+heardAs Broken l b = settle (withLine l (brokenOff (l .line)))
+
+-- the bus's octet
+unfoldable pub heard : Ledger → ℕ → Bool → Ledger
+heard l b bad = cond (l .line .ignored) l (heardAs (status (received (run (l .line .telegram)) b bad)) l b)
+
+-- a gap: the next octet may begin a telegram
+unfoldable pub paused : Ledger → Ledger
+paused l = settle (withLine l (record { ignored = false; telegram = []; reply = l .line .reply; diagnosing = l .line .diagnosing }))
+
+-- send answers and removes the first reply octet left, 256 when no octet is left
+abbrev pub sendTold : List ℕ → ℕ
+sendTold [] = 256
+sendTold (x ∷ xs) = x
+
+abbrev pub sendLeft : Line → List ℕ → Line
+sendLeft n [] = n
+sendLeft n (x ∷ xs) = record { ignored = n .ignored; telegram = n .telegram; reply = xs; diagnosing = n .diagnosing }
+
+unfoldable pub sent : Ledger → Ledger
+sent l = settle (withLine l (sendLeft (l .line) (l .line .reply)))
+
+-- the next Tick after a clear was noted drops telegram or reply, so that it is carried out, counting nothing
+abbrev pub silenced : Ledger → Line
+silenced l = record { ignored = l .line .ignored || begun l; telegram = []; reply = []; diagnosing = false }
+
+unfoldable pub elapsed : Ledger → Ledger
+elapsed l = cond (l .control .noted) (settle (withLine l (silenced l))) (carried l (ticked (busy l) (l .control)) [])

@@ -1,0 +1,53 @@
+-- The calls, and the answers to a list of them.
+use Prim.Native.Nat.{ℕ}
+use mathlib.Core.Bool.{Bool}
+use mathlib.Core.List.{List, [], _∷_}
+use Rattle.state.specs.declared.answer.Answer.{Answer}
+use Rattle.ledger.specs.Ledger.{Ledger}
+use Rattle.ledger.specs.Bus.{heard, paused, sendTold, sent, elapsed}
+use Rattle.ledger.specs.User.{Told, told, takeOutputs, readOctet, writeOctet, handOver, newDiagnosis, judgeParameters, judgeConfiguration, eventWord, acknowledgeEvents, pendingEvent, leaveMaster}
+
+pub data Call : Type 0 where
+  octet : (value : ℕ) (bad : Bool) → Call
+  gap : Call
+  send : Call
+  tick : Call
+  take : Call
+  read : (kind index : ℕ) → Call
+  write : (kind index value : ℕ) → Call
+  hand-over : Call
+  new-diagnosis : (count flags : ℕ) → Call
+  judge-parameters : (judgement : ℕ) → Call
+  judge-configuration : (judgement : ℕ) → Call
+  events : Call
+  acknowledge : (mask : ℕ) → Call
+  pending : Call
+  leave : Call
+
+-- calls with no answer named answer 0
+abbrev pub step : Ledger → Call → Told
+step l (octet b bad) = told 0 (heard l b bad)
+step l gap = told 0 (paused l)
+step l send = told (sendTold (l .line .reply)) (sent l)
+step l tick = told 0 (elapsed l)
+step l take = takeOutputs l
+step l (read kind index) = readOctet l kind index
+step l (write kind index x) = writeOctet l kind index x
+step l hand-over = handOver l
+step l (new-diagnosis count flags) = newDiagnosis l count flags
+step l (judge-parameters j) = judgeParameters l j
+step l (judge-configuration j) = judgeConfiguration l j
+step l events = eventWord l
+step l (acknowledge mask) = acknowledgeEvents l mask
+step l pending = pendingEvent l
+step l leave = leaveMaster l
+
+-- the answers to a list of calls
+abbrev pub answers : Ledger → List Call → List Answer
+answers l [] = []
+answers l (c ∷ cs) = step l c .answer ∷ answers (step l c .ledger) cs
+
+-- and the ledger after them
+abbrev pub after : Ledger → List Call → Ledger
+after l [] = l
+after l (c ∷ cs) = after (step l c .ledger) cs

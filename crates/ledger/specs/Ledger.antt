@@ -1,0 +1,88 @@
+-- The ledger's state (document 01, The ledger), and the ledger of a freshly started station.
+use Prim.Native.Nat.{ℕ}
+use mathlib.Core.Bool.{Bool, true, false, not, _&&_, _||_}
+use mathlib.Core.List.{List, []}
+use lib.ListN.{replicate}
+use Rattle.buffers.specs.Events.{noEvents}
+use Rattle.state.specs.declared.setup.Setup.{Setup}
+use Rattle.state.specs.declared.control.Phase.the-variants.{WaitPrm}
+use Rattle.state.specs.declared.control.Control.{Control}
+use Rattle.rules.specs.Control.{noOwner}
+use Rattle.ledger.specs.Lists.{some, Outputs, Inputs, Sets, Diagnoses, Buffers, noSets}
+
+-- the line: whether octets are ignored, telegram octets so far, reply octets left and whether they are a Slave_Diag's
+pub record Line : Type 0 where
+  pub ignored : Bool
+  pub telegram : List ℕ
+  pub reply : List ℕ
+  pub diagnosing : Bool
+
+-- Start's values with the octets that Get_Cfg sends, the control part, the lists, the line
+pub record Ledger : Type 0 where
+  pub setup : Setup
+  pub slice : List ℕ
+  pub control : Control
+  pub buffers : Buffers
+  pub line : Line
+
+abbrev pub withControl : Ledger → Control → Ledger
+withControl l x = record { setup = l .setup; slice = l .slice; control = x; buffers = l .buffers; line = l .line }
+
+abbrev pub withBuffers : Ledger → Buffers → Ledger
+withBuffers l x = record { setup = l .setup; slice = l .slice; control = l .control; buffers = x; line = l .line }
+
+abbrev pub withLine : Ledger → Line → Ledger
+withLine l x = record { setup = l .setup; slice = l .slice; control = l .control; buffers = l .buffers; line = x }
+
+-- a telegram is begun and unfinished
+abbrev pub begun : Ledger → Bool
+begun l = some (l .line .telegram)
+
+-- a busy line: a telegram is begun or a reply is unfinished
+abbrev pub busy : Ledger → Bool
+busy l = begun l || some (l .line .reply)
+
+-- a Slave_Diag reply is unfinished
+abbrev pub diagnosisLeaves : Ledger → Bool
+diagnosisLeaves l = l .line .diagnosing && some (l .line .reply)
+
+-- such a set is open
+abbrev pub parametersOpen : Ledger → Bool
+parametersOpen l = some (l .buffers .parameters .shown)
+
+abbrev pub configurationOpen : Ledger → Bool
+configurationOpen l = some (l .buffers .configuration .shown)
+
+-- Start: WAIT_PRM without publishing, no owner, nothing new or shown, diagnosis count 6, no flags, no events
+abbrev pub freshControl : Control
+freshControl =
+    record {
+      phase = WaitPrm;
+      owner = noOwner;
+      group = 0;
+      stored = 0;
+      watchdog = record { reload = 0; left = 0 };
+      flags = record { «prm_fault» = false; «cfg_fault» = false; «not_supported» = false; «ext_diag» = false; «stat_diag» = false; overflow = false; «diag_flag» = false; «parameters_good» = false };
+      events = noEvents;
+      noted = false;
+      diagnosis = record { count = 6; «delayed_count» = 0; «delayed_flags» = 0 };
+    }
+
+-- zeroed buffers
+abbrev pub freshBuffers : Setup → Buffers
+freshBuffers s =
+    record {
+      outputs = record { held = replicate (s .«output_len») 0; next = replicate (s .«output_len») 0; fresh = false; zeros = false };
+      inputs = record { sending = replicate (s .«input_len») 0; next = replicate (s .«input_len») 0; held = replicate (s .«input_len») 0; fresh = false };
+      parameters = noSets;
+      configuration = noSets;
+      diagnosis = record { own = replicate (s .«diagnosis_len») 0; user = replicate (s .«diagnosis_len») 0 };
+    }
+
+-- Start also waits for a gap
+abbrev pub freshLine : Line
+freshLine = record { ignored = true; telegram = []; reply = []; diagnosing = false }
+
+-- the ledger is fed Start's arguments
+abbrev pub fresh : Setup → List ℕ → Ledger
+fresh s slice = record { setup = s; slice = slice; control = freshControl; buffers = freshBuffers s; line = freshLine }

@@ -1,0 +1,38 @@
+-- The clear, the watchdog and the Tick (document 01, User calls, last paragraph).
+use Prim.Native.Nat.{ℕ, _-_}
+use mathlib.Core.Bool.{Bool, true, false, cond, not, _&&_, _||_}
+use lib.Dec.{eqb, leb}
+use Rattle.buffers.specs.Events.{watchdog}
+use Rattle.state.specs.declared.control.Phase.{Phase}
+use Rattle.state.specs.declared.control.Control.{Control}
+use Rattle.state.specs.declared.state.Drawn.the-variants.{Nothing}
+use Rattle.rules.specs.declared.outcome.Outcome.{Outcome}
+use Rattle.rules.specs.Control.{withNoted, withWatchdog, raise}
+use Rattle.rules.specs.Phases.{drawing, enteringWaitPrm}
+use Rattle.rules.specs.Diagnosis.{waiting}
+
+-- a clear enters WAIT_PRM, and none is noted any more
+abbrev pub clearing : Control → Outcome
+clearing c = enteringWaitPrm (withNoted c false) Nothing
+
+-- on a busy line it is noted
+abbrev pub clearOn : Bool → Control → Outcome
+clearOn busy c = cond busy (drawing (withNoted c true) Nothing) (clearing c)
+
+-- a noted clear is carried out when the line is idle
+abbrev pub settled : Bool → Control → Outcome
+settled busy c = cond (c .noted && not busy) (clearing c) (drawing c Nothing)
+
+-- in WAIT_CFG or DATA_EXCH with the watchdog on
+abbrev pub counts : Control → Bool
+counts c = not (waiting (c .phase)) && not (eqb (c .watchdog .reload) 0)
+
+abbrev pub withLeft : Control → ℕ → Control
+withLeft c n = withWatchdog c (record { reload = c .watchdog .reload; left = n })
+
+-- a Tick where no clear is noted: the watchdog counts down; at 0, event 3 and a clear
+unfoldable pub ticked : Bool → Control → Outcome
+ticked busy c =
+    cond (not (counts c)) (drawing c Nothing)
+    (cond (leb (c .watchdog .left) 1) (clearOn busy (raise (withLeft c 0) watchdog))
+    (drawing (withLeft c (c .watchdog .left - 1)) Nothing))

@@ -1,0 +1,54 @@
+-- Entering and leaving the phases (document 01, Services, last paragraph).
+use Prim.Native.Nat.{ℕ}
+use mathlib.Core.Bool.{Bool, cond}
+use Rattle.buffers.specs.declared.events.Events.{Events}
+use Rattle.buffers.specs.Events.{raised, cleared, dataExchange, configuration, parameters, outputs}
+use Rattle.state.specs.declared.control.Phase.the-variants.{WaitPrm, WaitCfg, DataExch}
+use Rattle.state.specs.declared.control.Control.{Control}
+use Rattle.state.specs.declared.state.Drawn.{Drawn}
+use Rattle.state.specs.declared.state.Drawn.the-variants.{Nothing}
+use Rattle.rules.specs.declared.outcome.OutputsDeed.{OutputsDeed}
+use Rattle.rules.specs.declared.outcome.OutputsDeed.the-variants as outputs-deed
+use Rattle.rules.specs.declared.outcome.SetDeed.{SetDeed}
+use Rattle.rules.specs.declared.outcome.SetDeed.the-variants as set-deed
+use Rattle.rules.specs.declared.outcome.Outcome.{Outcome}
+use Rattle.rules.specs.Control.{noOwner, inExchange, withPhase, withEvents, raise}
+
+-- nothing but a reply comes of it
+abbrev pub drawing : Control → Drawn → Outcome
+drawing c d = record { control = c; outputs = outputs-deed.Keep; parameters = set-deed.Keep; configuration = set-deed.Keep; drawn = d }
+
+-- event 1: DATA_EXCH is left
+abbrev pub leftExchange : Control → Events
+leftExchange c = cond (inExchange c) (raised (c .events) dataExchange) (c .events)
+
+-- WAIT_PRM entered, even from itself: no owner, watchdog off, group and stored control 0, no set open, zeros published
+unfoldable pub waitPrm : Control → Control
+waitPrm c =
+    record {
+      phase = WaitPrm;
+      owner = noOwner;
+      group = 0;
+      stored = 0;
+      watchdog = record { reload = 0; left = 0 };
+      flags = c .flags;
+      events = raised (cleared (cleared (leftExchange c) configuration) parameters) outputs;
+      noted = c .noted;
+      diagnosis = c .diagnosis;
+    }
+
+-- with what becomes of the buffers: zeros published, parameter and configuration sets dropped
+abbrev pub enteringWaitPrm : Control → Drawn → Outcome
+enteringWaitPrm c d =
+    record { control = waitPrm c; outputs = outputs-deed.Zeros; parameters = set-deed.Drop; configuration = set-deed.Drop; drawn = d }
+
+-- WAIT_CFG entered; leaving DATA_EXCH publishes zeros
+unfoldable pub waitCfg : Control → Control
+waitCfg c = withPhase (cond (inExchange c) (withEvents c (raised (leftExchange c) outputs)) c) WaitCfg
+
+abbrev pub zerosIfLeft : Control → OutputsDeed
+zerosIfLeft c = cond (inExchange c) outputs-deed.Zeros outputs-deed.Keep
+
+-- DATA_EXCH entered, event 1
+unfoldable pub dataExch : Control → Control
+dataExch c = raise (withPhase c DataExch) dataExchange

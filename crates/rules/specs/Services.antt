@@ -1,0 +1,179 @@
+-- The services (document 01, Services): what comes of each, on the control part. opened: a set of that kind is open.
+use Prim.Native.Nat.{ℕ, _+_, _*_}
+use mathlib.Core.Bool.{Bool, true, false, cond, not, _&&_, _||_}
+use lib.Bits.{bitAnd}
+use lib.Dec.{eqb}
+use Rattle.buffers.specs.declared.events.Events.{Events}
+use Rattle.buffers.specs.Events.{raised, cleared, control, configuration, parameters, outputs}
+use Rattle.state.specs.declared.setup.Setup.{Setup}
+use Rattle.state.specs.declared.control.Watchdog.{Watchdog}
+use Rattle.state.specs.declared.control.Control.{Control}
+use Rattle.state.specs.declared.state.Drawn.the-variants as drawn
+use Rattle.rules.specs.declared.request.Request.{Request}
+use Rattle.rules.specs.declared.request.Prm.{Prm}
+use Rattle.rules.specs.declared.request.Service.{Service}
+use Rattle.rules.specs.declared.request.Service.the-variants.{Nothing, Status, Reject, GlobalControl, DataExchange, SetPrm, ChkCfg, SlaveDiag, GetCfg, ReadInputs, ReadOutputs}
+use Rattle.rules.specs.declared.outcome.OutputsDeed.{OutputsDeed}
+use Rattle.rules.specs.declared.outcome.OutputsDeed.the-variants as outputs-deed
+use Rattle.rules.specs.declared.outcome.SetDeed.the-variants as set-deed
+use Rattle.rules.specs.declared.outcome.Outcome.{Outcome}
+use Rattle.rules.specs.Control.{bit, within, noOwner, inExchange, owns, withFlags, withEvents, withStored, raise, withPrmFault, withCfgFault, withNotSupported, withoutFaults, withoutDiagFlag}
+use Rattle.rules.specs.Phases.{drawing, enteringWaitPrm, waitCfg, zerosIfLeft}
+use Rattle.rules.specs.Requests.{masterOf}
+
+-- Set_Prm ---------------------------------------------------------------------------------------
+
+-- another master owns
+abbrev pub otherOwns : Control → ℕ → Bool
+otherOwns c master = not (eqb (c .owner) noOwner) && not (owns c master)
+
+-- octets 4 and 5 are not the ident, high first
+abbrev pub otherIdent : Setup → Prm → Bool
+otherIdent s p = not (eqb (256 * p .«ident_high» + p .«ident_low») (s .ident))
+
+-- bit 3 switches the watchdog on
+abbrev pub wantsWatchdog : Prm → Bool
+wantsWatchdog p = bit (p .status) 3
+
+-- with octet 1 or 2 zero, or both 1
+abbrev pub badFactors : Prm → Bool
+badFactors p = eqb (p .factor1) 0 || eqb (p .factor2) 0 || (eqb (p .factor1) 1 && eqb (p .factor2) 1)
+
+-- octet 1 × octet 2 ticks with bit 3, otherwise off
+abbrev pub ticksOf : Prm → ℕ
+ticksOf p = cond (wantsWatchdog p) (p .factor1 * p .factor2) 0
+
+-- fault: E5, Prm_Fault, WAIT_PRM
+abbrev pub prmFault : Control → Outcome
+prmFault c = enteringWaitPrm (withFlags c (withPrmFault (c .flags))) drawn.Acknowledge
+
+-- a set is shown if none is open, with its event
+abbrev pub showing : Events → Bool → ℕ → Events
+showing e opened event = cond opened e (raised e event)
+
+-- the control part of a good Set_Prm
+unfoldable pub parametrized : Control → Bool → ℕ → Prm → Control
+parametrized c opened master p =
+    record {
+      phase = waitCfg c .phase;
+      owner = master;
+      group = p .group;
+      stored = c .stored;
+      watchdog = record { reload = ticksOf p; left = ticksOf p };
+      flags = withoutFaults (c .flags);
+      events = showing (cleared (waitCfg c .events) configuration) opened parameters;
+      noted = c .noted;
+      diagnosis = c .diagnosis;
+    }
+
+-- E5, owner, WAIT_CFG, flags cleared, configuration sets dropped, group, data shown, watchdog
+abbrev pub goodPrm : Control → Bool → ℕ → Prm → Outcome
+goodPrm c opened master p =
+    record {
+      control = parametrized c opened master p;
+      outputs = zerosIfLeft c;
+      parameters = set-deed.Receive;
+      configuration = set-deed.Drop;
+      drawn = drawn.Acknowledge;
+    }
+
+-- in this order
+unfoldable pub setPrm : Setup → Control → Bool → Request → Prm → Outcome
+setPrm s c opened r p =
+    cond (otherOwns c (masterOf r)) (drawing c drawn.Rejected)
+    (cond (not (within 7 (r .count) (s .«parameter_len»))) (prmFault c)
+    (cond (bit (p .status) 6) (enteringWaitPrm c drawn.Acknowledge)
+    (cond (not (bit (p .status) 7)) (drawing c drawn.Acknowledge)
+    (cond (bit (p .status) 5 || bit (p .status) 4) (enteringWaitPrm (withFlags c (withNotSupported (c .flags))) drawn.Acknowledge)
+    (cond (otherIdent s p || (wantsWatchdog p && badFactors p)) (prmFault c)
+    (goodPrm c opened (masterOf r) p))))))
+
+-- Chk_Cfg ---------------------------------------------------------------------------------------
+
+abbrev pub cfgFault : Control → Control
+cfgFault c = withFlags c (withCfgFault (c .flags))
+
+-- E5, WAIT_CFG, data shown
+abbrev pub goodCfg : Control → Bool → Outcome
+goodCfg c opened =
+    record {
+      control = withEvents (waitCfg c) (showing (waitCfg c .events) opened configuration);
+      outputs = zerosIfLeft c;
+      parameters = set-deed.Keep;
+      configuration = set-deed.Receive;
+      drawn = drawn.Acknowledge;
+    }
+
+unfoldable pub chkCfg : Setup → Control → Bool → Request → Outcome
+chkCfg s c opened r =
+    cond (not (owns c (masterOf r))) (drawing c drawn.Rejected)
+    (cond (not (within 1 (r .count) (s .«configuration_len»))) (enteringWaitPrm (cfgFault c) drawn.Acknowledge)
+    (goodCfg c opened))
+
+-- Data_Exchange ---------------------------------------------------------------------------------
+
+-- from the owner in DATA_EXCH
+abbrev pub exchanges : Control → Request → Bool
+exchanges c r = owns c (masterOf r) && inExchange c
+
+-- the data is published, event 13; the inputs are drawn
+abbrev pub accepted : Control → Outcome
+accepted c =
+    record { control = raise c outputs; outputs = outputs-deed.Publish; parameters = set-deed.Keep; configuration = set-deed.Keep; drawn = drawn.Exchange }
+
+unfoldable pub dataExchange : Setup → Control → Request → Outcome
+dataExchange s c r =
+    cond (not (exchanges c r)) (drawing c drawn.Rejected)
+    (cond (not (eqb (r .count) (s .«output_len»))) (enteringWaitPrm (cfgFault c) drawn.Rejected) (accepted c))
+
+-- The services without data ---------------------------------------------------------------------
+
+-- the owner's Slave_Diag clears Diag_Flag unless Stat_Diag
+unfoldable pub slaveDiag : Control → Request → Outcome
+slaveDiag c r =
+    cond (owns c (masterOf r) && not (c .flags .«stat_diag»))
+    (drawing (withFlags c (withoutDiagFlag (c .flags))) drawn.Diagnosis)
+    (drawing c drawn.Diagnosis)
+
+-- Read_Inputs and Read_Outputs: RS outside DATA_EXCH
+abbrev pub readInputs : Control → Outcome
+readInputs c = cond (inExchange c) (drawing c drawn.Inputs) (drawing c drawn.Rejected)
+
+abbrev pub readOutputs : Control → Outcome
+readOutputs c = cond (inExchange c) (drawing c drawn.Outputs) (drawing c drawn.Rejected)
+
+-- Global_Control --------------------------------------------------------------------------------
+
+-- two octets, from the owner in DATA_EXCH, octet 1 zero or sharing a bit with the group
+abbrev pub controls : Control → Request → ℕ → Bool
+controls c r second = exchanges c r && eqb (r .count) 2 && (eqb second 0 || not (eqb (bitAnd second (c .group)) 0))
+
+-- octet 0 is stored if it differs from the last one, event 8
+abbrev pub storing : Control → ℕ → Control
+storing c first = cond (eqb first (c .stored)) c (raise (withStored c first) control)
+
+-- bit 1 publishes zeros
+abbrev pub obeyed : Control → ℕ → Outcome
+obeyed c first =
+    cond (bit first 1)
+    (record { control = raise (storing c first) outputs; outputs = outputs-deed.Zeros; parameters = set-deed.Keep; configuration = set-deed.Keep; drawn = drawn.Nothing })
+    (drawing (storing c first) drawn.Nothing)
+
+unfoldable pub globalControl : Control → Request → ℕ → ℕ → Outcome
+globalControl c r first second = cond (controls c r second) (obeyed c first) (drawing c drawn.Nothing)
+
+-- All of them -----------------------------------------------------------------------------------
+
+-- what comes of a service; openPrm and openCfg: such a set is open; p are data octets of Set_Prm, first and second those of Global_Control
+abbrev pub serve : Service → Setup → Control → Bool → Bool → Request → Prm → ℕ → ℕ → Outcome
+serve Nothing s c openPrm openCfg r p first second = drawing c drawn.Nothing
+serve Status s c openPrm openCfg r p first second = drawing c drawn.Status
+serve Reject s c openPrm openCfg r p first second = drawing c drawn.Rejected
+serve GlobalControl s c openPrm openCfg r p first second = globalControl c r first second
+serve DataExchange s c openPrm openCfg r p first second = dataExchange s c r
+serve SetPrm s c openPrm openCfg r p first second = setPrm s c openPrm r p
+serve ChkCfg s c openPrm openCfg r p first second = chkCfg s c openCfg r
+serve SlaveDiag s c openPrm openCfg r p first second = slaveDiag c r
+serve GetCfg s c openPrm openCfg r p first second = drawing c drawn.Configuration
+serve ReadInputs s c openPrm openCfg r p first second = readInputs c
+serve ReadOutputs s c openPrm openCfg r p first second = readOutputs c

@@ -1,0 +1,36 @@
+-- Judging and the new diagnosis (document 01, User calls), on the control part.
+use Prim.Native.Nat.{ℕ}
+use mathlib.Core.Bool.{Bool, true, false, cond, not, _&&_, _||_}
+use Rattle.buffers.specs.Events.{configuration, parameters}
+use Rattle.state.specs.declared.control.Control.{Control}
+use Rattle.state.specs.declared.state.Drawn.the-variants.{Nothing}
+use Rattle.rules.specs.declared.outcome.OutputsDeed.the-variants as outputs-deed
+use Rattle.rules.specs.declared.outcome.SetDeed.{SetDeed}
+use Rattle.rules.specs.declared.outcome.SetDeed.the-variants as set-deed
+use Rattle.rules.specs.declared.outcome.Outcome.{Outcome}
+use Rattle.rules.specs.Control.{withFlags, clear, withPrmFault, withCfgFault, withParametersGood}
+use Rattle.rules.specs.Phases.{enteringWaitPrm, dataExch}
+use Rattle.rules.specs.Diagnosis.{diagnosed, delaying}
+
+-- only these sets change
+abbrev pub onSets : Control → SetDeed → SetDeed → Outcome
+onSets c p q = record { control = c; outputs = outputs-deed.Keep; parameters = p; configuration = q; drawn = Nothing }
+
+-- judge parameters: a newer set that waits is shown instead, with no other effect; else the set is closed, with its event;
+-- then bad: Prm_Fault, WAIT_PRM, and good: parameter OK
+unfoldable pub judgedParameters : Control → Bool → Bool → Outcome
+judgedParameters c waits good =
+    cond waits (onSets c set-deed.Advance set-deed.Keep)
+    (cond good (onSets (withFlags (clear c parameters) (withParametersGood (c .flags))) set-deed.Drop set-deed.Keep)
+    (enteringWaitPrm (withFlags (clear c parameters) (withPrmFault (c .flags))) Nothing))
+
+-- judge configuration: likewise; bad: Cfg_Fault, WAIT_PRM, and good: DATA_EXCH
+unfoldable pub judgedConfiguration : Control → Bool → Bool → Outcome
+judgedConfiguration c waits good =
+    cond waits (onSets c set-deed.Keep set-deed.Advance)
+    (cond good (onSets (dataExch (clear c configuration)) set-deed.Keep set-deed.Drop)
+    (enteringWaitPrm (withFlags (clear c configuration) (withCfgFault (c .flags))) Nothing))
+
+-- new diagnosis: at once, or delayed while a Slave_Diag reply is unfinished
+abbrev pub newDiagnosis : Control → Bool → ℕ → ℕ → Control
+newDiagnosis c unfinished count flags = cond unfinished (delaying c count flags) (diagnosed c count flags)

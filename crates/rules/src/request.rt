@@ -1,0 +1,42 @@
+// A complete telegram as the rules see it.
+use telegram::Kind;
+
+pub struct Request {
+    pub kind: Kind,
+    pub da: u8,
+    pub sa: u8,
+    pub fc: u8,
+    pub dsap: u8,
+    pub ssap: u8,
+    // how many data octets it has, DSAP and SSAP left out
+    pub count: u8,
+}
+
+// The data octets of Set_Prm that the rules look at.
+pub struct Prm {
+    // octet 0: lock, unlock, sync, freeze, watchdog
+    pub status: u8,
+    // octets 1 and 2
+    pub factor1: u8,
+    pub factor2: u8,
+    // octets 4 and 5
+    pub ident_high: u8,
+    pub ident_low: u8,
+    // octet 6
+    pub group: u8,
+}
+
+// What a telegram asks of the station, by its header alone.
+pub enum Service {
+    Nothing,
+    Status,
+    Reject,
+    GlobalControl,
+    DataExchange,
+    SetPrm,
+    ChkCfg,
+    SlaveDiag,
+    GetCfg,
+    ReadInputs,
+    ReadOutputs,
+}
