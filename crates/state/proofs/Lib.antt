@@ -1,0 +1,12 @@
+pub mod Count
+pub mod Numbers
+pub mod Tests
+pub mod Bits
+pub mod Round
+pub mod Places
+pub mod Codes
+pub mod Asking
+pub mod Front
+pub mod Wiped
+pub mod Started
+pub mod Damage

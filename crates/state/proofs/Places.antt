@@ -1,0 +1,173 @@
+-- The buffers lie in the memory, each apart from the others. Assumes nothing.
+use Prim.Native.Nat.{ℕ, zero, suc, _+_, _≤_, _<_}
+use native.Mathlib.Nat.{mul-le-mul-left, mul-suc, not-suc-le-zero}
+use native.Mathlib.Omega.{arith}
+use mathlib.Core.Path.{_≡_, refl, sym}
+use mathlib.Core.Bool.{Bool, true, false}
+use mathlib.Core.Logic.{_⊎_, inl, inr}
+use lib.ListN.{length, List·getD-eq-default}
+use lib.Dec.{ltb}
+use borrow.Author.Tests.{ltb-true, ltb-false}
+use Rattle.octets.proofs.Parts.{places-apart}
+use Rattle.state.specs.declared.setup.Setup.{Setup}
+use Rattle.state.specs.Layout.{stateLength, roundedUp, counts, countOf, lengthOf, getCfg, baseOf, startOf, getCfgAt, endOf}
+
+-- a length is at most what it is rounded up to
+pub rounded-le : (n : ℕ) → n ≤ roundedUp n
+unfolding roundedUp
+rounded-le n = omega arith
+
+-- a kind ends before every later kind begins
+before : (s : Setup) (a b : ℕ) → a < b → startOf s a (countOf a) ≤ baseOf s b
+unfolding baseOf startOf
+before s a zero h = absurd (not-suc-le-zero h)
+before s a (suc b) h = go (ltb a b) refl (before s a b)
+  where
+    go : (t : Bool) → ltb a b ≡ t → (a < b → startOf s a (countOf a) ≤ baseOf s b) → startOf s a (countOf a) ≤ baseOf s (suc b)
+    go true e f = let u = f (ltb-true a b e) in omega arith
+    go false e f = let v : a ≡ b = (let w : b ≤ a = ltb-false a b e in omega arith) in rw v (omega arith)
+
+-- a buffer ends where its kind ends or before
+ends : (s : Setup) (a i n : ℕ) → i < countOf a → n ≤ roundedUp (lengthOf s a) → startOf s a i + n ≤ startOf s a (countOf a)
+unfolding startOf
+ends s a i n h g =
+    let u = mul-le-mul-left (roundedUp (lengthOf s a)) h in
+    let v = mul-suc (roundedUp (lengthOf s a)) i in
+    omega arith
+
+-- a kind that has buffers is one of those in the order
+known : (a i : ℕ) → i < countOf a → a < length counts
+known a i h = go (ltb a (length counts)) refl
+  where
+    go : (t : Bool) → ltb a (length counts) ≡ t → a < length counts
+    go true e = ltb-true a (length counts) e
+    go false e =
+        let u : length counts ≤ a = ltb-false a (length counts) e in
+        let z = List·getD-eq-default counts 0 u in
+        omega arith
+
+-- the first buffer begins behind the state
+behind : (s : Setup) (a : ℕ) → stateLength ≤ baseOf s a
+unfolding baseOf
+behind s zero = omega arith
+behind s (suc a) = let u = behind s a in omega arith
+
+-- a kind begins with its first buffer
+pub first-start : (s : Setup) (a : ℕ) → startOf s a 0 ≡ baseOf s a
+unfolding startOf
+first-start s a = omega arith
+
+-- every buffer ends in front of a later kind
+pub in-front : (s : Setup) (a b i n : ℕ) → a < b → i < countOf a → n ≤ lengthOf s a → startOf s a i + n ≤ baseOf s b
+in-front s a b i n o h g =
+    let r = rounded-le (lengthOf s a) in
+    let v = ends s a i n h (omega arith) in
+    let w = before s a b o in
+    omega arith
+
+-- every buffer lies behind the state and in front of the end
+pub inside : (s : Setup) (a i n : ℕ) → i < countOf a → n ≤ lengthOf s a → (stateLength ≤ startOf s a i) × (startOf s a i + n ≤ endOf s)
+unfolding startOf
+inside s a i n h g =
+    let u = behind s a in
+    (omega arith, in-front s a (length counts) i n (known a i h) h g)
+
+-- the one for Get_Cfg
+pub get-cfg-inside : (s : Setup) (n : ℕ) → n ≤ s .«get_cfg_len» → (stateLength ≤ getCfgAt s) × (getCfgAt s + n ≤ endOf s)
+get-cfg-inside s n h =
+    let u = inside s getCfg 0 n (omega arith) h in
+    let e = first-start s getCfg in
+    omega arith
+
+-- two buffers that differ in kind or in place lie apart
+pub apart : (s : Setup) (a i n b j k : ℕ) → i < countOf a → j < countOf b → n ≤ lengthOf s a → k ≤ lengthOf s b → (a ≡ b → i ≡ j → ⊥)
+    → (startOf s b j + k ≤ startOf s a i) ⊎ (startOf s a i + n ≤ startOf s b j)
+unfolding startOf
+apart s a i n b j k hi hj hn hk d = go (ltb a b) refl (ltb b a) refl
+  where
+    tall : n ≤ roundedUp (lengthOf s a)
+    tall = let r = rounded-le (lengthOf s a) in omega arith
+
+    wide : k ≤ roundedUp (lengthOf s b)
+    wide = let r = rounded-le (lengthOf s b) in omega arith
+
+    go : (t : Bool) → ltb a b ≡ t → (u : Bool) → ltb b a ≡ u → (startOf s b j + k ≤ startOf s a i) ⊎ (startOf s a i + n ≤ startOf s b j)
+    go true e u f =
+        let v = ends s a i n hi tall in
+        let w = before s a b (ltb-true a b e) in
+        inr (omega arith)
+    go false e true f =
+        let v = ends s b j k hj wide in
+        let w = before s b a (ltb-true b a f) in
+        inl (omega arith)
+    go false e false f =
+        let p : b ≤ a = ltb-false a b e in
+        let q : a ≤ b = ltb-false b a f in
+        let o : a ≡ b = omega arith in
+        rw (sym o) (places-apart (baseOf s a) (roundedUp (lengthOf s a)) i j n k (d o) tall (rw o wide))
+
+-- ---- no start wraps
+
+-- the lengths are octets
+pub record Octets (s : Setup) : Type 0 where
+  pub output-octet : s .«output_len» < 256
+  pub input-octet : s .«input_len» < 256
+  pub parameter-octet : s .«parameter_len» < 256
+  pub configuration-octet : s .«configuration_len» < 256
+  pub diagnosis-octet : s .«diagnosis_len» < 256
+  pub get-cfg-octet : s .«get_cfg_len» < 256
+
+-- what an octet is rounded up to
+pub rounded-small : (n : ℕ) → n < 256 → roundedUp n ≤ 256
+unfolding roundedUp
+rounded-small n h = omega arith
+
+-- every kind begins far below what a number of the code can hold
+pub base-small : (s : Setup) (a : ℕ) → Octets s → a ≤ length counts → baseOf s a ≤ 65536
+unfolding baseOf startOf
+base-small s a o h = go (ltb a (length counts)) refl
+  where
+    whole : endOf s ≤ 65536
+    whole =
+        let u₀ = rounded-small _ (o .output-octet) in
+        let u₁ = rounded-small _ (o .input-octet) in
+        let u₂ = rounded-small _ (o .parameter-octet) in
+        let u₃ = rounded-small _ (o .configuration-octet) in
+        let u₄ = rounded-small _ (o .diagnosis-octet) in
+        let u₅ = rounded-small _ (o .get-cfg-octet) in
+        omega arith
+
+    go : (t : Bool) → ltb a (length counts) ≡ t → baseOf s a ≤ 65536
+    go true e = let u = before s a (length counts) (ltb-true a (length counts) e) in let w = whole in omega arith
+    go false e =
+        let u : length counts ≤ a = ltb-false a (length counts) e in
+        let v : a ≡ length counts = omega arith in
+        rw v whole
+
+-- ---- the three sums
+
+-- all six lengths n
+abbrev allLengths : ℕ → Setup
+allLengths n =
+    record {
+      address = 0;
+      ident = 0;
+      «output_len» = n;
+      «input_len» = n;
+      «parameter_len» = n;
+      «configuration_len» = n;
+      «diagnosis_len» = n;
+      «get_cfg_len» = n;
+    }
+
+pub all-96 : endOf (allLengths 96) ≡ 1504
+unfolding baseOf roundedUp
+all-96 = refl
+
+pub all-97 : endOf (allLengths 97) ≡ 1624
+unfolding baseOf roundedUp
+all-97 = refl
+
+pub all-244 : endOf (allLengths 244) ≡ 3784
+unfolding baseOf roundedUp
+all-244 = refl

@@ -1,0 +1,72 @@
+-- Tests joined by `&`, and the facts that they stand for. Assumes nothing.
+use Prim.Native.Nat.{ℕ, zero, suc}
+use native.Mathlib.Omega.{arith}
+use mathlib.Core.Path.{_≡_, refl, ap, _∙_}
+use mathlib.Core.Logic.{_⊎_, inl, inr, ⊎-elim}
+use mathlib.Core.Bool.{Bool, true, false, _&&_, _||_, Bool·beq}
+use mathlib.Core.List.{List, [], _∷_}
+use lib.Dec.{leb, eqb}
+use lib.ListN.{getD}
+use borrow.Author.Tests.{leb-true, le-leb, eqb-true, eq-eqb}
+use Rattle.state.specs.Sound.{Within, NoneOr}
+use Rattle.state.specs.Well.{allFrom, all, within, noneOr}
+
+-- the first of tests that all hold
+from-first : (a : Bool) (l : List Bool) → allFrom a l ≡ true → a ≡ true
+from-first a [] h = h
+from-first true (b ∷ l) h = refl
+from-first false (b ∷ l) h = from-first false l h
+
+-- and the others
+from-rest : (a : Bool) (l : List Bool) → allFrom a l ≡ true → all l ≡ true
+from-rest a [] h = refl
+from-rest true (b ∷ l) h = h
+from-rest false (b ∷ l) h = absurd (let e : false ≡ true = from-first false l h in let z : _≡_ {A = ℕ} 0 1 = cc in omega arith)
+
+-- each of tests that all hold
+pub all-at : (l : List Bool) (i : ℕ) → all l ≡ true → getD l i true ≡ true
+all-at [] i h = refl
+all-at (a ∷ l) zero h = from-first a l h
+all-at (a ∷ l) (suc i) h = all-at l i (from-rest a l h)
+
+-- the range of a test that holds
+pub within-true : (lo x hi : ℕ) → within lo x hi ≡ true → Within lo x hi
+within-true lo x hi h =
+    let tests = leb lo x ∷ leb x hi ∷ [] in
+    (leb-true lo x (all-at tests 0 h), leb-true x hi (all-at tests 1 h))
+
+-- the test holds in the range
+pub within-holds : (lo x hi : ℕ) → Within lo x hi → within lo x hi ≡ true
+within-holds lo x hi h = λ i. le-leb lo x (h .0) i && le-leb x hi (h .1) i
+
+-- the same with 0 for none
+pub none-or-true : (lo x hi : ℕ) → noneOr lo x hi ≡ true → NoneOr lo x hi
+none-or-true lo x hi h = go (eqb x 0) refl h
+  where
+    go : (t : Bool) → eqb x 0 ≡ t → (t || within lo x hi) ≡ true → NoneOr lo x hi
+    go true e g = inl (eqb-true x 0 e)
+    go false e g = inr (within-true lo x hi g)
+
+-- and back
+pub none-or-holds : (lo x hi : ℕ) → NoneOr lo x hi → noneOr lo x hi ≡ true
+none-or-holds lo x hi h =
+    ⊎-elim (λ e. λ i. eq-eqb x 0 e i || within lo x hi) (λ w. later (eqb x 0) (within-holds lo x hi w)) h
+  where
+    later : (t : Bool) {b : Bool} → b ≡ true → (t || b) ≡ true
+    later true e = refl
+    later false e = e
+
+-- marks that the test finds the same are the same
+pub beq-true : (a b : Bool) → Bool·beq a b ≡ true → a ≡ b
+beq-true true true h = refl
+beq-true false false h = refl
+beq-true true false h = absurd (let z : _≡_ {A = ℕ} 0 1 = cc in omega arith)
+beq-true false true h = absurd (let z : _≡_ {A = ℕ} 0 1 = cc in omega arith)
+
+-- and back
+pub beq-holds : (a b : Bool) → a ≡ b → Bool·beq a b ≡ true
+beq-holds a b e = ap (λ (x : Bool). Bool·beq x b) e ∙ go b
+  where
+    go : (x : Bool) → Bool·beq x x ≡ true
+    go true = refl
+    go false = refl

@@ -1,0 +1,23 @@
+-- `state::layout::end_of` meets its contract. Assumes nothing.
+use native.Mathlib.Omega.{arith}
+use Rattle.state.specs.Layout.{getCfg, baseOf, startOf}
+use Rattle.state.proofs.Places.{base-small}
+use borrow.Author.Needs.{needs}
+use Rattle.state.proofs.layout.end_of.Statement.{statement}
+use Rattle.state.proofs.layout.end_of.Tie as tie
+
+get-cfg-at-requires : tie.Need-get-cfg-at-requires
+get-cfg-at-requires c κs = search needs
+
+place-at-requires : tie.Need-place-at-requires
+unfolding baseOf startOf
+place-at-requires c κs =
+    let u = base-small (c .before .args .s) getCfg (search needs) (omega arith) in
+    omega arith
+
+returns : tie.Need-returns
+unfolding baseOf startOf
+returns c = search needs
+
+pub end-of-spec : {M : Type 1} → statement M
+end-of-spec = tie.close (tie.spec get-cfg-at-requires place-at-requires returns)

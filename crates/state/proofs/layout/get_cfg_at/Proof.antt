@@ -1,0 +1,15 @@
+-- `state::layout::get_cfg_at` meets its contract. Assumes nothing.
+use Rattle.state.specs.Layout.{baseOf, startOf}
+use borrow.Author.Needs.{needs}
+use Rattle.state.proofs.layout.get_cfg_at.Statement.{statement}
+use Rattle.state.proofs.layout.get_cfg_at.Tie as tie
+
+diagnosis-at-requires : tie.Need-diagnosis-at-requires
+diagnosis-at-requires c κs = search needs
+
+returns : tie.Need-returns
+unfolding baseOf startOf
+returns c = search needs
+
+pub get-cfg-at-spec : {M : Type 1} → statement M
+get-cfg-at-spec = tie.close (tie.spec diagnosis-at-requires returns)

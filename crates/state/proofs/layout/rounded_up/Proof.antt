@@ -1,0 +1,20 @@
+-- `state::layout::rounded_up` meets its contract. Assumes nothing.
+use native.Mathlib.Omega.{arith}
+use mathlib.Core.Path.{refl}
+use Rattle.state.specs.Layout.{roundedUp}
+use borrow.Author.Needs.{needs}
+use Rattle.state.proofs.layout.rounded_up.Statement.{statement}
+use Rattle.state.proofs.layout.rounded_up.Tie as tie
+
+add-result : tie.Need-add-result
+add-result c = search needs
+
+mul-result : tie.Need-mul-result
+mul-result c = search needs
+
+returns : tie.Need-returns
+unfolding roundedUp
+returns c = (refl, omega arith)
+
+pub rounded-up-spec : {M : Type 1} → statement M
+rounded-up-spec = tie.close (tie.spec add-result mul-result returns)

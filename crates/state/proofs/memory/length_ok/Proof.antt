@@ -1,0 +1,12 @@
+-- `state::memory::length_ok` meets its contract. Assumes nothing.
+use mathlib.Core.Path.{refl}
+use Rattle.state.specs.Memory.{lengthOk}
+use Rattle.state.proofs.memory.length_ok.Statement.{statement}
+use Rattle.state.proofs.memory.length_ok.Tie as tie
+
+returns : tie.Need-returns
+unfolding lengthOk
+returns c = refl
+
+pub length-ok-spec : {M : Type 1} → statement M
+length-ok-spec = tie.close (tie.spec returns)

@@ -1,0 +1,13 @@
+-- `state::start::first_control` meets its contract. Assumes nothing.
+use borrow.Author.Needs.{needs}
+use Rattle.state.proofs.start.first_control.Statement.{statement}
+use Rattle.state.proofs.start.first_control.Tie as tie
+
+none-requires : tie.Need-none-requires
+none-requires c κs = search needs
+
+returns : tie.Need-returns
+returns c = cc
+
+pub first-control-spec : {M : Type 1} → statement M
+first-control-spec = tie.close (tie.spec none-requires returns)

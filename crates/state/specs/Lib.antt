@@ -1,0 +1,9 @@
+pub mod Number
+pub mod Image
+pub mod Unpack
+pub mod Sound
+pub mod Well
+pub mod Layout
+pub mod Answer
+pub mod Start
+pub mod Memory

@@ -1,0 +1,143 @@
+-- Start: what it checks, the first state, and what it leaves. Assumes nothing.
+use Prim.Native.Nat.{ℕ, _-_}
+use mathlib.Core.Bool.{Bool, false, not, cond}
+use mathlib.Core.List.{List, [], _∷_}
+use lib.ListN.{length, replicate}
+use lib.Dec.{ltb}
+use Rattle.buffers.specs.Events.{noEvents}
+use Rattle.buffers.specs.Triple.{initial}
+use Rattle.octets.specs.Part.{pasted}
+use Rattle.telegram.specs.Reading.{off}
+use Rattle.telegram.specs.Sending.{empty}
+use Rattle.state.specs.declared.setup.Setup.{Setup}
+use Rattle.state.specs.declared.control.Control.{Control}
+use Rattle.state.specs.declared.control.Phase.the-variants.{WaitPrm}
+use Rattle.state.specs.declared.state.State.{State}
+use Rattle.state.specs.declared.state.Sets.{Sets}
+use Rattle.state.specs.declared.state.Reply.{Reply}
+use Rattle.state.specs.declared.state.Drawn.the-variants.{Nothing}
+use Rattle.state.specs.declared.answer.Answer.the-variants.{Value}
+use Rattle.state.specs.declared.answer.Refusal.the-variants.{MemoryLength, Address, Length, Room}
+use Rattle.state.specs.declared.start.Asked.{Asked}
+use Rattle.state.specs.declared.start.Asked.the-variants.{Accepted, Declined}
+use Rattle.state.specs.Answer.{Called, refused}
+use Rattle.state.specs.Layout.{stateLength, getCfgAt, endOf}
+use Rattle.state.specs.Memory.{lengthOk, kept}
+use Rattle.state.specs.Well.{all, within}
+
+-- what Start is given, n octets for Get_Cfg among it, as it is kept
+abbrev pub given : ℕ → ℕ → ℕ → ℕ → ℕ → ℕ → ℕ → ℕ → Setup
+given address ident outputs inputs parameters configuration diagnosis n =
+    record {
+      address = address;
+      ident = ident;
+      «output_len» = outputs;
+      «input_len» = inputs;
+      «parameter_len» = parameters;
+      «configuration_len» = configuration;
+      «diagnosis_len» = diagnosis;
+      «get_cfg_len» = n;
+    }
+
+-- "lengths for outputs and inputs (1 to 244), parameters (7 to 244), configuration (1 to 244), diagnosis (6 to 244), and a slice of 1 to 244 octets"
+abbrev pub lengthTests : Setup → List Bool
+lengthTests s =
+    within 1 (s .«output_len») 244
+    ∷ within 1 (s .«input_len») 244
+    ∷ within 7 (s .«parameter_len») 244
+    ∷ within 1 (s .«configuration_len») 244
+    ∷ within 6 (s .«diagnosis_len») 244
+    ∷ within 1 (s .«get_cfg_len») 244
+    ∷ []
+
+-- all of them are kept
+unfoldable pub lengthsOk : Setup → Bool
+lengthsOk s = all (lengthTests s)
+
+-- "2 address; 3 a length or slice outside its range"
+unfoldable pub asked : Setup → Asked
+asked s =
+    cond (ltb 126 (s .address)) (Declined Address)
+    (cond (not (lengthsOk s)) (Declined Length)
+    (Accepted s))
+
+-- what diagnosis shows for no owner
+abbrev pub noOwner : ℕ
+noOwner = 255
+
+-- "enters WAIT_PRM without publishing, no owner, nothing new or shown, diagnosis count 6, no flags, no events"
+abbrev pub firstControl : Control
+firstControl =
+    record {
+      phase = WaitPrm;
+      owner = noOwner;
+      group = 0;
+      stored = 0;
+      watchdog = record { reload = 0; left = 0 };
+      flags =
+          record {
+            «prm_fault» = false;
+            «cfg_fault» = false;
+            «not_supported» = false;
+            «ext_diag» = false;
+            «stat_diag» = false;
+            overflow = false;
+            «diag_flag» = false;
+            «parameters_good» = false;
+          };
+      events = noEvents;
+      noted = false;
+      diagnosis = record { count = 6; «delayed_count» = 0; «delayed_flags» = 0 };
+    }
+
+-- nothing shown, nothing waits
+abbrev pub noSets : Sets
+noSets = record { set = initial; shown = 0; waiting = 0 }
+
+-- nothing to send
+abbrev pub noReply : Reply
+noReply =
+    record {
+      drawn = Nothing;
+      sender = empty;
+      place = 0;
+      header = record { status1 = 0; status2 = 0; status3 = 0; master = 0 };
+    }
+
+-- the state after Start, which waits for a gap
+unfoldable pub initialState : Setup → State
+initialState s =
+    record {
+      setup = s;
+      control = firstControl;
+      outputs = record { set = initial; zeros = false };
+      inputs = initial;
+      parameters = noSets;
+      configuration = noSets;
+      swapped = false;
+      incoming = record { reader = off; first = 0; second = 0 };
+      reply = noReply;
+    }
+
+-- n octets 0
+abbrev pub zeros : ℕ → List ℕ
+zeros n = replicate n 0
+
+-- "Start zeroes them, copies the Get_Cfg slice", "changes nothing past the buffers"
+unfoldable pub wiped : List ℕ → Setup → List ℕ → List ℕ
+wiped m s slice = pasted (pasted m stateLength (zeros (endOf s - stateLength))) (getCfgAt s) slice
+
+-- "4 buffers end beyond the memory"; else they are wiped and the first state stands in front
+unfoldable pub laidOut : List ℕ → Setup → List ℕ → Called
+laidOut m s slice =
+    cond (ltb (length m) (endOf s)) (refused m Room)
+    (record { answer = Value 0; memory = kept (initialState s) (wiped m s slice) })
+
+-- a setup is laid out, and a refusal is the answer
+abbrev pub answered : List ℕ → List ℕ → Asked → Called
+answered m slice (Accepted s) = laidOut m s slice
+answered m slice (Declined why) = refused m why
+
+-- "checks go upward": 1 the memory's length here, 2 and 3 in asked, 4 in laidOut
+unfoldable pub started : List ℕ → Setup → List ℕ → Called
+started m s slice = cond (not (lengthOk (length m))) (refused m MemoryLength) (answered m slice (asked s))

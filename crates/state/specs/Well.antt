@@ -1,0 +1,104 @@
+-- Which octets are the image of a sound state: tests of the octets alone. Assumes nothing.
+use Prim.Native.Nat.{ℕ}
+use mathlib.Core.Bool.{Bool, true, not, _&&_, _||_, Bool·beq}
+use mathlib.Core.List.{List, [], _∷_}
+use lib.Dec.{leb, ltb, eqb}
+use lib.ListN.{getD}
+use Rattle.state.specs.Unpack.{marksIn, bitAt}
+
+-- a and each of l, as the code's `a & b & c` joins them
+abbrev pub allFrom : Bool → List Bool → Bool
+allFrom a [] = a
+allFrom a (b ∷ l) = allFrom (a && b) l
+
+-- each of l
+abbrev pub all : List Bool → Bool
+all [] = true
+all (a ∷ l) = allFrom a l
+
+-- lo to hi
+abbrev pub within : ℕ → ℕ → ℕ → Bool
+within lo x hi = leb lo x && leb x hi
+
+-- 0, or lo to hi
+abbrev pub noneOr : ℕ → ℕ → ℕ → Bool
+noneOr lo x hi = eqb x 0 || within lo x hi
+
+-- the address and the lengths
+abbrev pub setupTests : List ℕ → List Bool
+setupTests m =
+    leb (getD m 0 0) 126
+    ∷ within 1 (getD m 3 0) 244
+    ∷ within 1 (getD m 4 0) 244
+    ∷ within 7 (getD m 5 0) 244
+    ∷ within 1 (getD m 6 0) 244
+    ∷ within 6 (getD m 7 0) 244
+    ∷ within 1 (getD m 8 0) 244
+    ∷ []
+
+-- the cases of the enums
+abbrev pub caseTests : List ℕ → List Bool
+caseTests m =
+    leb (getD m 9 0) 2
+    ∷ leb (getD m 32 0) 12
+    ∷ leb (getD m 33 0) 3
+    ∷ leb (getD m 44 0) 10
+    ∷ leb (getD m 45 0) 3
+    ∷ leb (getD m 52 0) 8
+    ∷ []
+
+-- the marks, the roles of the four sets of three, and the place that a reply leaves from
+abbrev pub roleTests : List ℕ → List Bool
+roleTests m =
+    ltb (marksIn m) 128
+    ∷ ltb (getD m 19 0) 6
+    ∷ ltb (getD m 20 0) 6
+    ∷ ltb (getD m 21 0) 6
+    ∷ ltb (getD m 22 0) 6
+    ∷ leb (getD m 53 0) 2
+    ∷ []
+
+-- the counts of the sets that are shown and that wait, and whether one waits
+abbrev pub setTests : List ℕ → List Bool
+setTests m =
+    noneOr 7 (getD m 23 0) (getD m 5 0)
+    ∷ noneOr 7 (getD m 24 0) (getD m 5 0)
+    ∷ leb (getD m 25 0) (getD m 6 0)
+    ∷ leb (getD m 26 0) (getD m 6 0)
+    ∷ Bool·beq (bitAt (marksIn m) 8) (not (eqb (getD m 24 0) 0))
+    ∷ Bool·beq (bitAt (marksIn m) 16) (not (eqb (getD m 26 0) 0))
+    ∷ []
+
+-- diagnosis, its count and the delayed one
+abbrev pub diagnosisTests : List ℕ → List Bool
+diagnosisTests m =
+    within 6 (getD m 27 0) (getD m 7 0)
+    ∷ noneOr 6 (getD m 28 0) (getD m 7 0)
+    ∷ leb (getD m 29 0) 7
+    ∷ []
+
+-- the octets that are not used
+abbrev pub unusedTests : List ℕ → List Bool
+unusedTests m =
+    eqb (getD m 58 0) 0
+    ∷ eqb (getD m 59 0) 0
+    ∷ eqb (getD m 60 0) 0
+    ∷ eqb (getD m 61 0) 0
+    ∷ eqb (getD m 62 0) 0
+    ∷ eqb (getD m 63 0) 0
+    ∷ []
+
+-- all of them
+abbrev pub imageTests : List ℕ → List Bool
+imageTests m =
+    all (setupTests m)
+    ∷ all (caseTests m)
+    ∷ all (roleTests m)
+    ∷ all (setTests m)
+    ∷ all (diagnosisTests m)
+    ∷ all (unusedTests m)
+    ∷ []
+
+-- the octets are the image of a sound state
+unfoldable pub wellImage : List ℕ → Bool
+wellImage m = all (imageTests m)

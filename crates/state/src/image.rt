@@ -1,0 +1,154 @@
+// The image of a state: the octets that hold it, laid out one by one.
+use crate::control::Flags;
+use crate::number::drawn_number;
+use crate::number::kind_number;
+use crate::number::phase_number;
+use crate::number::reading_number;
+use crate::number::stage_number;
+use crate::state::State;
+ghost use mathlib.Core.Path.{_≡_};
+ghost use mathlib.Core.List.{_++_};
+ghost use Prim.Native.Nat.{_≤_, _/_, _%_};
+ghost use lib.ListN.{length, drop};
+ghost use Rattle.state.specs.Layout.{stateLength};
+ghost use Rattle.state.specs.Image.{bitOf, flagsOf, marksOf, image};
+
+// A mark as a number.
+fn bit(b: bool) -> u8
+    ensures { λ r. ⌜ (r ≡ bitOf b) × (r ≤ 1) ⌝ }
+{
+    if b { 1 } else { 0 }
+}
+
+// The low octet of a word.
+fn low(word: u16) -> u8
+    ensures { λ r. ⌜ r ≡ word % 256 ⌝ }
+{
+    (word % 256) as u8
+}
+
+// The high octet of a word.
+fn high(word: u16) -> u8
+    ensures { λ r. ⌜ r ≡ word / 256 ⌝ }
+{
+    (word / 256) as u8
+}
+
+// The flags in one octet.
+fn flags(f: Flags) -> u8
+    ensures { λ r. ⌜ r ≡ flagsOf f ⌝ }
+{
+    bit(f.prm_fault)
+        + 2 * bit(f.cfg_fault)
+        + 4 * bit(f.not_supported)
+        + 8 * bit(f.ext_diag)
+        + 16 * bit(f.stat_diag)
+        + 32 * bit(f.overflow)
+        + 64 * bit(f.diag_flag)
+        + 128 * bit(f.parameters_good)
+}
+
+// The other marks of the state in one octet.
+fn marks(s: State) -> u8
+    ensures { λ r. ⌜ r ≡ marksOf s ⌝ }
+{
+    bit(s.outputs.set.fresh)
+        + 2 * bit(s.outputs.zeros)
+        + 4 * bit(s.inputs.fresh)
+        + 8 * bit(s.parameters.set.fresh)
+        + 16 * bit(s.configuration.set.fresh)
+        + 32 * bit(s.swapped)
+        + 64 * bit(s.control.noted)
+}
+
+// The octets in their order; the last six are not used.
+pub fn octets(s: State) -> [u8; 64]
+    ensures { λ r. ⌜ r ≡ image s ⌝ }
+{
+    let control = s.control;
+    let phase = control.phase;
+    let incoming = s.incoming;
+    let reader = incoming.reader;
+    let reading = reader.phase;
+    let reading_kind = reader.kind;
+    let reply = s.reply;
+    let drawn = reply.drawn;
+    let sender = reply.sender;
+    let stage = sender.stage;
+    let sending_kind = sender.kind;
+    [
+        s.setup.address,
+        low(s.setup.ident),
+        high(s.setup.ident),
+        s.setup.output_len,
+        s.setup.input_len,
+        s.setup.parameter_len,
+        s.setup.configuration_len,
+        s.setup.diagnosis_len,
+        s.setup.get_cfg_len,
+        phase_number(phase),
+        control.owner,
+        control.group,
+        control.stored,
+        low(control.watchdog.left),
+        high(control.watchdog.left),
+        low(control.watchdog.reload),
+        high(control.watchdog.reload),
+        flags(control.flags),
+        marks(s),
+        s.outputs.set.number(),
+        s.inputs.number(),
+        s.parameters.set.number(),
+        s.configuration.set.number(),
+        s.parameters.shown,
+        s.parameters.waiting,
+        s.configuration.shown,
+        s.configuration.waiting,
+        control.diagnosis.count,
+        control.diagnosis.delayed_count,
+        control.diagnosis.delayed_flags,
+        low(control.events.word),
+        high(control.events.word),
+        reading_number(reading),
+        kind_number(reading_kind),
+        reader.count,
+        reader.at,
+        reader.da,
+        reader.sa,
+        reader.fc,
+        reader.dsap,
+        reader.ssap,
+        reader.sum,
+        incoming.first,
+        incoming.second,
+        stage_number(stage),
+        kind_number(sending_kind),
+        sender.count,
+        sender.at,
+        sender.da,
+        sender.sa,
+        sender.fc,
+        sender.sum,
+        drawn_number(drawn),
+        reply.place,
+        reply.header.status1,
+        reply.header.status2,
+        reply.header.status3,
+        reply.header.master,
+        0,
+        0,
+        0,
+        0,
+        0,
+        0,
+    ]
+}
+
+// The state's octets at the front of the memory; what lies behind them stays.
+pub fn save(s: State, mem: &mut [u8])
+    requires { ⌜ stateLength ≤ length (now mem) ⌝ }
+    ensures { λ _. ⌜ now (mem .exit) ≡ image s ++ drop stateLength (now (mem .entry)) ⌝ }
+{
+    let a = octets(s);
+    octets::copy(&a, mem);
+}

@@ -1,0 +1,235 @@
+// Start: what it checks, the first state, and what it leaves.
+use crate::answer::Answer;
+use crate::answer::Refusal;
+use crate::control::Control;
+use crate::control::Diagnosis;
+use crate::control::Flags;
+use crate::control::Phase;
+use crate::control::Watchdog;
+use crate::image;
+use crate::layout;
+use crate::memory;
+use crate::setup::Setup;
+use crate::state::Drawn;
+use crate::state::Header;
+use crate::state::Incoming;
+use crate::state::Outputs;
+use crate::state::Reply;
+use crate::state::Sets;
+use crate::state::State;
+use buffers::events::Events;
+use buffers::triple::Triple;
+use telegram::reader::Reader;
+use telegram::sender::Sender;
+ghost use mathlib.Core.Path.{_≡_};
+ghost use Prim.Native.Nat.{_≤_};
+ghost use lib.ListN.{length};
+ghost use Rattle.state.specs.Answer.{Meets};
+ghost use Rattle.state.specs.Layout.{endOf};
+ghost use Rattle.state.specs.Start.{given, lengthsOk, asked, firstControl, noSets, noReply, initialState, wiped, laidOut, started};
+
+// What Start is asked for: a setup, or why there is none.
+pub enum Asked {
+    Accepted(Setup),
+    Declined(Refusal),
+}
+
+// The ranges of the lengths and of the slice's.
+fn lengths_ok(
+    outputs: u32,
+    inputs: u32,
+    parameters: u32,
+    configuration: u32,
+    diagnosis: u32,
+    get_cfg: usize,
+) -> bool
+    ensures { λ r. ⌜ r ≡ lengthsOk (given 0 0 outputs inputs parameters configuration diagnosis «get_cfg») ⌝ }
+{
+    ((1 <= outputs) & (outputs <= 244))
+        & ((1 <= inputs) & (inputs <= 244))
+        & ((7 <= parameters) & (parameters <= 244))
+        & ((1 <= configuration) & (configuration <= 244))
+        & ((6 <= diagnosis) & (diagnosis <= 244))
+        & ((1 <= get_cfg) & (get_cfg <= 244))
+}
+
+// The setup from the numbers that Start is given, or which of them is refused.
+pub fn setup_of(
+    address: u32,
+    ident: u16,
+    outputs: u32,
+    inputs: u32,
+    parameters: u32,
+    configuration: u32,
+    diagnosis: u32,
+    get_cfg: usize,
+) -> Asked
+    ensures { λ r. ⌜ r ≡ asked (given address ident outputs inputs parameters configuration diagnosis «get_cfg») ⌝ }
+{
+    if 126 < address {
+        return Asked::Declined(Refusal::Address);
+    }
+    if !lengths_ok(
+        outputs,
+        inputs,
+        parameters,
+        configuration,
+        diagnosis,
+        get_cfg,
+    ) {
+        return Asked::Declined(Refusal::Length);
+    }
+    Asked::Accepted(Setup {
+        address: address as u8,
+        ident: ident,
+        output_len: outputs as u8,
+        input_len: inputs as u8,
+        parameter_len: parameters as u8,
+        configuration_len: configuration as u8,
+        diagnosis_len: diagnosis as u8,
+        get_cfg_len: get_cfg as u8,
+    })
+}
+
+// WAIT_PRM, no owner, no flags, no events, diagnosis count 6.
+fn first_control() -> Control
+    ensures { λ r. ⌜ r ≡ firstControl ⌝ }
+{
+    Control {
+        phase: Phase::WaitPrm,
+        owner: Control::NO_OWNER,
+        group: 0,
+        stored: 0,
+        watchdog: Watchdog { reload: 0, left: 0 },
+        flags: Flags {
+            prm_fault: false,
+            cfg_fault: false,
+            not_supported: false,
+            ext_diag: false,
+            stat_diag: false,
+            overflow: false,
+            diag_flag: false,
+            parameters_good: false,
+        },
+        events: Events::none(),
+        noted: false,
+        diagnosis: Diagnosis {
+            count: 6,
+            delayed_count: 0,
+            delayed_flags: 0,
+        },
+    }
+}
+
+// Nothing shown, nothing waits.
+fn no_sets() -> Sets
+    ensures { λ r. ⌜ r ≡ noSets ⌝ }
+{
+    Sets {
+        set: Triple::new(),
+        shown: 0,
+        waiting: 0,
+    }
+}
+
+// Nothing to send.
+fn no_reply() -> Reply
+    ensures { λ r. ⌜ r ≡ noReply ⌝ }
+{
+    Reply {
+        drawn: Drawn::Nothing,
+        sender: Sender::empty(),
+        place: 0,
+        header: Header {
+            status1: 0,
+            status2: 0,
+            status3: 0,
+            master: 0,
+        },
+    }
+}
+
+// The state after Start, which waits for a gap.
+pub fn initial(setup: Setup) -> State
+    ensures { λ r. ⌜ r ≡ initialState setup ⌝ }
+{
+    State {
+        setup: setup,
+        control: first_control(),
+        outputs: Outputs {
+            set: Triple::new(),
+            zeros: false,
+        },
+        inputs: Triple::new(),
+        parameters: no_sets(),
+        configuration: no_sets(),
+        swapped: false,
+        incoming: Incoming {
+            reader: Reader::off(),
+            first: 0,
+            second: 0,
+        },
+        reply: no_reply(),
+    }
+}
+
+// Zeros in all the buffers, then the slice in the last.
+fn wiped(mem: &mut [u8], setup: Setup, get_cfg: &[u8])
+    requires { ⌜ (endOf setup ≤ length (now mem)) × (setup .«get_cfg_len» ≡ length (now «get_cfg»)) ⌝ }
+    ensures { λ _. ⌜ now (mem .exit) ≡ wiped (now (mem .entry)) setup (now («get_cfg» .entry)) ⌝ }
+{
+    let end = layout::end_of(setup);
+    octets::clear_at(mem, layout::STATE_LENGTH, end - layout::STATE_LENGTH);
+    octets::copy_at(mem, layout::get_cfg_at(setup), get_cfg);
+}
+
+// A setup that was accepted: the buffers are wiped and the first state stands in front, if they have room.
+fn lay_out(mem: &mut [u8], setup: Setup, get_cfg: &[u8]) -> Answer
+    requires { ⌜ setup .«get_cfg_len» ≡ length (now «get_cfg») ⌝ }
+    ensures { λ r. ⌜ Meets (laidOut (now (mem .entry)) setup (now («get_cfg» .entry))) r (now (mem .exit)) ⌝ }
+{
+    if mem.len() < layout::end_of(setup) {
+        return Answer::Refused(Refusal::Room);
+    }
+    wiped(mem, setup, get_cfg);
+    image::save(initial(setup), mem);
+    Answer::Value(0)
+}
+
+// Start: the memory length, what is asked for, and the room are checked in this order.
+pub fn start(
+    mem: &mut [u8],
+    address: u32,
+    ident: u16,
+    output_len: u32,
+    input_len: u32,
+    parameter_len: u32,
+    configuration_len: u32,
+    diagnosis_len: u32,
+    get_cfg: &[u8],
+) -> Answer
+    ensures { λ r.
+        ⌜ Meets
+        (started (now (mem .entry))
+        (given address ident «output_len» «input_len» «parameter_len» «configuration_len» «diagnosis_len» (length (now («get_cfg» .entry))))
+        (now («get_cfg» .entry)))
+        r (now (mem .exit)) ⌝ }
+{
+    if !memory::length_ok(mem.len()) {
+        return Answer::Refused(Refusal::MemoryLength);
+    }
+    let found = setup_of(
+        address,
+        ident,
+        output_len,
+        input_len,
+        parameter_len,
+        configuration_len,
+        diagnosis_len,
+        get_cfg.len(),
+    );
+    match found {
+        Asked::Accepted(setup) => lay_out(mem, setup, get_cfg),
+        Asked::Declined(why) => Answer::Refused(why),
+    }
+}

@@ -1,0 +1,1 @@
+// The station over its lent memory.
