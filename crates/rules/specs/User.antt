@@ -1,5 +1,4 @@
--- Judging and the new diagnosis (document 01, User calls), on the control part.
-use Prim.Native.Nat.{ℕ}
+-- Judging (document 01, User calls), on the control part. A new diagnosis is in Diagnosis.antt.
 use mathlib.Core.Bool.{Bool, true, false, cond, not, _&&_, _||_}
 use Rattle.buffers.specs.Events.{configuration, parameters}
 use Rattle.state.specs.declared.control.Control.{Control}
@@ -10,7 +9,6 @@ use Rattle.rules.specs.declared.outcome.SetDeed.the-variants as set-deed
 use Rattle.rules.specs.declared.outcome.Outcome.{Outcome}
 use Rattle.rules.specs.Control.{withFlags, clear, withPrmFault, withCfgFault, withParametersGood}
 use Rattle.rules.specs.Phases.{enteringWaitPrm, dataExch}
-use Rattle.rules.specs.Diagnosis.{diagnosed, delaying}
 
 -- only these sets change
 abbrev pub onSets : Control → SetDeed → SetDeed → Outcome
@@ -30,7 +28,3 @@ judgedConfiguration c waits good =
     cond waits (onSets c set-deed.Keep set-deed.Advance)
     (cond good (onSets (dataExch (clear c configuration)) set-deed.Keep set-deed.Drop)
     (enteringWaitPrm (withFlags (clear c configuration) (withCfgFault (c .flags))) Nothing))
-
--- new diagnosis: at once, or delayed while a Slave_Diag reply is unfinished
-abbrev pub newDiagnosis : Control → Bool → ℕ → ℕ → Control
-newDiagnosis c unfinished count flags = cond unfinished (delaying c count flags) (diagnosed c count flags)

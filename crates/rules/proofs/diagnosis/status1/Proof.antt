@@ -1,0 +1,80 @@
+use borrow.Author.Needs.{needs}
+use Rattle.rules.proofs.diagnosis.status1.Statement.{statement}
+use Rattle.rules.proofs.diagnosis.status1.Tie as tie
+
+in-exchange-requires : tie.Need-in-exchange-requires
+in-exchange-requires c κs = search needs
+
+one-requires : tie.Need-one-requires
+one-requires c κs = search needs
+
+mul-result : tie.Need-mul-result
+mul-result c = search needs
+
+one-requires-2 : tie.Need-one-requires-2
+one-requires-2 c κs = search needs
+
+mul-result-2 : tie.Need-mul-result-2
+mul-result-2 c = search needs
+
+add-result : tie.Need-add-result
+add-result c = search needs
+
+one-requires-3 : tie.Need-one-requires-3
+one-requires-3 c κs = search needs
+
+mul-result-3 : tie.Need-mul-result-3
+mul-result-3 c = search needs
+
+add-result-2 : tie.Need-add-result-2
+add-result-2 c = search needs
+
+one-requires-4 : tie.Need-one-requires-4
+one-requires-4 c κs = search needs
+
+mul-result-4 : tie.Need-mul-result-4
+mul-result-4 c = search needs
+
+add-result-3 : tie.Need-add-result-3
+add-result-3 c = search needs
+
+one-requires-5 : tie.Need-one-requires-5
+one-requires-5 c κs = search needs
+
+mul-result-5 : tie.Need-mul-result-5
+mul-result-5 c = search needs
+
+add-result-4 : tie.Need-add-result-4
+add-result-4 c = search needs
+
+returns : tie.Need-returns
+returns c =
+    rw (
+      c .one5 .ensures .0,
+      c .before .one4 .ensures .0,
+      c .before .before .one3 .ensures .0,
+      c .before .before .before .one2 .ensures .0,
+      c .before .before .before .before .one .ensures .0,
+      c .before .before .before .before .before .in-exchange .ensures,
+    )
+
+pub status1-spec : {M : Type 1} → statement M
+status1-spec =
+    tie.close
+    (tie.spec
+    in-exchange-requires
+    one-requires
+    mul-result
+    one-requires-2
+    mul-result-2
+    add-result
+    one-requires-3
+    mul-result-3
+    add-result-2
+    one-requires-4
+    mul-result-4
+    add-result-3
+    one-requires-5
+    mul-result-5
+    add-result-4
+    returns)

@@ -1,0 +1,54 @@
+use borrow.Author.Needs.{needs}
+use Rattle.rules.proofs.diagnosis.status2.Statement.{statement}
+use Rattle.rules.proofs.diagnosis.status2.Tie as tie
+
+waiting-requires : tie.Need-waiting-requires
+waiting-requires c κs = search needs
+
+one-requires : tie.Need-one-requires
+one-requires c κs = search needs
+
+one-requires-2 : tie.Need-one-requires-2
+one-requires-2 c κs = search needs
+
+mul-result : tie.Need-mul-result
+mul-result c = search needs
+
+add-result : tie.Need-add-result
+add-result c = search needs
+
+add-result-2 : tie.Need-add-result-2
+add-result-2 c = search needs
+
+one-requires-3 : tie.Need-one-requires-3
+one-requires-3 c κs = search needs
+
+mul-result-2 : tie.Need-mul-result-2
+mul-result-2 c = search needs
+
+add-result-3 : tie.Need-add-result-3
+add-result-3 c = search needs
+
+returns : tie.Need-returns
+returns c =
+    rw (
+      c .one3 .ensures .0,
+      c .before .one2 .ensures .0,
+      c .before .before .one .ensures .0,
+      c .before .before .before .waiting .ensures,
+    )
+
+pub status2-spec : {M : Type 1} → statement M
+status2-spec =
+    tie.close
+    (tie.spec
+    waiting-requires
+    one-requires
+    one-requires-2
+    mul-result
+    add-result
+    add-result-2
+    one-requires-3
+    mul-result-2
+    add-result-3
+    returns)

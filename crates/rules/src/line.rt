@@ -1,0 +1,76 @@
+// The clear, the watchdog and the Tick.
+use crate::outcome::Outcome;
+use crate::phases::drawing;
+use crate::phases::entering_wait_prm;
+use crate::phases::waiting;
+use buffers::events::Events;
+use state::control::Control;
+use state::state::Drawn;
+ghost use mathlib.Core.Path.{_≡_};
+ghost use Rattle.buffers.specs.Events.{watchdog};
+ghost use Rattle.rules.specs.Control.{raise};
+ghost use Rattle.rules.specs.Line.{clearing, clearOn, settled, counts, withLeft, ticked};
+
+// A clear enters WAIT_PRM, and none is noted any more.
+pub fn clearing(mut control: Control) -> Outcome
+    ensures { λ o. ⌜ o ≡ clearing control ⌝ }
+{
+    control.noted = false;
+    entering_wait_prm(control, Drawn::Nothing)
+}
+
+// On a busy line a clear is noted.
+pub fn clear_on(busy: bool, mut control: Control) -> Outcome
+    ensures { λ o. ⌜ o ≡ clearOn busy control ⌝ }
+{
+    if busy {
+        control.noted = true;
+        return drawing(control, Drawn::Nothing);
+    }
+    clearing(control)
+}
+
+// A noted clear is carried out when the line is idle.
+pub fn settled(busy: bool, control: Control) -> Outcome
+    ensures { λ o. ⌜ o ≡ settled busy control ⌝ }
+{
+    if control.noted & !busy {
+        return clearing(control);
+    }
+    drawing(control, Drawn::Nothing)
+}
+
+// In WAIT_CFG or DATA_EXCH with the watchdog on.
+fn counts(control: Control) -> bool
+    ensures { λ b. ⌜ b ≡ counts control ⌝ }
+{
+    let phase = control.phase;
+    let waits = waiting(phase);
+    !waits & (control.watchdog.reload != 0)
+}
+
+// The watchdog at 0: event 3 and a clear.
+fn expired(busy: bool, mut control: Control) -> Outcome
+    ensures { λ o. ⌜ o ≡ clearOn busy (raise (withLeft control 0) watchdog) ⌝ }
+{
+    let events = control.events.raise(Events::WATCHDOG);
+    control.events = events;
+    control.watchdog.left = 0;
+    clear_on(busy, control)
+}
+
+// A Tick where no clear is noted: the watchdog counts down.
+pub fn ticked(busy: bool, mut control: Control) -> Outcome
+    ensures { λ o. ⌜ o ≡ ticked busy control ⌝ }
+{
+    let left = control.watchdog.left;
+    if !counts(control) {
+        return drawing(control, Drawn::Nothing);
+    }
+    if left <= 1 {
+        return expired(busy, control);
+    }
+    let less = left - 1;
+    control.watchdog.left = less;
+    drawing(control, Drawn::Nothing)
+}

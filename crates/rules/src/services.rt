@@ -1,0 +1,360 @@
+// The services: what comes of each, on the control part. opened: a set of that kind is open.
+use crate::outcome::Outcome;
+use crate::outcome::OutputsDeed;
+use crate::outcome::SetDeed;
+use crate::phases::drawing;
+use crate::phases::entering_wait_prm;
+use crate::phases::in_exchange;
+use crate::phases::wait_cfg;
+use crate::phases::zeros_if_left;
+use crate::request::Prm;
+use crate::request::Request;
+use crate::request::Service;
+use crate::requests::master_of;
+use buffers::events::Events;
+use state::control::Control;
+use state::control::Watchdog;
+use state::setup::Setup;
+use state::state::Drawn;
+ghost use Prim.Native.Nat.{_≤_};
+ghost use mathlib.Core.Path.{_≡_};
+ghost use mathlib.Core.Bool.{_&&_};
+ghost use Rattle.rules.specs.Control.{withFlags, withNotSupported};
+ghost use Rattle.rules.specs.Phases.{enteringWaitPrm};
+ghost use Rattle.rules.specs.Services.{otherOwns, otherIdent, wantsWatchdog, badFactors, ticksOf, prmFault, showing, parametrized, goodPrm, setPrm, cfgFault, goodCfg, chkCfg, exchanges, accepted, dataExchange, slaveDiag, readInputs, readOutputs, controls, storing, obeyed, globalControl, serve};
+
+// An octet as a wider number.
+fn wide(x: u8) -> u16
+    ensures { λ r. ⌜ (r ≡ x) × (r ≤ 255) ⌝ }
+{
+    x as u16
+}
+
+// Set_Prm: another master owns.
+fn other_owns(control: Control, master: u8) -> bool
+    ensures { λ b. ⌜ b ≡ otherOwns control master ⌝ }
+{
+    (control.owner != Control::NO_OWNER) & (control.owner != master)
+}
+
+// Set_Prm: octets 4 and 5 are not the ident, high first.
+fn other_ident(setup: Setup, p: Prm) -> bool
+    ensures { λ b. ⌜ b ≡ otherIdent setup p ⌝ }
+{
+    256 * wide(p.ident_high) + wide(p.ident_low) != setup.ident
+}
+
+// Set_Prm: bit 3 set with octet 1 or 2 zero or both 1.
+fn bad_watchdog(p: Prm) -> bool
+    ensures { λ b. ⌜ b ≡ (wantsWatchdog p && badFactors p) ⌝ }
+{
+    (p.status / 8 % 2 == 1)
+        & ((p.factor1 == 0) | (p.factor2 == 0) | ((p.factor1 == 1) & (p.factor2 == 1)))
+}
+
+// Set_Prm: with bit 3 the watchdog is octet 1 × octet 2 ticks, otherwise off.
+fn ticks_of(p: Prm) -> u16
+    ensures { λ r. ⌜ r ≡ ticksOf p ⌝ }
+{
+    if p.status / 8 % 2 == 1 {
+        return wide(p.factor1) * wide(p.factor2);
+    }
+    0
+}
+
+// Set_Prm, fault: E5, Prm_Fault, WAIT_PRM.
+fn prm_fault(mut control: Control) -> Outcome
+    ensures { λ o. ⌜ o ≡ prmFault control ⌝ }
+{
+    control.flags.prm_fault = true;
+    entering_wait_prm(control, Drawn::Acknowledge)
+}
+
+// Set_Prm, bit 5 or 4: E5, Not_Supported, WAIT_PRM.
+fn not_supported(mut control: Control) -> Outcome
+    ensures { λ o. ⌜ o ≡ enteringWaitPrm (withFlags control (withNotSupported (control .flags))) Drawn.Acknowledge ⌝ }
+{
+    control.flags.not_supported = true;
+    entering_wait_prm(control, Drawn::Acknowledge)
+}
+
+// A set is shown if none is open, with its event.
+fn showing(events: Events, opened: bool, event: u8) -> Events
+    ensures { λ e. ⌜ e ≡ showing events opened event ⌝ }
+{
+    if opened {
+        return events;
+    }
+    events.raise(event)
+}
+
+// Good Set_Prm: owner, WAIT_CFG, the three fault bits and parameter OK cleared, group, watchdog, the events of the sets.
+fn parametrized(control: Control, opened: bool, master: u8, p: Prm) -> Control
+    ensures { λ c. ⌜ c ≡ parametrized control opened master p ⌝ }
+{
+    let entered = wait_cfg(control);
+    let dropped = entered.events.clear(Events::CONFIGURATION);
+    let events = showing(dropped, opened, Events::PARAMETERS);
+    let ticks = ticks_of(p);
+    let watchdog = Watchdog {
+        reload: ticks,
+        left: ticks,
+    };
+    let mut flags = control.flags;
+    flags.prm_fault = false;
+    flags.cfg_fault = false;
+    flags.not_supported = false;
+    flags.parameters_good = false;
+    let phase = entered.phase;
+    let diagnosis = control.diagnosis;
+    Control {
+        phase,
+        owner: master,
+        group: p.group,
+        stored: control.stored,
+        watchdog,
+        flags,
+        events,
+        noted: control.noted,
+        diagnosis,
+    }
+}
+
+// Good Set_Prm: E5, configuration sets dropped, data shown.
+fn good_prm(control: Control, opened: bool, master: u8, p: Prm) -> Outcome
+    ensures { λ o. ⌜ o ≡ goodPrm control opened master p ⌝ }
+{
+    let outputs = zeros_if_left(control);
+    let changed = parametrized(control, opened, master, p);
+    Outcome {
+        control: changed,
+        outputs,
+        parameters: SetDeed::Receive,
+        configuration: SetDeed::Drop,
+        drawn: Drawn::Acknowledge,
+    }
+}
+
+// Set_Prm, DSAP 61, its tests in order.
+pub fn set_prm(setup: Setup, control: Control, opened: bool, r: Request, p: Prm) -> Outcome
+    ensures { λ o. ⌜ o ≡ setPrm setup control opened r p ⌝ }
+{
+    let master = master_of(r);
+    let other = other_owns(control, master);
+    let fits = (7 <= r.count) & (r.count <= setup.parameter_len);
+    let status = p.status;
+    if other {
+        return drawing(control, Drawn::Rejected);
+    }
+    if !fits {
+        return prm_fault(control);
+    }
+    if status / 64 % 2 == 1 {
+        return entering_wait_prm(control, Drawn::Acknowledge);
+    }
+    if !(status / 128 % 2 == 1) {
+        return drawing(control, Drawn::Acknowledge);
+    }
+    if (status / 32 % 2 == 1) | (status / 16 % 2 == 1) {
+        return not_supported(control);
+    }
+    if other_ident(setup, p) | bad_watchdog(p) {
+        return prm_fault(control);
+    }
+    good_prm(control, opened, master, p)
+}
+
+// Cfg_Fault, WAIT_PRM.
+fn cfg_fault(mut control: Control, drawn: Drawn) -> Outcome
+    ensures { λ o. ⌜ o ≡ enteringWaitPrm (cfgFault control) drawn ⌝ }
+{
+    control.flags.cfg_fault = true;
+    entering_wait_prm(control, drawn)
+}
+
+// Good Chk_Cfg: E5, WAIT_CFG, data shown.
+fn good_cfg(control: Control, opened: bool) -> Outcome
+    ensures { λ o. ⌜ o ≡ goodCfg control opened ⌝ }
+{
+    let outputs = zeros_if_left(control);
+    let mut entered = wait_cfg(control);
+    let events = showing(entered.events, opened, Events::CONFIGURATION);
+    entered.events = events;
+    Outcome {
+        control: entered,
+        outputs,
+        parameters: SetDeed::Keep,
+        configuration: SetDeed::Receive,
+        drawn: Drawn::Acknowledge,
+    }
+}
+
+// Chk_Cfg, DSAP 62.
+pub fn chk_cfg(setup: Setup, control: Control, opened: bool, r: Request) -> Outcome
+    ensures { λ o. ⌜ o ≡ chkCfg setup control opened r ⌝ }
+{
+    let master = master_of(r);
+    let owns = control.owner == master;
+    let fits = (1 <= r.count) & (r.count <= setup.configuration_len);
+    if !owns {
+        return drawing(control, Drawn::Rejected);
+    }
+    if !fits {
+        return cfg_fault(control, Drawn::Acknowledge);
+    }
+    good_cfg(control, opened)
+}
+
+// From the owner in DATA_EXCH.
+fn exchanges(control: Control, r: Request) -> bool
+    ensures { λ b. ⌜ b ≡ exchanges control r ⌝ }
+{
+    let master = master_of(r);
+    let phase = control.phase;
+    let exchanging = in_exchange(phase);
+    (control.owner == master) & exchanging
+}
+
+// Accepted: the data is published, event 13; the inputs are drawn.
+fn accepted(mut control: Control) -> Outcome
+    ensures { λ o. ⌜ o ≡ accepted control ⌝ }
+{
+    let events = control.events.raise(Events::OUTPUTS);
+    control.events = events;
+    Outcome {
+        control,
+        outputs: OutputsDeed::Publish,
+        parameters: SetDeed::Keep,
+        configuration: SetDeed::Keep,
+        drawn: Drawn::Exchange,
+    }
+}
+
+// Data_Exchange, functions 12 and 13 without extension.
+pub fn data_exchange(setup: Setup, control: Control, r: Request) -> Outcome
+    ensures { λ o. ⌜ o ≡ dataExchange setup control r ⌝ }
+{
+    let exchanging = exchanges(control, r);
+    let fits = r.count == setup.output_len;
+    if !exchanging {
+        return drawing(control, Drawn::Rejected);
+    }
+    if !fits {
+        return cfg_fault(control, Drawn::Rejected);
+    }
+    accepted(control)
+}
+
+// Slave_Diag, DSAP 60: the owner's clears Diag_Flag unless Stat_Diag.
+pub fn slave_diag(mut control: Control, r: Request) -> Outcome
+    ensures { λ o. ⌜ o ≡ slaveDiag control r ⌝ }
+{
+    let master = master_of(r);
+    let ends = (control.owner == master) & !control.flags.stat_diag;
+    if ends {
+        control.flags.diag_flag = false;
+        return drawing(control, Drawn::Diagnosis);
+    }
+    drawing(control, Drawn::Diagnosis)
+}
+
+// Read_Inputs, DSAP 56: RS outside DATA_EXCH.
+pub fn read_inputs(control: Control) -> Outcome
+    ensures { λ o. ⌜ o ≡ readInputs control ⌝ }
+{
+    let phase = control.phase;
+    if in_exchange(phase) {
+        return drawing(control, Drawn::Inputs);
+    }
+    drawing(control, Drawn::Rejected)
+}
+
+// Read_Outputs, DSAP 57: RS outside DATA_EXCH.
+pub fn read_outputs(control: Control) -> Outcome
+    ensures { λ o. ⌜ o ≡ readOutputs control ⌝ }
+{
+    let phase = control.phase;
+    if in_exchange(phase) {
+        return drawing(control, Drawn::Outputs);
+    }
+    drawing(control, Drawn::Rejected)
+}
+
+// Global_Control: two octets, from the owner in DATA_EXCH, octet 1 zero or sharing a bit with the group.
+fn controls(control: Control, r: Request, second: u8) -> bool
+    ensures { λ b. ⌜ b ≡ controls control r second ⌝ }
+{
+    let exchanging = exchanges(control, r);
+    exchanging & (r.count == 2) & ((second == 0) | ((second & control.group) != 0))
+}
+
+// Global_Control: octet 0 is stored if it differs from the last one, event 8.
+fn storing(mut control: Control, first: u8) -> Control
+    ensures { λ c. ⌜ c ≡ storing control first ⌝ }
+{
+    if first == control.stored {
+        return control;
+    }
+    let events = control.events.raise(Events::CONTROL);
+    control.stored = first;
+    control.events = events;
+    control
+}
+
+// Global_Control: bit 1 publishes zeros.
+fn obeyed(control: Control, first: u8) -> Outcome
+    ensures { λ o. ⌜ o ≡ obeyed control first ⌝ }
+{
+    let mut stored = storing(control, first);
+    if first / 2 % 2 == 1 {
+        let events = stored.events.raise(Events::OUTPUTS);
+        stored.events = events;
+        return Outcome {
+            control: stored,
+            outputs: OutputsDeed::Zeros,
+            parameters: SetDeed::Keep,
+            configuration: SetDeed::Keep,
+            drawn: Drawn::Nothing,
+        };
+    }
+    drawing(stored, Drawn::Nothing)
+}
+
+// Global_Control, DSAP 58, functions 4 and 6.
+pub fn global_control(control: Control, r: Request, first: u8, second: u8) -> Outcome
+    ensures { λ o. ⌜ o ≡ globalControl control r first second ⌝ }
+{
+    if controls(control, r, second) {
+        return obeyed(control, first);
+    }
+    drawing(control, Drawn::Nothing)
+}
+
+// What comes of a service; p are data octets of Set_Prm, first and second those of Global_Control.
+pub fn serve(
+    service: Service,
+    setup: Setup,
+    control: Control,
+    parameters_open: bool,
+    configuration_open: bool,
+    r: Request,
+    p: Prm,
+    first: u8,
+    second: u8,
+) -> Outcome
+    ensures { λ o. ⌜ o ≡ serve service setup control parameters_open configuration_open r p first second ⌝ }
+{
+    match service {
+        Service::Nothing => drawing(control, Drawn::Nothing),
+        Service::Status => drawing(control, Drawn::Status),
+        Service::Reject => drawing(control, Drawn::Rejected),
+        Service::GlobalControl => global_control(control, r, first, second),
+        Service::DataExchange => data_exchange(setup, control, r),
+        Service::SetPrm => set_prm(setup, control, parameters_open, r, p),
+        Service::ChkCfg => chk_cfg(setup, control, configuration_open, r),
+        Service::SlaveDiag => slave_diag(control, r),
+        Service::GetCfg => drawing(control, Drawn::Configuration),
+        Service::ReadInputs => read_inputs(control),
+        Service::ReadOutputs => read_outputs(control),
+    }
+}

@@ -1,1 +1,0 @@
-// The station over its lent memory.
