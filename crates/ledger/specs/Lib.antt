@@ -5,3 +5,8 @@ pub mod Deeds
 pub mod Bus
 pub mod User
 pub mod Calls
+pub mod Exchange
+pub mod History
+pub mod Hearing
+pub mod Script
+pub mod ReadBack

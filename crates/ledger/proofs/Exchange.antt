@@ -1,0 +1,192 @@
+-- A user call and a neighbouring inner octet change places (specs/Exchange.antt), for every list of calls.
+use Prim.Native.Nat.{ℕ}
+use native.Mathlib.Omega.{arith}
+use mathlib.Core.Path.{_≡_, refl, sym, ap, _∙_}
+use mathlib.Core.Bool.{Bool, true, false, cond, not, _&&_}
+use mathlib.Core.List.{List, [], _∷_, _++_}
+use lib.Dec.{leb, eqb}
+use lib.ListN.{getD}
+use Rattle.state.specs.declared.answer.Answer.the-variants.{Value}
+use Rattle.telegram.specs.declared.reader.Status.{Status}
+use Rattle.telegram.specs.declared.reader.Status.the-variants.{Fresh, Inside, Complete, Broken}
+use Rattle.telegram.specs.Reading.{run, received, status}
+use Rattle.telegram.proofs.Run.{no-true, run-snoc}
+use Rattle.telegram.proofs.Framing.{framing}
+use Rattle.state.specs.declared.answer.Refusal.the-variants.{Judging, Range, Absent, Delayed}
+use Rattle.rules.specs.Control.{within}
+use Rattle.rules.specs.Diagnosis.{delayed, diagnosed, delaying}
+use Rattle.rules.specs.Line.{clearOn}
+use Rattle.rules.specs.User.{judgedParameters, judgedConfiguration}
+use Rattle.ledger.specs.Lists.{some, taken, withOutputs}
+use Rattle.ledger.specs.Ledger.{Line, Ledger, withControl, withBuffers, withLine, busy, diagnosisLeaves, parametersOpen, configurationOpen}
+use Rattle.ledger.specs.Deeds.{carried, diagnosisChanged, settle}
+use Rattle.ledger.specs.Bus.{answered, lengthened, heardAs, heard}
+use Rattle.ledger.specs.User.{Told, told, refused, inRange, writable, absent, octetsOfKind, writtenOctet, takeOutputs, readOctet, writeOctet, handOver, newDiagnosis, judgeParameters, judgeConfiguration, acknowledgeEvents, leaveMaster}
+use Rattle.ledger.specs.Calls.{Call, octet, gap, send, tick, take, read, write, hand-over, new-diagnosis, judge-parameters, judge-configuration, events, acknowledge, pending, leave, step, answers, after}
+use Rattle.ledger.specs.Exchange.{Within, Inner, ofUser, Exchanged, Exchange}
+use Rattle.ledger.proofs.Runs.{after-append, answers-append, answers-length}
+use Rattle.ledger.proofs.Settling.{settle-line}
+
+-- ---------------------------------------------------------------------------------------------------
+-- A user call sees of the line only whether it is busy and whether a Slave_Diag reply leaves, and never changes it.
+
+-- what is told, with another line
+abbrev onLine : Line → Told → Told
+onLine n t = record { answer = t .answer; ledger = withLine (t .ledger) n }
+
+module _ (n : Line) where
+  over : (p : Bool) (x y : Told) → cond p (onLine n x) (onLine n y) ≡ onLine n (cond p x y)
+  over true x y = refl
+  over false x y = refl
+
+  over2 : (p q : Bool) (x y z : Told) → cond p (onLine n x) (cond q (onLine n y) (onLine n z)) ≡ onLine n (cond p x (cond q y z))
+  over2 true q x y z = refl
+  over2 false q x y z = over q y z
+
+  over3 : (p q r : Bool) (x y z w : Told)
+      → cond p (onLine n x) (cond q (onLine n y) (cond r (onLine n z) (onLine n w))) ≡ onLine n (cond p x (cond q y (cond r z w)))
+  over3 true q r x y z w = refl
+  over3 false q r x y z w = over2 q r y z w
+
+record Alike (l : Ledger) (n : Line) : Type 0 where
+  busy-is : busy (withLine l n) ≡ busy l
+  leaves-is : diagnosisLeaves (withLine l n) ≡ diagnosisLeaves l
+
+user-on : (l : Ledger) (n : Line) (c : Call) → ofUser c ≡ true → Alike l n → step (withLine l n) c ≡ onLine n (step l c)
+unfolding takeOutputs readOctet writeOctet handOver newDiagnosis judgeParameters judgeConfiguration acknowledgeEvents leaveMaster
+user-on l n (octet b bad) u a = no-true u
+user-on l n gap u a = no-true u
+user-on l n send u a = no-true u
+user-on l n tick u a = no-true u
+user-on l n take u a =
+    over n (not (l .buffers .outputs .fresh)) (told 0 l)
+    (told (cond (l .buffers .outputs .zeros) 2 1) (withBuffers l (withOutputs (l .buffers) (taken (l .buffers .outputs)))))
+user-on l n (read kind index) u a =
+    over2 n (not (inRange (l .setup) kind index)) (absent l kind index) (refused Range l) (refused Absent l)
+    (told (getD (octetsOfKind (l .buffers) kind) index 0) l)
+user-on l n (write kind index x) u a =
+    over2 n (not (writable kind && inRange (l .setup) kind index)) (absent l kind index) (refused Range l) (refused Absent l)
+    (told 0 (withBuffers l (writtenOctet (l .buffers) kind index x)))
+user-on l n hand-over u a = refl
+user-on l n (new-diagnosis count flags) u a =
+    let x : Told = refused Range l in
+    let y : Told = refused Delayed l in
+    let z : Told = told 0 (withControl l (delaying (l .control) count flags)) in
+    let w : Told = told 0 (diagnosisChanged l (diagnosed (l .control) count flags)) in
+    let p : Bool = not (within 6 count (l .setup .«diagnosis_len») && leb flags 7) in
+    ap (λ (t : Bool). cond p (onLine n x) (cond (delayed (l .control)) (onLine n y) (cond t (onLine n z) (onLine n w)))) (a .leaves-is)
+    ∙ over3 n p (delayed (l .control)) (diagnosisLeaves l) x y z w
+user-on l n (judge-parameters j) u a =
+    over2 n (not (parametersOpen l)) (not (leb j 1)) (refused Judging l) (refused Range l)
+    (told (cond (some (l .buffers .parameters .waiting)) 1 0)
+    (carried l (judgedParameters (l .control) (some (l .buffers .parameters .waiting)) (eqb j 1)) []))
+user-on l n (judge-configuration j) u a =
+    over2 n (not (configurationOpen l && l .control .flags .«parameters_good»)) (not (leb j 1)) (refused Judging l) (refused Range l)
+    (told (cond (some (l .buffers .configuration .waiting)) 1 0)
+    (carried l (judgedConfiguration (l .control) (some (l .buffers .configuration .waiting)) (eqb j 1)) []))
+user-on l n events u a = refl
+user-on l n (acknowledge mask) u a = refl
+user-on l n pending u a = refl
+user-on l n leave u a =
+    ap (λ (t : Bool). told 0 (withLine (carried l (clearOn t (l .control)) []) n)) (a .busy-is)
+
+-- so it leaves the line as it was
+keeps-line : (l : Ledger) (c : Call) → ofUser c ≡ true → step l c .ledger .line ≡ l .line
+keeps-line l c u = ap (λ (t : Told). t .ledger .line) (user-on l (l .line) c u (record { busy-is = refl; leaves-is = refl }))
+
+-- ---------------------------------------------------------------------------------------------------
+-- An inner octet only lengthens the telegram octets. Whether it is inner is seen from the line alone.
+
+pub record Lengthens (n : Line) (b : ℕ) (bad : Bool) : Type 0 where
+  pub listens : n .ignored ≡ false
+  pub begins : some (n .telegram) ≡ true
+  pub inside : status (received (run (n .telegram)) b bad) ≡ Inside
+
+-- inside, octets came
+came : (xs : List ℕ) → status (run xs) ≡ Inside → some xs ≡ true
+came [] e = let z : _≡_ {A = ℕ} 0 1 = cc in absurd (omega arith)
+came (x ∷ xs) e = refl
+
+-- with an octet something has begun
+not-fresh : (xs : List ℕ) (b : ℕ) (bad : Bool) → status (received (run xs) b bad) ≡ Fresh → ⊥
+not-fresh xs b true e = let z : _≡_ {A = ℕ} 0 1 = cc in omega arith
+not-fresh xs b false e = none xs (framing (xs ++ b ∷ []) .nothing .0 (ap status (run-snoc xs b) ∙ e))
+  where
+    none : (ys : List ℕ) → ys ++ b ∷ [] ≡ [] → ⊥
+    none [] f = let z : _≡_ {A = ℕ} 0 1 = cc in omega arith
+    none (y ∷ ys) f = let z : _≡_ {A = ℕ} 0 1 = cc in omega arith
+
+-- the last octet and one that breaks off are followed by octets that are ignored
+ignores : (m : Ledger) → settle m .line .ignored ≡ false → m .line .ignored ≡ true → ⊥
+ignores m e f = no-true (sym e ∙ ap (λ (n : Line). n .ignored) (settle-line m) ∙ f)
+
+inner-lengthens : (l : Ledger) (b : ℕ) (bad : Bool) → Inner l b bad → Lengthens (l .line) b bad
+unfolding heard answered
+inner-lengthens l b bad i = record {
+  listens = i .before .listens;
+  begins = came (l .line .telegram) (i .before .inside);
+  inside = go (status (received (run (l .line .telegram)) b bad)) refl (i .behind);
+}
+  where
+    go : (s : Status) → status (received (run (l .line .telegram)) b bad) ≡ s
+        → Within (cond (l .line .ignored) l (heardAs s l b)) → s ≡ Inside
+    go Fresh e w = absurd (not-fresh (l .line .telegram) b bad e)
+    go Inside e w = refl
+    go Complete e w = absurd (ignores _ (rw (i .before .listens) at (w .listens)) refl)
+    go Broken e w = absurd (ignores _ (rw (i .before .listens) at (w .listens)) refl)
+
+pub lengthens-heard : (l : Ledger) (b : ℕ) (bad : Bool) → Lengthens (l .line) b bad → heard l b bad ≡ withLine l (lengthened (l .line) b)
+unfolding heard
+lengthens-heard l b bad x = rw (x .listens, x .inside, x .begins)
+
+-- ---------------------------------------------------------------------------------------------------
+-- The two orders.
+
+still-some : (xs : List ℕ) (b : ℕ) → some (xs ++ b ∷ []) ≡ true
+still-some [] b = refl
+still-some (x ∷ xs) b = refl
+
+module _ (l : Ledger) (b : ℕ) (bad : Bool) (c : Call) (u : ofUser c ≡ true) (x : Lengthens (l .line) b bad) where
+  -- the ledger after both
+  both : Ledger
+  both = withLine (step l c .ledger) (lengthened (l .line) b)
+
+  octet-then-call : step (heard l b bad) c ≡ record { answer = step l c .answer; ledger = both }
+  unfolding both
+  octet-then-call =
+      ap (λ (m : Ledger). step m c) (lengthens-heard l b bad x)
+      ∙ user-on l (lengthened (l .line) b) c u
+      (record { busy-is = rw (x .begins, still-some (l .line .telegram) b); leaves-is = refl })
+
+  call-then-octet : heard (step l c .ledger) b bad ≡ both
+  unfolding both
+  call-then-octet =
+      lengthens-heard (step l c .ledger) b bad (rw (keeps-line l c u) x)
+      ∙ ap (λ (n : Line). withLine (step l c .ledger) (lengthened n b)) (keeps-line l c u)
+
+exchanged : (l : Ledger) (pre post : List Call) (b : ℕ) (bad : Bool) (c : Call) → ofUser c ≡ true
+    → Lengthens (after l pre .line) b bad → Exchanged l pre post b bad c
+exchanged l pre post b bad c u x =
+    let m = after l pre in
+    record {
+      earlier = answers l pre;
+      own = step m c .answer;
+      later = answers (both m b bad c u x) post;
+      earlier-are = answers-length l pre;
+      later-are = answers-length (both m b bad c u x) post;
+      octet-first =
+          answers-append l pre (octet b bad ∷ c ∷ post)
+          ∙ ap (λ (t : Told). answers l pre ++ Value 0 ∷ t .answer ∷ answers (t .ledger) post) (octet-then-call m b bad c u x);
+      call-first =
+          answers-append l pre (c ∷ octet b bad ∷ post)
+          ∙ ap (λ (k : Ledger). answers l pre ++ step m c .answer ∷ Value 0 ∷ answers k post) (call-then-octet m b bad c u x);
+    }
+
+pub exchange : (l : Ledger) (pre post : List Call) (b : ℕ) (bad : Bool) (c : Call) → Exchange l pre post b bad c
+exchange l pre post b bad c = record {
+  inner-first = λ u i. exchanged l pre post b bad c u (inner-lengthens (after l pre) b bad i);
+  inner-second = λ u i.
+      exchanged l pre post b bad c u
+      (rw (keeps-line (after l pre) c u) at
+      (inner-lengthens (step (after l pre) c .ledger) b bad (rw (after-append l pre (c ∷ [])) at i)));
+}

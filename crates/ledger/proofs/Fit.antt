@@ -1,0 +1,332 @@
+-- Every ledger that a list of calls leads to keeps the ranges (specs/ReadBack.antt), so that each reply drawn reads back.
+use Prim.Native.Nat.{ℕ, _≤_, _<_}
+use native.Mathlib.Nat.{mod-lt}
+use native.Mathlib.Omega.{arith}
+use mathlib.Core.Path.{_≡_, refl, ap, _∙_}
+use mathlib.Core.Bool.{Bool, true, false, cond, not, _&&_, _||_}
+use mathlib.Core.List.{List, [], _∷_, _++_, append-assoc}
+use mathlib.Core.Logic.{_⊎_, inl, inr}
+use lib.Dec.{eqb, leb}
+use lib.ListN.{length, getD, length-replicate, length-set}
+use borrow.Author.Tests.{leb-true, eqb-false, not-true}
+use Rattle.telegram.specs.declared.reader.Status.{Status}
+use Rattle.telegram.specs.declared.reader.Status.the-variants.{Fresh, Inside, Complete, Broken}
+use Rattle.telegram.specs.Telegram.{Telegram, kindOf, payloadOf}
+use Rattle.telegram.specs.Reading.{run, received, status}
+use Rattle.telegram.specs.Sending.{startOctet}
+use Rattle.state.specs.declared.setup.Setup.{Setup}
+use Rattle.state.specs.declared.control.Control.{Control}
+use Rattle.state.specs.declared.state.Drawn.the-variants as drawn
+use Rattle.rules.specs.declared.request.Request.{Request}
+use Rattle.rules.specs.declared.outcome.OutputsDeed.{OutputsDeed}
+use Rattle.rules.specs.declared.outcome.OutputsDeed.the-variants as outputs-deed
+use Rattle.rules.specs.declared.outcome.SetDeed.{SetDeed}
+use Rattle.rules.specs.declared.outcome.SetDeed.the-variants as set-deed
+use Rattle.rules.specs.declared.outcome.Outcome.{Outcome}
+use Rattle.rules.specs.Control.{within, bit}
+use Rattle.rules.specs.Requests.{masterOf, toStation, toAll, acts, refilled, serviceOf}
+use Rattle.rules.specs.Diagnosis.{delayed, diagnosed, delaying, caughtUp}
+use Rattle.rules.specs.Line.{clearOn, settled, ticked}
+use Rattle.ledger.specs.Lists.{some, Outputs, taken, Inputs, handedOver, writtenInput, Sets, Diagnoses, exchanged, writtenDiagnosis, Buffers, withOutputs, withInputs, withDiagnoses}
+use Rattle.ledger.specs.Ledger.{Line, Ledger, withLine, begun, busy, diagnosisLeaves, parametersOpen, configurationOpen, fresh}
+use Rattle.ledger.specs.Deeds.{onOutputs, onInputs, onSets, onBuffers, carried, diagnosisChanged, afterReply, settle}
+use Rattle.ledger.specs.Bus.{telegramOn, requestBy, prmBy, outcomeOf, answered, completed, brokenOff, lengthened, beginning, sendLeft, silenced, heardAs, heard, paused, sent, elapsed}
+use Rattle.ledger.specs.User.{handOver, acknowledgeEvents, leaveMaster, writtenOctet}
+use Rattle.ledger.specs.Calls.{Call, octet, gap, send, tick, take, read, write, hand-over, new-diagnosis, judge-parameters, judge-configuration, events, acknowledge, pending, leave, step, after}
+use Rattle.ledger.specs.ReadBack.{Accepted, OutputsFit, InputsFit, SetsFit, DiagnosesFit, ListsFit, CountsFit, Left, Fit, Draws, Fixes, RepliesRead}
+use Rattle.ledger.proofs.Settling.{settle-line}
+use Rattle.ledger.proofs.ByCases.{take-cases, read-cases, write-cases, diagnosis-cases, parameters-cases, configuration-cases}
+use Rattle.ledger.proofs.Hearing.{last-heard}
+use Rattle.ledger.proofs.Lawful.{OutputsLaw, SetLaw, Lawful, and-left, and-right, refilled-counts, serve-lawful, clear-lawful, settled-lawful, ticked-lawful, parameters-lawful, configuration-lawful}
+use Rattle.ledger.proofs.ReadBack.{reply-reads, reply-left}
+
+-- ---------------------------------------------------------------------------------------------------
+-- The lists after an outcome.
+
+outputs-fit : (d : OutputsDeed) (o : Outputs) (s : Setup) (ds : List ℕ) → OutputsLaw d s (length ds) → OutputsFit (s .«output_len») o
+    → OutputsFit (s .«output_len») (onOutputs d o (s .«output_len») ds)
+outputs-fit outputs-deed.Keep o s ds w f = f
+outputs-fit outputs-deed.Publish o s ds w f = record { held = f .held; next = w }
+outputs-fit outputs-deed.Zeros o s ds w f = record { held = f .held; next = length-replicate (s .«output_len») 0 }
+
+inputs-fit : (d : OutputsDeed) (i : Inputs) (n : ℕ) → InputsFit n i → InputsFit n (onInputs d i)
+inputs-fit outputs-deed.Keep i n f = f
+inputs-fit outputs-deed.Publish i n f = go (i .fresh)
+  where
+    go : (t : Bool) → InputsFit n (cond t (record { sending = i .next; next = i .sending; held = i .held; fresh = false }) i)
+    go true = record { sending = f .next; next = f .sending; held = f .held }
+    go false = f
+inputs-fit outputs-deed.Zeros i n f = f
+
+sets-fit : (d : SetDeed) (x : Sets) (n : ℕ) (ds : List ℕ) → SetLaw d n (length ds) → SetsFit n x → SetsFit n (onSets d x ds)
+sets-fit set-deed.Keep x n ds w f = f
+sets-fit set-deed.Receive x n ds w f = go (some (x .shown))
+  where
+    go : (t : Bool) → SetsFit n (cond t (record { shown = x .shown; waiting = ds }) (record { shown = ds; waiting = x .waiting }))
+    go true = record { shown = f .shown; waiting = w }
+    go false = record { shown = w; waiting = f .waiting }
+sets-fit set-deed.Advance x n ds w f = record { shown = f .waiting; waiting = omega arith }
+sets-fit set-deed.Drop x n ds w f = record { shown = omega arith; waiting = omega arith }
+
+lists-fit : (s : Setup) (c : Control) (b : Buffers) (o : Outcome) (ds : List ℕ) → ListsFit s b → Lawful s c (length ds) o
+    → ListsFit s (onBuffers o s ds b)
+lists-fit s c b o ds f w = record {
+  outputs = outputs-fit (o .outputs) (b .outputs) s ds (w .outputs-fit) (f .outputs);
+  inputs = inputs-fit (o .outputs) (b .inputs) (s .«input_len») (f .inputs);
+  parameters = sets-fit (o .parameters) (b .parameters) (s .«parameter_len») ds (w .parameters-fit) (f .parameters);
+  configuration = sets-fit (o .configuration) (b .configuration) (s .«configuration_len») ds (w .configuration-fit) (f .configuration);
+  diagnosis = f .diagnosis;
+}
+
+-- ---------------------------------------------------------------------------------------------------
+-- The ledger after an outcome, with another line, settled.
+
+module _ {l : Ledger} (f : Fit l) where
+  carried-fit : (o : Outcome) (ds : List ℕ) → Lawful (l .setup) (l .control) (length ds) o → Fit (carried l o ds)
+  carried-fit o ds w = record {
+    accepted = f .accepted;
+    lists = lists-fit (l .setup) (l .control) (l .buffers) o ds (f .lists) w;
+    counts = rw (w .counts-stay) (f .counts);
+    reply = f .reply;
+  }
+
+  on-line : (n : Line) → Left (n .reply) → Fit (withLine l n)
+  on-line n w = record { accepted = f .accepted; lists = f .lists; counts = f .counts; reply = w }
+
+  -- other lists and another control part
+  on-lists : (b : Buffers) (c : Control) → ListsFit (l .setup) b → CountsFit (l .setup) (c .diagnosis)
+      → Fit (record { setup = l .setup; slice = l .slice; control = c; buffers = b; line = l .line })
+  on-lists b c x y = record { accepted = f .accepted; lists = x; counts = y; reply = f .reply }
+
+  on-outputs : (o : Outputs) → OutputsFit (l .setup .«output_len») o → ListsFit (l .setup) (withOutputs (l .buffers) o)
+  on-outputs o w = record {
+    outputs = w;
+    inputs = f .lists .inputs;
+    parameters = f .lists .parameters;
+    configuration = f .lists .configuration;
+    diagnosis = f .lists .diagnosis;
+  }
+
+  on-inputs : (i : Inputs) → InputsFit (l .setup .«input_len») i → ListsFit (l .setup) (withInputs (l .buffers) i)
+  on-inputs i w = record {
+    outputs = f .lists .outputs;
+    inputs = w;
+    parameters = f .lists .parameters;
+    configuration = f .lists .configuration;
+    diagnosis = f .lists .diagnosis;
+  }
+
+  on-diagnoses : (d : Diagnoses) → DiagnosesFit (l .setup .«diagnosis_len») d → ListsFit (l .setup) (withDiagnoses (l .buffers) d)
+  on-diagnoses d w = record {
+    outputs = f .lists .outputs;
+    inputs = f .lists .inputs;
+    parameters = f .lists .parameters;
+    configuration = f .lists .configuration;
+    diagnosis = w;
+  }
+
+  -- the two diagnosis lists change
+  changed-fit : (c : Control) → CountsFit (l .setup) (c .diagnosis) → Fit (diagnosisChanged l c)
+  changed-fit c w =
+      on-lists (withDiagnoses (l .buffers) (exchanged (l .buffers .diagnosis))) c
+      (on-diagnoses (exchanged (l .buffers .diagnosis)) (record { own = f .lists .diagnosis .user; user = f .lists .diagnosis .own })) w
+
+  reply-fit : Fit (afterReply l)
+  unfolding afterReply diagnosed
+  reply-fit = go (delayed (l .control) && not (diagnosisLeaves l)) refl
+    where
+      waits : (d : ℕ) → (d ≡ 0) ⊎ ((6 ≤ d) × (d ≤ l .setup .«diagnosis_len»)) → (d ≡ 0 → ⊥) → (6 ≤ d) × (d ≤ l .setup .«diagnosis_len»)
+      waits d (inl z) n = absurd (n z)
+      waits d (inr w) n = w
+
+      go : (t : Bool) → delayed (l .control) && not (diagnosisLeaves l) ≡ t → Fit (cond t (diagnosisChanged l (caughtUp (l .control))) l)
+      go true e =
+          let n = l .control .diagnosis .«delayed_count» in
+          changed-fit (caughtUp (l .control))
+          (record { count = waits n (f .counts .delayed) (eqb-false _ _ (not-true _ (and-left (delayed (l .control)) _ e))); delayed = inl refl })
+      go false e = f
+
+settle-fit : {l : Ledger} → Fit l → Fit (settle l)
+unfolding settle
+settle-fit {l} f = carried-fit (reply-fit f) (settled (busy l) (afterReply l .control)) [] (settled-lawful (afterReply l .setup) (afterReply l .control) (busy l))
+
+-- ---------------------------------------------------------------------------------------------------
+-- A complete telegram.
+
+outcome-lawful : (l : Ledger) (t : Telegram)
+    → Lawful (l .setup) (l .control) (length (payloadOf t)) (outcomeOf l (requestBy t) (payloadOf t))
+outcome-lawful l t =
+    let r = requestBy t in
+    let ds = payloadOf t in
+    let w = serve-lawful (l .setup) (refilled (l .setup) (l .control) r) r (serviceOf (l .setup) r) (parametersOpen l) (configurationOpen l) (prmBy ds) (getD ds 0 0) (getD ds 1 0) in
+    record {
+      counts-stay = w .counts-stay ∙ refilled-counts (l .setup) (l .control) r;
+      outputs-fit = w .outputs-fit;
+      parameters-fit = w .parameters-fit;
+      configuration-fit = w .configuration-fit;
+    }
+
+master-low : (r : Request) → masterOf r < 128
+master-low r = mod-lt (r .sa) (omega arith)
+
+module _ {l : Ledger} (f : Fit l) (t : Telegram) where
+  outcome-fit : Fit (carried l (outcomeOf l (requestBy t) (payloadOf t)) (payloadOf t))
+  outcome-fit = carried-fit f (outcomeOf l (requestBy t) (payloadOf t)) (payloadOf t) (outcome-lawful l t)
+
+  completed-fit : Fit (completed l t)
+  unfolding answered
+  completed-fit =
+      let o = outcomeOf l (requestBy t) (payloadOf t) in
+      let m = carried l o (payloadOf t) in
+      on-line outcome-fit (completed l t .line)
+      (reply-left (l .setup) (l .slice) (o .control) (m .buffers) (masterOf (requestBy t)) (f .accepted) (outcome-fit .lists) (outcome-fit .counts) (master-low (requestBy t)) (o .drawn))
+
+-- the master of a telegram that acts is at most 126
+pub acts-master : (s : Setup) (r : Request) → acts s r ≡ true → masterOf r ≤ 126
+acts-master s r e =
+    let x : Bool = toStation s r || toAll r in
+    let y : Bool = leb (masterOf r) 126 in
+    let z : Bool = not (bit (r .fc) 7) in
+    leb-true (masterOf r) 126 (and-right x y (and-left (x && y) z (and-left (x && y && z) (bit (r .fc) 6) e)))
+
+-- and a telegram that draws something acts
+draws-master : (l : Ledger) (t : Telegram) → ¬ (outcomeOf l (requestBy t) (payloadOf t) .drawn ≡ drawn.Nothing) → masterOf (requestBy t) ≤ 126
+unfolding serviceOf
+draws-master l t n = go (acts (l .setup) (requestBy t)) refl
+  where
+    go : (p : Bool) → acts (l .setup) (requestBy t) ≡ p → masterOf (requestBy t) ≤ 126
+    go true e = acts-master (l .setup) (requestBy t) e
+    go false e = absurd (n (rw e))
+
+-- ---------------------------------------------------------------------------------------------------
+-- Each call.
+
+heard-fit : {l : Ledger} (b : ℕ) (s : Status) → Fit l → Fit (heardAs s l b)
+heard-fit b Fresh f = f
+heard-fit {l} b Inside f = go (begun l)
+  where
+    go : (p : Bool) → Fit (cond p (withLine l (lengthened (l .line) b)) (settle (withLine l (beginning b))))
+    go true = on-line f (lengthened (l .line) b) (f .reply)
+    go false = settle-fit (on-line f (beginning b) (inl refl))
+heard-fit {l} b Complete f = settle-fit (completed-fit f (telegramOn (l .line .telegram ++ b ∷ [])))
+heard-fit {l} b Broken f = settle-fit (on-line f (brokenOff (l .line)) (f .reply))
+
+-- one octet of a reply sent
+sent-left : (n : Line) (xs : List ℕ) → n .reply ≡ xs → Left xs → Left (sendLeft n xs .reply)
+sent-left n [] e w = rw e w
+sent-left n (x ∷ xs) e (inl z) = let k : _≡_ {A = ℕ} 0 1 = cc in absurd (omega arith)
+sent-left n (x ∷ xs) e (inr w) = inr (w .0 ++ x ∷ [], rw (append-assoc (w .0) (x ∷ []) xs) (w .1))
+
+-- an octet written
+written-fit : {l : Ledger} (kind index x : ℕ) → Fit l → ListsFit (l .setup) (writtenOctet (l .buffers) kind index x)
+written-fit {l} kind index x f = go (eqb kind 4)
+  where
+    b : Buffers
+    b = l .buffers
+
+    go : (p : Bool)
+        → ListsFit (l .setup) (cond p (withInputs b (writtenInput (b .inputs) index x)) (withDiagnoses b (writtenDiagnosis (b .diagnosis) index x)))
+    go true =
+        on-inputs f (writtenInput (b .inputs) index x)
+        (record { sending = f .lists .inputs .sending; next = f .lists .inputs .next; held = length-set (b .inputs .held) index x ∙ f .lists .inputs .held })
+    go false =
+        on-diagnoses f (writtenDiagnosis (b .diagnosis) index x)
+        (record { own = f .lists .diagnosis .own; user = length-set (b .diagnosis .user) index x ∙ f .lists .diagnosis .user })
+
+-- a count that new diagnosis takes
+count-in : (n m : ℕ) (p : Bool) → within 6 n m && p ≡ true → (6 ≤ n) × (n ≤ m)
+count-in n m p e =
+    let w = and-left (within 6 n m) p e in
+    (leb-true 6 n (and-left (leb 6 n) (leb n m) w), leb-true n m (and-right (leb 6 n) (leb n m) w))
+
+pub step-fit : (l : Ledger) (c : Call) → Fit l → Fit (step l c .ledger)
+unfolding heard paused sent elapsed handOver acknowledgeEvents leaveMaster diagnosed delaying
+step-fit l (octet b bad) f = go (l .line .ignored)
+  where
+    s : Status
+    s = status (received (run (l .line .telegram)) b bad)
+
+    go : (p : Bool) → Fit (cond p l (heardAs s l b))
+    go true = f
+    go false = heard-fit b s f
+step-fit l gap f =
+    settle-fit (on-line f (record { ignored = false; telegram = []; reply = l .line .reply; diagnosing = l .line .diagnosing }) (f .reply))
+step-fit l send f = settle-fit (on-line f (sendLeft (l .line) (l .line .reply)) (sent-left (l .line) (l .line .reply) refl (f .reply)))
+step-fit l tick f = go (l .control .noted)
+  where
+    go : (p : Bool) → Fit (cond p (settle (withLine l (silenced l))) (carried l (ticked (busy l) (l .control)) []))
+    go true = settle-fit (on-line f (silenced l) (inl refl))
+    go false = carried-fit f (ticked (busy l) (l .control)) [] (ticked-lawful (l .setup) (l .control) (busy l))
+step-fit l take f =
+    take-cases (λ t. Fit (t .ledger)) l (λ _. f)
+    (λ _. on-lists f (withOutputs (l .buffers) (taken (l .buffers .outputs))) (l .control)
+    (on-outputs f (taken (l .buffers .outputs)) (record { held = f .lists .outputs .next; next = f .lists .outputs .held })) (f .counts))
+step-fit l (read kind index) f = read-cases (λ t. Fit (t .ledger)) l kind index (λ _. f) f
+step-fit l (write kind index x) f =
+    write-cases (λ t. Fit (t .ledger)) l kind index x (λ _. f)
+    (on-lists f (writtenOctet (l .buffers) kind index x) (l .control) (written-fit kind index x f) (f .counts))
+step-fit l hand-over f =
+    on-lists f (withInputs (l .buffers) (handedOver (l .buffers .inputs))) (l .control)
+    (on-inputs f (handedOver (l .buffers .inputs))
+    (record { sending = f .lists .inputs .sending; next = f .lists .inputs .held; held = f .lists .inputs .next })) (f .counts)
+step-fit l (new-diagnosis count flags) f =
+    diagnosis-cases (λ t. Fit (t .ledger)) l count flags (λ _. f)
+    (λ e. on-lists f (l .buffers) (delaying (l .control) count flags) (f .lists) (record { count = f .counts .count; delayed = inr (count-in count _ _ e) }))
+    (λ e. changed-fit f _ (record { count = count-in count _ _ e; delayed = inl refl }))
+step-fit l (judge-parameters j) f =
+    parameters-cases (λ t. Fit (t .ledger)) l j (λ _ _. f)
+    (λ _. carried-fit f _ [] (parameters-lawful (l .setup) (l .control) (some (l .buffers .parameters .waiting)) (eqb j 1)))
+step-fit l (judge-configuration j) f =
+    configuration-cases (λ t. Fit (t .ledger)) l j (λ _ _. f)
+    (λ _. carried-fit f _ [] (configuration-lawful (l .setup) (l .control) (some (l .buffers .configuration .waiting)) (eqb j 1)))
+step-fit l events f = f
+step-fit l (acknowledge mask) f = on-lists f (l .buffers) (step l (acknowledge mask) .ledger .control) (f .lists) (f .counts)
+step-fit l pending f = f
+step-fit l leave f = carried-fit f (clearOn (busy l) (l .control)) [] (clear-lawful (l .setup) (l .control) (busy l))
+
+-- ---------------------------------------------------------------------------------------------------
+-- Every list.
+
+fresh-fit : (s : Setup) (slice : List ℕ) → Accepted s slice → Fit (fresh s slice)
+fresh-fit s slice a = record {
+  accepted = a;
+  lists = record {
+    outputs = record { held = length-replicate (s .«output_len») 0; next = length-replicate (s .«output_len») 0 };
+    inputs = record { sending = length-replicate (s .«input_len») 0; next = length-replicate (s .«input_len») 0; held = length-replicate (s .«input_len») 0 };
+    parameters = record { shown = omega arith; waiting = omega arith };
+    configuration = record { shown = omega arith; waiting = omega arith };
+    diagnosis = record { own = length-replicate (s .«diagnosis_len») 0; user = length-replicate (s .«diagnosis_len») 0 };
+  };
+  counts = record { count = (omega arith, a .diagnosis .0); delayed = inl refl };
+  reply = inl refl;
+}
+
+after-fit : (l : Ledger) (cs : List Call) → Fit l → Fit (after l cs)
+after-fit l [] f = f
+after-fit l (c ∷ cs) f = after-fit (step l c .ledger) cs (step-fit l c f)
+
+draws : {l : Ledger} → Fit l → (t : Telegram) → Draws l t
+unfolding answered
+draws {l} f t =
+    let o = outcomeOf l (requestBy t) (payloadOf t) in
+    let g = outcome-fit f t in
+    record {
+      reads-back =
+          reply-reads (l .setup) (l .slice) (o .control) (onBuffers o (l .setup) (payloadOf t) (l .buffers)) (masterOf (requestBy t)) (f .accepted) (g .lists) (g .counts) (master-low (requestBy t)) (o .drawn);
+      master = draws-master l t;
+    }
+
+fixes : (l : Ledger) (b : ℕ) (bad : Bool) → Fixes l b bad
+fixes l b bad i e =
+    ap (λ (m : Ledger). m .line .reply) (last-heard l b bad i e)
+    ∙ ap (λ (n : Line). n .reply) (settle-line (completed l (telegramOn (l .line .telegram ++ b ∷ []))))
+
+pub replies-read : (s : Setup) (slice : List ℕ) (cs : List Call) → Accepted s slice → RepliesRead s slice cs
+replies-read s slice cs a =
+    let f = after-fit (fresh s slice) cs (fresh-fit s slice a) in
+    record {
+      fit = f;
+      fixes = fixes (after (fresh s slice) cs);
+      completes = draws f;
+      heard-whole = λ t. draws (settle-fit (on-line f (beginning (startOctet (kindOf t))) (inl refl))) t;
+    }

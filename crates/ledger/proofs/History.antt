@@ -1,0 +1,189 @@
+-- The outputs read are those of the newest telegram accepted before the latest take, or zeros (specs/History.antt).
+use Prim.Native.Nat.{ℕ, _<_}
+use native.Mathlib.Omega.{arith}
+use mathlib.Core.Path.{_≡_, refl, sym, ap, _∙_}
+use mathlib.Core.Bool.{Bool, true, false, cond}
+use mathlib.Core.List.{List, [], _∷_, _++_}
+use lib.Dec.{eqb, ltb}
+use borrow.Author.Tests.{le-leb, lt-ltb}
+use Rattle.state.specs.declared.setup.Setup.{Setup}
+use Rattle.rules.specs.declared.outcome.OutputsDeed.{OutputsDeed}
+use Rattle.rules.specs.declared.outcome.OutputsDeed.the-variants.{Keep, Publish, Zeros}
+use Rattle.ledger.specs.Lists.{some, Outputs, published, publishedZeros, taken as tookOver, writtenInput, writtenDiagnosis, withInputs, withDiagnoses}
+use Rattle.telegram.specs.declared.reader.Status.{Status}
+use Rattle.telegram.specs.declared.reader.Status.the-variants.{Fresh, Inside, Complete, Broken}
+use Rattle.telegram.specs.Telegram.{payloadOf}
+use Rattle.telegram.specs.Reading.{run, received, status}
+use Rattle.rules.specs.declared.outcome.Outcome.{Outcome}
+use Rattle.rules.specs.Line.{clearOn, settled, ticked}
+use Rattle.rules.specs.User.{judgedParameters, judgedConfiguration}
+use Rattle.ledger.specs.Ledger.{Ledger, withLine, begun, busy, fresh}
+use Rattle.ledger.specs.Deeds.{onOutputs, carried, settle}
+use Rattle.ledger.specs.Bus.{telegramOn, requestBy, outcomeOf, answered, completed, brokenOff, lengthened, beginning, sendLeft, silenced, heardAs, heard, paused, sent, elapsed}
+use Rattle.ledger.specs.User.{readOctet, handOver, acknowledgeEvents, leaveMaster}
+use Rattle.ledger.specs.Calls.{Call, octet, gap, send, tick, take, read, write, hand-over, new-diagnosis, judge-parameters, judge-configuration, events, acknowledge, pending, leave, step, after}
+use Rattle.ledger.proofs.Runs.{answers-append}
+use Rattle.ledger.proofs.Settling.{settle-outputs}
+use Rattle.ledger.proofs.Kept.{step-kept, after-kept}
+use Rattle.ledger.proofs.ByCases.{take-cases, read-cases, write-cases, diagnosis-cases, parameters-cases, configuration-cases}
+use Rattle.ledger.specs.History.{Deed, accepted, zeroed, taken, newest, readable, publishes, clears, heardDeeds, deedsOf, history, OutputsRead}
+
+-- ---------------------------------------------------------------------------------------------------
+-- The outputs as the deeds make them, the newest deed first.
+
+abbrev took : Outputs → Outputs
+took o = cond (o .fresh) (tookOver o) o
+
+abbrev made : ℕ → List Deed → Outputs → Outputs
+made n [] o = o
+made n (accepted ds ∷ h) o = published (made n h o) ds
+made n (zeroed ∷ h) o = publishedZeros (made n h o) n
+made n (taken ∷ h) o = took (made n h o)
+
+made-append : (n : ℕ) (g h : List Deed) (o : Outputs) → made n (g ++ h) o ≡ made n g (made n h o)
+made-append n [] h o = refl
+made-append n (accepted ds ∷ g) h o = ap (λ (q : Outputs). published q ds) (made-append n g h o)
+made-append n (zeroed ∷ g) h o = ap (λ (q : Outputs). publishedZeros q n) (made-append n g h o)
+made-append n (taken ∷ g) h o = ap took (made-append n g h o)
+
+-- as the ledger makes them by an outcome
+made-one : (n : ℕ) (d : OutputsDeed) (ds : List ℕ) (o : Outputs) → made n (publishes d ds) o ≡ onOutputs d o n ds
+made-one n Keep ds o = refl
+made-one n Publish ds o = refl
+made-one n Zeros ds o = refl
+
+-- made from zeros, what is held is readable, and what is next or, with nothing new, held is the newest
+record Shows (n : ℕ) (o : Outputs) (h : List Deed) : Type 0 where
+  holds : o .held ≡ readable n h
+  brings : cond (o .fresh) (o .next) (o .held) ≡ newest n h
+
+made-shows : (n : ℕ) (h : List Deed) (o : Outputs) → Shows n o [] → Shows n (made n h o) h
+made-shows n [] o s = s
+made-shows n (accepted ds ∷ h) o s = record { holds = made-shows n h o s .holds; brings = refl }
+made-shows n (zeroed ∷ h) o s = record { holds = made-shows n h o s .holds; brings = refl }
+made-shows n (taken ∷ h) o s =
+    let q = made n h o in go (q .held) (q .next) (q .fresh) (q .zeros) (made-shows n h o s)
+  where
+    go : (x y : List ℕ) (t z : Bool) → Shows n (record { held = x; next = y; fresh = t; zeros = z }) h
+        → Shows n (took (record { held = x; next = y; fresh = t; zeros = z })) (taken ∷ h)
+    go x y true z w = record { holds = w .brings; brings = w .brings }
+    go x y false z w = record { holds = w .brings; brings = w .brings }
+
+-- ---------------------------------------------------------------------------------------------------
+-- Each call makes of the outputs what its deeds say.
+
+-- where the line settles behind a change that left the outputs to a deed
+settles : (m : Ledger) (h : List Deed) (o : Outputs) → m .buffers .outputs ≡ made (m .setup .«output_len») h o
+    → settle m .buffers .outputs ≡ made (m .setup .«output_len») (clears m ++ h) o
+settles m h o e =
+    let n = m .setup .«output_len» in
+    settle-outputs m
+    ∙ ap (λ (q : Outputs). onOutputs (settled (busy m) (m .control) .outputs) q n []) e
+    ∙ sym (made-append n (clears m) h o ∙ made-one n (settled (busy m) (m .control) .outputs) [] (made n h o))
+
+settles-one : (m : Ledger) → settle m .buffers .outputs ≡ made (m .setup .«output_len») (clears m) (m .buffers .outputs)
+settles-one m = settle-outputs m ∙ sym (made-one (m .setup .«output_len») (settled (busy m) (m .control) .outputs) [] (m .buffers .outputs))
+
+-- a beginning leaves the line busy
+begins : (l : Ledger) (b : ℕ) → settle (withLine l (beginning b)) .buffers .outputs ≡ l .buffers .outputs
+begins l b = settle-outputs (withLine l (beginning b)) ∙ go (l .control .noted) refl
+  where
+    go : (t : Bool) → l .control .noted ≡ t
+        → onOutputs (settled true (l .control) .outputs) (l .buffers .outputs) (l .setup .«output_len») [] ≡ l .buffers .outputs
+    go true e = rw e
+    go false e = rw e
+
+Made : Ledger → List Deed → Ledger → Type 0
+Made l h m = m .buffers .outputs ≡ made (l .setup .«output_len») h (l .buffers .outputs)
+
+heard-made : (l : Ledger) (b : ℕ) (s : Status) → Made l (heardDeeds s l b) (heardAs s l b)
+unfolding Made answered
+heard-made l b Fresh = refl
+heard-made l b Inside = go (begun l)
+  where
+    go : (t : Bool) → cond t (withLine l (lengthened (l .line) b)) (settle (withLine l (beginning b))) .buffers .outputs ≡ l .buffers .outputs
+    go true = refl
+    go false = begins l b
+heard-made l b Complete =
+    let t = telegramOn (l .line .telegram ++ b ∷ []) in
+    let o = outcomeOf l (requestBy t) (payloadOf t) in
+    settles (completed l t) (publishes (o .outputs) (payloadOf t)) (l .buffers .outputs)
+    (sym (made-one (l .setup .«output_len») (o .outputs) (payloadOf t) (l .buffers .outputs)))
+heard-made l b Broken = settles-one (withLine l (brokenOff (l .line)))
+
+step-made : (l : Ledger) (c : Call) → Made l (deedsOf l c) (step l c .ledger)
+unfolding Made heard paused sent elapsed handOver acknowledgeEvents leaveMaster
+step-made l (octet b bad) = go (l .line .ignored)
+  where
+    s : Status
+    s = status (received (run (l .line .telegram)) b bad)
+
+    go : (t : Bool) → Made l (cond t [] (heardDeeds s l b)) (cond t l (heardAs s l b))
+    go true = refl
+    go false = heard-made l b s
+step-made l gap = settles-one (withLine l (record { ignored = false; telegram = []; reply = l .line .reply; diagnosing = l .line .diagnosing }))
+step-made l send = settles-one (withLine l (sendLeft (l .line) (l .line .reply)))
+step-made l tick = go (l .control .noted)
+  where
+    o : Outcome
+    o = ticked (busy l) (l .control)
+
+    go : (t : Bool) → Made l (cond t (clears (withLine l (silenced l))) (publishes (o .outputs) [])) (cond t (settle (withLine l (silenced l))) (carried l o []))
+    go true = settles-one (withLine l (silenced l))
+    go false = sym (made-one (l .setup .«output_len») (o .outputs) [] (l .buffers .outputs))
+step-made l take = take-cases (λ t. Made l (taken ∷ []) (t .ledger)) l (λ e. rw e) (λ e. rw e)
+step-made l (read kind index) = read-cases (λ t. Made l [] (t .ledger)) l kind index (λ _. refl) refl
+step-made l (write kind index x) = write-cases (λ t. Made l [] (t .ledger)) l kind index x (λ _. refl) (wrote (eqb kind 4))
+  where
+    wrote : (t : Bool)
+        → cond t (withInputs (l .buffers) (writtenInput (l .buffers .inputs) index x)) (withDiagnoses (l .buffers) (writtenDiagnosis (l .buffers .diagnosis) index x)) .outputs
+        ≡ l .buffers .outputs
+    wrote true = refl
+    wrote false = refl
+step-made l hand-over = refl
+step-made l (new-diagnosis count flags) =
+    diagnosis-cases (λ t. Made l [] (t .ledger)) l count flags (λ _. refl) (λ _. refl) (λ _. refl)
+step-made l (judge-parameters j) =
+    parameters-cases (λ t. Made l (deedsOf l (judge-parameters j)) (t .ledger)) l j (λ e _. rw e)
+    (λ e. rw e (sym (made-one (l .setup .«output_len») (judgedParameters (l .control) (some (l .buffers .parameters .waiting)) (eqb j 1) .outputs) [] (l .buffers .outputs))))
+step-made l (judge-configuration j) =
+    configuration-cases (λ t. Made l (deedsOf l (judge-configuration j)) (t .ledger)) l j (λ e _. rw e)
+    (λ e. rw e (sym (made-one (l .setup .«output_len») (judgedConfiguration (l .control) (some (l .buffers .configuration .waiting)) (eqb j 1) .outputs) [] (l .buffers .outputs))))
+step-made l events = refl
+step-made l (acknowledge mask) = refl
+step-made l pending = refl
+step-made l leave = sym (made-one (l .setup .«output_len») (clearOn (busy l) (l .control) .outputs) [] (l .buffers .outputs))
+
+-- ---------------------------------------------------------------------------------------------------
+-- So do whole lists.
+
+after-made : (l : Ledger) (cs : List Call) → Made l (history l cs) (after l cs)
+unfolding Made
+after-made l [] = refl
+after-made l (c ∷ cs) =
+    let m = step l c .ledger in
+    let n = l .setup .«output_len» in
+    after-made m cs
+    ∙ ap (λ (s : Setup). made (s .«output_len») (history m cs) (m .buffers .outputs)) (step-kept l c .0)
+    ∙ ap (made n (history m cs)) (step-made l c)
+    ∙ sym (made-append n (history m cs) (deedsOf l c) (l .buffers .outputs))
+
+module _ (s : Setup) (slice : List ℕ) (cs : List Call) where
+  held-readable : after (fresh s slice) cs .buffers .outputs .held ≡ readable (s .«output_len») (history (fresh s slice) cs)
+  unfolding Made
+  held-readable =
+      let l = fresh s slice in
+      ap (λ (o : Outputs). o .held) (after-made l cs)
+      ∙ made-shows (s .«output_len») (history l cs) (l .buffers .outputs) (record { holds = refl; brings = refl }) .holds
+
+  in-range : (index : ℕ) → index < s .«output_len» → ltb index (after (fresh s slice) cs .setup .«output_len») ≡ true
+  in-range index i =
+      ap (λ (t : Setup). ltb index (t .«output_len»)) (after-kept (fresh s slice) cs .0) ∙ lt-ltb index (s .«output_len») i
+
+  pub outputs-read : (index : ℕ) (rest : List Call) → OutputsRead s slice cs index rest
+  unfolding readOctet
+  outputs-read index rest = record {
+    answers-are = λ i.
+        answers-append (fresh s slice) cs (read 1 index ∷ rest)
+        ∙ rw (in-range index i, le-leb 0 index (omega arith), held-readable);
+  }

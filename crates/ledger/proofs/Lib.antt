@@ -1,0 +1,14 @@
+pub mod Runs
+pub mod Settling
+pub mod ByCases
+pub mod Kept
+pub mod Exchange
+pub mod History
+pub mod Hearing
+pub mod Lawful
+pub mod ReadBack
+pub mod Fit
+pub mod Scripts
+mod Computing
+pub mod Bench
+mod Cases

@@ -1,0 +1,56 @@
+-- A user call and a neighbouring inner octet change places: what demand 3 promises of every answer.
+use Prim.Native.Nat.{ℕ}
+use mathlib.Core.Path.{_≡_}
+use mathlib.Core.Bool.{Bool, true, false}
+use mathlib.Core.List.{List, [], _∷_, _++_}
+use lib.ListN.{length}
+use Rattle.state.specs.declared.answer.Answer.{Answer}
+use Rattle.state.specs.declared.answer.Answer.the-variants.{Value}
+use Rattle.telegram.specs.declared.reader.Status.the-variants.{Inside}
+use Rattle.telegram.specs.Reading.{run, status}
+use Rattle.ledger.specs.Ledger.{Ledger}
+use Rattle.ledger.specs.Bus.{heard}
+use Rattle.ledger.specs.Calls.{Call, octet, gap, send, tick, take, read, write, hand-over, new-diagnosis, judge-parameters, judge-configuration, events, acknowledge, pending, leave, answers, after}
+
+-- a telegram is begun, unfinished and not broken off
+pub record Within (l : Ledger) : Type 0 where
+  pub listens : l .line .ignored ≡ false
+  pub inside : status (run (l .line .telegram)) ≡ Inside
+
+-- an octet is inner if that is so both before and after it
+pub record Inner (l : Ledger) (b : ℕ) (bad : Bool) : Type 0 where
+  pub before : Within l
+  pub behind : Within (heard l b bad)
+
+-- a user call; the others are the bus's
+abbrev pub ofUser : Call → Bool
+ofUser (octet b bad) = false
+ofUser gap = false
+ofUser send = false
+ofUser tick = false
+ofUser take = true
+ofUser (read kind index) = true
+ofUser (write kind index x) = true
+ofUser hand-over = true
+ofUser (new-diagnosis count flags) = true
+ofUser (judge-parameters j) = true
+ofUser (judge-configuration j) = true
+ofUser events = true
+ofUser (acknowledge mask) = true
+ofUser pending = true
+ofUser leave = true
+
+-- every call keeps its answer, whichever of an octet and a call c comes first between the calls pre and post
+pub record Exchanged (l : Ledger) (pre post : List Call) (b : ℕ) (bad : Bool) (c : Call) : Type 0 where
+  pub earlier : List Answer
+  pub own : Answer
+  pub later : List Answer
+  pub earlier-are : length earlier ≡ length pre
+  pub later-are : length later ≡ length post
+  pub octet-first : answers l (pre ++ octet b bad ∷ c ∷ post) ≡ earlier ++ Value 0 ∷ own ∷ later
+  pub call-first : answers l (pre ++ c ∷ octet b bad ∷ post) ≡ earlier ++ own ∷ Value 0 ∷ later
+
+-- and that for a user call, where the octet is inner before the call or is inner after it
+pub record Exchange (l : Ledger) (pre post : List Call) (b : ℕ) (bad : Bool) (c : Call) : Type 0 where
+  pub inner-first : ofUser c ≡ true → Inner (after l pre) b bad → Exchanged l pre post b bad c
+  pub inner-second : ofUser c ≡ true → Inner (after l (pre ++ c ∷ [])) b bad → Exchanged l pre post b bad c

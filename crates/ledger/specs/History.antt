@@ -1,0 +1,98 @@
+-- What became of the outputs, told by the telegrams and takes alone, and what a read of them answers (demand 3).
+use Prim.Native.Nat.{ℕ, _<_}
+use mathlib.Core.Path.{_≡_}
+use mathlib.Core.Bool.{cond, _&&_}
+use mathlib.Core.List.{List, [], _∷_, _++_}
+use lib.Dec.{eqb, leb}
+use lib.ListN.{replicate, getD}
+use Rattle.state.specs.declared.setup.Setup.{Setup}
+use Rattle.state.specs.declared.answer.Answer.the-variants.{Value}
+use Rattle.telegram.specs.declared.reader.Status.{Status}
+use Rattle.telegram.specs.declared.reader.Status.the-variants.{Fresh, Inside, Complete, Broken}
+use Rattle.telegram.specs.Telegram.{Telegram, payloadOf}
+use Rattle.telegram.specs.Reading.{run, received, status}
+use Rattle.rules.specs.declared.outcome.OutputsDeed.{OutputsDeed}
+use Rattle.rules.specs.declared.outcome.OutputsDeed.the-variants.{Keep, Publish, Zeros}
+use Rattle.rules.specs.Line.{clearOn, settled, ticked}
+use Rattle.rules.specs.User.{judgedParameters, judgedConfiguration}
+use Rattle.ledger.specs.Lists.{some}
+use Rattle.ledger.specs.Ledger.{Ledger, withLine, busy, parametersOpen, configurationOpen, fresh}
+use Rattle.ledger.specs.Bus.{telegramOn, requestBy, outcomeOf, completed, brokenOff, sendLeft, silenced}
+use Rattle.ledger.specs.Calls.{Call, octet, gap, send, tick, take, read, write, hand-over, new-diagnosis, judge-parameters, judge-configuration, events, acknowledge, pending, leave, step, answers, after}
+
+-- a Data_Exchange was accepted with these data octets; zeros were published by the station; the user took outputs
+pub data Deed : Type 0 where
+  accepted : (ds : List ℕ) → Deed
+  zeroed : Deed
+  taken : Deed
+
+-- the octets published last, n zeros if none were
+abbrev pub newest : ℕ → List Deed → List ℕ
+newest n [] = replicate n 0
+newest n (accepted ds ∷ earlier) = ds
+newest n (zeroed ∷ earlier) = replicate n 0
+newest n (taken ∷ earlier) = newest n earlier
+
+-- what can be read after these deeds, the newest first: the octets published last before the latest take
+abbrev pub readable : ℕ → List Deed → List ℕ
+readable n [] = replicate n 0
+readable n (accepted ds ∷ earlier) = readable n earlier
+readable n (zeroed ∷ earlier) = readable n earlier
+readable n (taken ∷ earlier) = newest n earlier
+
+-- what an outcome of the rules publishes; ds is the data received
+abbrev pub publishes : OutputsDeed → List ℕ → List Deed
+publishes Keep ds = []
+publishes Publish ds = accepted ds ∷ []
+publishes Zeros ds = zeroed ∷ []
+
+-- a noted clear that is carried out because the line is idle
+abbrev pub clears : Ledger → List Deed
+clears l = publishes (settled (busy l) (l .control) .outputs) []
+
+-- a complete telegram: what comes of it by the rules, and then such a clear
+abbrev pub telegramDeeds : Ledger → Telegram → List Deed
+telegramDeeds l t = clears (completed l t) ++ publishes (outcomeOf l (requestBy t) (payloadOf t) .outputs) (payloadOf t)
+
+-- an octet, by what the octets are with this one
+abbrev pub heardDeeds : Status → Ledger → ℕ → List Deed
+heardDeeds Fresh l b = []
+heardDeeds Inside l b = []
+heardDeeds Complete l b = telegramDeeds l (telegramOn (l .line .telegram ++ b ∷ []))
+heardDeeds Broken l b = clears (withLine l (brokenOff (l .line)))
+
+-- the deeds of one call, the newest first; a refused judgement has none
+abbrev pub deedsOf : Ledger → Call → List Deed
+deedsOf l (octet b bad) = cond (l .line .ignored) [] (heardDeeds (status (received (run (l .line .telegram)) b bad)) l b)
+deedsOf l gap = clears (withLine l (brokenOff (l .line)))
+deedsOf l send = clears (withLine l (sendLeft (l .line) (l .line .reply)))
+deedsOf l tick = cond (l .control .noted) (clears (withLine l (silenced l))) (publishes (ticked (busy l) (l .control) .outputs) [])
+deedsOf l take = taken ∷ []
+deedsOf l (read kind index) = []
+deedsOf l (write kind index x) = []
+deedsOf l hand-over = []
+deedsOf l (new-diagnosis count flags) = []
+deedsOf l (judge-parameters j) =
+    cond (parametersOpen l && leb j 1)
+    (publishes (judgedParameters (l .control) (some (l .buffers .parameters .waiting)) (eqb j 1) .outputs) [])
+    []
+deedsOf l (judge-configuration j) =
+    cond (configurationOpen l && l .control .flags .«parameters_good» && leb j 1)
+    (publishes (judgedConfiguration (l .control) (some (l .buffers .configuration .waiting)) (eqb j 1) .outputs) [])
+    []
+deedsOf l events = []
+deedsOf l (acknowledge mask) = []
+deedsOf l pending = []
+deedsOf l leave = publishes (clearOn (busy l) (l .control) .outputs) []
+
+-- the deeds of a list of calls, the newest first
+abbrev pub history : Ledger → List Call → List Deed
+history l [] = []
+history l (c ∷ cs) = history (step l c .ledger) cs ++ deedsOf l c
+
+-- after every list of calls the outputs read are those of the newest telegram accepted before the latest take, or zeros
+pub record OutputsRead (s : Setup) (slice : List ℕ) (cs : List Call) (index : ℕ) (rest : List Call) : Type 0 where
+  pub answers-are : index < s .«output_len»
+      → answers (fresh s slice) (cs ++ read 1 index ∷ rest)
+      ≡ answers (fresh s slice) cs
+      ++ Value (getD (readable (s .«output_len») (history (fresh s slice) cs)) index 0) ∷ answers (after (fresh s slice) cs) rest

@@ -1,0 +1,150 @@
+-- Every reply but E5 is a telegram with the fields that the rules gave, and what every ledger keeps for that (demand 2).
+use Prim.Native.Nat.{ℕ, _+_, _≤_}
+use mathlib.Core.Path.{_≡_}
+use mathlib.Core.Bool.{Bool, true, false}
+use mathlib.Core.List.{List, [], _∷_, _++_}
+use mathlib.Core.Logic.{_⊎_}
+use lib.ListN.{length}
+use Rattle.telegram.specs.declared.reader.Status.the-variants.{Complete}
+use Rattle.telegram.specs.Telegram.{Telegram, sd1, sd2, kindOf, octetsOf, payloadOf, Valid, IsTelegram}
+use Rattle.telegram.specs.Reading.{start, run, received, status, gathered, finished, telegramOf}
+use Rattle.telegram.specs.Sending.{startOctet}
+use Rattle.state.specs.declared.setup.Setup.{Setup}
+use Rattle.state.specs.declared.control.Diagnosis.{Diagnosis as DiagnosisCounts}
+use Rattle.state.specs.declared.control.Control.{Control}
+use Rattle.state.specs.declared.state.Drawn.{Drawn}
+use Rattle.state.specs.declared.state.Drawn.the-variants as drawn
+use Rattle.rules.specs.Requests.{masterOf}
+use Rattle.ledger.specs.Lists.{Outputs, Inputs, Sets, Diagnoses, Buffers}
+use Rattle.ledger.specs.Ledger.{Ledger, fresh}
+use Rattle.ledger.specs.Deeds.{onBuffers}
+use Rattle.ledger.specs.Replies.{diagnosisOctets, exchangeFc}
+use Rattle.ledger.specs.Bus.{telegramOn, requestBy, outcomeOf, completed, heard}
+use Rattle.ledger.specs.Calls.{Call, after}
+use Rattle.ledger.specs.Hearing.{begunBy}
+
+-- The ranges --------------------------------------------------------------------------------------
+
+-- low and high included
+abbrev pub Between : ℕ → ℕ → ℕ → Type 0
+Between low x high = (low ≤ x) × (x ≤ high)
+
+-- what Start takes
+pub record Accepted (s : Setup) (slice : List ℕ) : Type 0 where
+  pub address : s .address ≤ 126
+  pub outputs : Between 1 (s .«output_len») 244
+  pub inputs : Between 1 (s .«input_len») 244
+  pub parameters : Between 7 (s .«parameter_len») 244
+  pub configuration : Between 1 (s .«configuration_len») 244
+  pub diagnosis : Between 6 (s .«diagnosis_len») 244
+  pub get-cfg : Between 1 (s .«get_cfg_len») 244
+  pub slice-is : length slice ≡ s .«get_cfg_len»
+
+-- the lists are as long as their buffers
+pub record OutputsFit (n : ℕ) (o : Outputs) : Type 0 where
+  pub held : length (o .held) ≡ n
+  pub next : length (o .next) ≡ n
+
+pub record InputsFit (n : ℕ) (i : Inputs) : Type 0 where
+  pub sending : length (i .sending) ≡ n
+  pub next : length (i .next) ≡ n
+  pub held : length (i .held) ≡ n
+
+pub record DiagnosesFit (n : ℕ) (d : Diagnoses) : Type 0 where
+  pub own : length (d .own) ≡ n
+  pub user : length (d .user) ≡ n
+
+-- and the sets no longer than theirs
+pub record SetsFit (n : ℕ) (x : Sets) : Type 0 where
+  pub shown : length (x .shown) ≤ n
+  pub waiting : length (x .waiting) ≤ n
+
+-- all of them
+pub record ListsFit (s : Setup) (b : Buffers) : Type 0 where
+  pub outputs : OutputsFit (s .«output_len») (b .outputs)
+  pub inputs : InputsFit (s .«input_len») (b .inputs)
+  pub parameters : SetsFit (s .«parameter_len») (b .parameters)
+  pub configuration : SetsFit (s .«configuration_len») (b .configuration)
+  pub diagnosis : DiagnosesFit (s .«diagnosis_len») (b .diagnosis)
+
+-- diagnosis has 6 octets to the set length, and so has one that is delayed
+pub record CountsFit (s : Setup) (d : DiagnosisCounts) : Type 0 where
+  pub count : Between 6 (d .count) (s .«diagnosis_len»)
+  pub delayed : (d .«delayed_count» ≡ 0) ⊎ Between 6 (d .«delayed_count») (s .«diagnosis_len»)
+
+-- a reply is E5 or a telegram
+abbrev pub Reply : List ℕ → Type 0
+Reply xs = (xs ≡ 0xE5 ∷ []) ⊎ IsTelegram xs
+
+-- the octets left of a reply: none, or those behind the ones that were sent
+abbrev pub Left : List ℕ → Type 0
+Left xs = (xs ≡ []) ⊎ ((sent : List ℕ) × Reply (sent ++ xs))
+
+-- what every ledger keeps
+pub record Fit (l : Ledger) : Type 0 where
+  pub accepted : Accepted (l .setup) (l .slice)
+  pub lists : ListsFit (l .setup) (l .buffers)
+  pub counts : CountsFit (l .setup) (l .control .diagnosis)
+  pub reply : Left (l .line .reply)
+
+-- The telegram that a reply is ----------------------------------------------------------------------
+
+-- neither nothing nor E5 is drawn
+abbrev pub drawsTelegram : Drawn → Bool
+drawsTelegram drawn.Nothing = false
+drawsTelegram drawn.Acknowledge = false
+drawsTelegram drawn.Status = true
+drawsTelegram drawn.Rejected = true
+drawsTelegram drawn.Exchange = true
+drawsTelegram drawn.Inputs = true
+drawsTelegram drawn.Outputs = true
+drawsTelegram drawn.Configuration = true
+drawsTelegram drawn.Diagnosis = true
+
+-- to the master, from this station; bit 7 in both addresses, 3E, DSAP, then the data
+abbrev pub serviceTelegram : Setup → ℕ → ℕ → List ℕ → Telegram
+serviceTelegram s master point ds = sd2 (master + 128) (s .address + 128) 0x08 (0x3E ∷ point ∷ ds)
+
+-- the telegram drawn, by its fields DA, SA, FC and data; there is none for nothing and for E5, where this is not looked at
+abbrev pub replyTelegram : Drawn → Setup → List ℕ → Control → Buffers → ℕ → Telegram
+replyTelegram drawn.Nothing s slice c b master = sd1 master (s .address) 0x00
+replyTelegram drawn.Acknowledge s slice c b master = sd1 master (s .address) 0x00
+replyTelegram drawn.Status s slice c b master = sd1 master (s .address) 0x00
+replyTelegram drawn.Rejected s slice c b master = sd1 master (s .address) 0x03
+replyTelegram drawn.Exchange s slice c b master = sd2 master (s .address) (exchangeFc c) (b .inputs .sending)
+replyTelegram drawn.Inputs s slice c b master = serviceTelegram s master 56 (b .inputs .sending)
+replyTelegram drawn.Outputs s slice c b master = serviceTelegram s master 57 (b .outputs .held)
+replyTelegram drawn.Configuration s slice c b master = serviceTelegram s master 59 slice
+replyTelegram drawn.Diagnosis s slice c b master = serviceTelegram s master 60 (diagnosisOctets s c (b .diagnosis .own))
+
+-- the telegram that a complete telegram t draws
+abbrev pub drawnBy : Ledger → Telegram → Telegram
+drawnBy l t =
+    let o = outcomeOf l (requestBy t) (payloadOf t) in
+    replyTelegram (o .drawn) (l .setup) (l .slice) (o .control) (onBuffers o (l .setup) (payloadOf t) (l .buffers)) (masterOf (requestBy t))
+
+-- these octets are that telegram, and reading them gives it back with all its fields
+pub record ReadsBack (xs : List ℕ) (t : Telegram) : Type 0 where
+  pub octets-are : octetsOf t ≡ xs
+  pub valid : Valid t
+  pub fields-are : run xs ≡ finished t
+  pub data-are : gathered start xs ≡ payloadOf t
+  pub telegram-is : telegramOf (run xs) (gathered start xs) ≡ t
+
+-- of the reply that a complete telegram t fixes: a telegram drawn reads back, and who is answered has a master's address
+pub record Draws (l : Ledger) (t : Telegram) : Type 0 where
+  pub reads-back : drawsTelegram (outcomeOf l (requestBy t) (payloadOf t) .drawn) ≡ true → ReadsBack (completed l t .line .reply) (drawnBy l t)
+  pub master : ¬ (outcomeOf l (requestBy t) (payloadOf t) .drawn ≡ drawn.Nothing) → masterOf (requestBy t) ≤ 126
+
+-- a last octet fixes the reply whole
+abbrev pub Fixes : Ledger → ℕ → Bool → Type 0
+Fixes l b bad =
+    l .line .ignored ≡ false → status (received (run (l .line .telegram)) b bad) ≡ Complete
+    → heard l b bad .line .reply ≡ completed l (telegramOn (l .line .telegram ++ b ∷ [])) .line .reply
+
+-- after every list of calls the ranges are kept, so that what completes next, or is heard whole next, draws what reads back
+pub record RepliesRead (s : Setup) (slice : List ℕ) (cs : List Call) : Type 0 where
+  pub fit : Fit (after (fresh s slice) cs)
+  pub fixes : (b : ℕ) (bad : Bool) → Fixes (after (fresh s slice) cs) b bad
+  pub completes : (t : Telegram) → Draws (after (fresh s slice) cs) t
+  pub heard-whole : (t : Telegram) → Draws (begunBy (after (fresh s slice) cs) (startOctet (kindOf t))) t
