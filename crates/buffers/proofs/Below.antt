@@ -1,4 +1,4 @@
--- What holds of each number below k, one by one, holds of every number below k. Assumes nothing.
+-- What holds of each number below k, one by one, holds of every number below k.
 use Prim.Native.Nat.{ℕ, zero, suc, _<_}
 use native.Mathlib.Nat.{not-suc-le-zero, le-of-suc-le-suc}
 

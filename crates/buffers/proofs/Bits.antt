@@ -1,4 +1,4 @@
--- The bits of a word after the operations on words, at every width. Assumes nothing.
+-- The bits of a word after the operations on words, at every width.
 use Prim.Native.Nat.{ℕ, zero, suc, _/_, _%_, _^_, _≤_, _<_}
 use native.Mathlib.Nat.{mod-lt, zero-lt-suc, div-one, zero-div, div-eq-of-lt, div-div-eq-div-mul, div-lt-iff-lt-mul, mul-div-mul-right, mul-mod-left, pow-suc, pow-succ', lt-of-lt-of-le, lt-of-le-of-lt, le-refl, not-suc-le-zero, le-of-suc-le-suc}
 use native.Mathlib.Omega.{arith}

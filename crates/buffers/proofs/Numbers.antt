@@ -1,4 +1,4 @@
--- The number of a permutation, and back. Assumes nothing.
+-- The number of a permutation, and back.
 use Prim.Native.Nat.{ℕ, _<_, _≤_}
 use native.Mathlib.Omega.{arith}
 use mathlib.Core.Path.{_≡_, refl, sym, subst}

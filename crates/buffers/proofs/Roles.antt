@@ -1,4 +1,4 @@
--- The operations of a set of three: it stays a permutation, and which places changed. Assumes nothing.
+-- The operations of a set of three: it stays a permutation, and which places changed.
 use Prim.Native.Nat.{ℕ, _<_}
 use native.Mathlib.Omega.{arith}
 use mathlib.Core.Path.{_≡_, refl}

@@ -1,4 +1,4 @@
--- The event word after its operations, event by event, and what is pending. Assumes nothing.
+-- The event word after its operations, event by event, and what is pending.
 use Prim.Native.Nat.{ℕ, zero, suc, _^_, _<_}
 use native.Mathlib.Omega.{arith}
 use mathlib.Core.Path.{_≡_, refl, ap, _∙_}

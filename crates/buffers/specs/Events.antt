@@ -1,4 +1,4 @@
--- The event word, a bit for each event. Assumes nothing.
+-- The event word, a bit for each event.
 use Prim.Native.Nat.{ℕ, _/_, _%_, _^_}
 use mathlib.Core.Bool.{Bool, cond}
 use lib.Dec.{eqb, ltb}

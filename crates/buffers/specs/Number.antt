@@ -1,4 +1,4 @@
--- The roles of a set of three as one number, 0 to 5. Assumes nothing.
+-- The roles of a set of three as one number, 0 to 5.
 use Prim.Native.Nat.{ℕ, _+_, _*_, _%_}
 use mathlib.Core.Bool.{Bool, cond}
 use mathlib.Core.List.{List, [], _∷_}

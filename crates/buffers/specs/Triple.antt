@@ -1,4 +1,4 @@
--- A set of three has the roles fill, next, held, always a permutation. Assumes nothing.
+-- A set of three has the roles fill, next, held, always a permutation.
 use Prim.Native.Nat.{ℕ, _<_}
 use mathlib.Core.Path.{_≡_}
 use mathlib.Core.Bool.{true, false, cond}

@@ -13,7 +13,7 @@ use Rattle.telegram.specs.Reading.{run, received, status}
 use Rattle.telegram.proofs.Run.{no-true, run-snoc}
 use Rattle.telegram.proofs.Framing.{framing}
 use Rattle.state.specs.declared.answer.Refusal.the-variants.{Judging, Range, Absent, Delayed}
-use Rattle.rules.specs.Control.{within}
+use Rattle.state.specs.Well.{within}
 use Rattle.rules.specs.Diagnosis.{delayed, diagnosed, delaying}
 use Rattle.rules.specs.Line.{clearOn}
 use Rattle.rules.specs.User.{judgedParameters, judgedConfiguration}

@@ -23,7 +23,8 @@ use Rattle.rules.specs.declared.outcome.OutputsDeed.the-variants as outputs-dee
 use Rattle.rules.specs.declared.outcome.SetDeed.{SetDeed}
 use Rattle.rules.specs.declared.outcome.SetDeed.the-variants as set-deed
 use Rattle.rules.specs.declared.outcome.Outcome.{Outcome}
-use Rattle.rules.specs.Control.{within, bit}
+use Rattle.state.specs.Well.{within}
+use Rattle.rules.specs.Control.{bit}
 use Rattle.rules.specs.Requests.{masterOf, toStation, toAll, acts, refilled, serviceOf}
 use Rattle.rules.specs.Diagnosis.{delayed, diagnosed, delaying, caughtUp}
 use Rattle.rules.specs.Line.{clearOn, settled, ticked}

@@ -18,7 +18,8 @@ use Rattle.rules.specs.declared.outcome.SetDeed.{SetDeed}
 use Rattle.rules.specs.declared.outcome.SetDeed.the-variants as set-deed
 use Rattle.rules.specs.declared.outcome.Outcome.{Outcome}
 use Rattle.buffers.specs.Events.{raised, control, outputs}
-use Rattle.rules.specs.Control.{bit, within, inExchange, owns, withWatchdog, withEvents, withStored, raise}
+use Rattle.state.specs.Well.{within}
+use Rattle.rules.specs.Control.{bit, inExchange, owns, withWatchdog, withEvents, withStored, raise}
 use Rattle.rules.specs.Phases.{drawing, leftExchange, waitPrm, enteringWaitPrm, waitCfg, dataExch}
 use Rattle.rules.specs.Requests.{masterOf, acts, toStation, refilled}
 use Rattle.rules.specs.Services.{otherOwns, otherIdent, wantsWatchdog, badFactors, parametrized, setPrm, chkCfg, exchanges, dataExchange, slaveDiag, controls, storing, globalControl, serve}

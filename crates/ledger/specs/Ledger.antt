@@ -3,11 +3,9 @@ use Prim.Native.Nat.{ℕ}
 use mathlib.Core.Bool.{Bool, true, false, not, _&&_, _||_}
 use mathlib.Core.List.{List, []}
 use lib.ListN.{replicate}
-use Rattle.buffers.specs.Events.{noEvents}
 use Rattle.state.specs.declared.setup.Setup.{Setup}
-use Rattle.state.specs.declared.control.Phase.the-variants.{WaitPrm}
 use Rattle.state.specs.declared.control.Control.{Control}
-use Rattle.rules.specs.Control.{noOwner}
+use Rattle.state.specs.Start.{firstControl}
 use Rattle.ledger.specs.Lists.{some, Outputs, Inputs, Sets, Diagnoses, Buffers, noSets}
 
 -- the line: whether octets are ignored, telegram octets so far, reply octets left and whether they are a Slave_Diag's
@@ -53,21 +51,6 @@ parametersOpen l = some (l .buffers .parameters .shown)
 abbrev pub configurationOpen : Ledger → Bool
 configurationOpen l = some (l .buffers .configuration .shown)
 
--- Start: WAIT_PRM without publishing, no owner, nothing new or shown, diagnosis count 6, no flags, no events
-abbrev pub freshControl : Control
-freshControl =
-    record {
-      phase = WaitPrm;
-      owner = noOwner;
-      group = 0;
-      stored = 0;
-      watchdog = record { reload = 0; left = 0 };
-      flags = record { «prm_fault» = false; «cfg_fault» = false; «not_supported» = false; «ext_diag» = false; «stat_diag» = false; overflow = false; «diag_flag» = false; «parameters_good» = false };
-      events = noEvents;
-      noted = false;
-      diagnosis = record { count = 6; «delayed_count» = 0; «delayed_flags» = 0 };
-    }
-
 -- zeroed buffers
 abbrev pub freshBuffers : Setup → Buffers
 freshBuffers s =
@@ -83,6 +66,6 @@ freshBuffers s =
 abbrev pub freshLine : Line
 freshLine = record { ignored = true; telegram = []; reply = []; diagnosing = false }
 
--- the ledger is fed Start's arguments
+-- the ledger is fed Start's arguments; WAIT_PRM without publishing, no owner, nothing new or shown, diagnosis count 6, no flags, no events
 abbrev pub fresh : Setup → List ℕ → Ledger
-fresh s slice = record { setup = s; slice = slice; control = freshControl; buffers = freshBuffers s; line = freshLine }
+fresh s slice = record { setup = s; slice = slice; control = firstControl; buffers = freshBuffers s; line = freshLine }

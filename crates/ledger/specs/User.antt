@@ -10,7 +10,8 @@ use Rattle.state.specs.declared.answer.Answer.{Answer}
 use Rattle.state.specs.declared.answer.Answer.the-variants.{Value, Refused}
 use Rattle.state.specs.declared.answer.Refusal.{Refusal}
 use Rattle.state.specs.declared.answer.Refusal.the-variants.{Judging, Range, Absent, Delayed}
-use Rattle.rules.specs.Control.{within, withEvents}
+use Rattle.state.specs.Well.{within}
+use Rattle.rules.specs.Control.{withEvents}
 use Rattle.rules.specs.Diagnosis.{delayed, diagnosed, delaying}
 use Rattle.rules.specs.Line.{clearOn}
 use Rattle.rules.specs.User.{judgedParameters, judgedConfiguration}

@@ -1,7 +1,7 @@
 -- The control part with one field changed, and the tests that the rules share.
 use Prim.Native.Nat.{ℕ, _/_, _%_, _^_}
-use mathlib.Core.Bool.{Bool, true, false, cond, not, _&&_}
-use lib.Dec.{eqb, leb}
+use mathlib.Core.Bool.{Bool, true, false}
+use lib.Dec.{eqb}
 use Rattle.buffers.specs.declared.events.Events.{Events}
 use Rattle.buffers.specs.Events.{raised, cleared}
 use Rattle.state.specs.declared.control.Phase.{Phase}
@@ -14,14 +14,6 @@ use Rattle.state.specs.declared.control.Control.{Control}
 -- bit n of an octet
 abbrev pub bit : ℕ → ℕ → Bool
 bit x n = eqb (x / 2 ^ n % 2) 1
-
--- lowest and highest included
-abbrev pub within : ℕ → ℕ → ℕ → Bool
-within low x high = leb low x && leb x high
-
--- the value that stands for no owner
-abbrev pub noOwner : ℕ
-noOwner = 255
 
 abbrev pub exchanging : Phase → Bool
 exchanging WaitPrm = false

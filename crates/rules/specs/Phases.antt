@@ -12,7 +12,8 @@ use Rattle.rules.specs.declared.outcome.OutputsDeed.the-variants as outp
 use Rattle.rules.specs.declared.outcome.SetDeed.{SetDeed}
 use Rattle.rules.specs.declared.outcome.SetDeed.the-variants as set-deed
 use Rattle.rules.specs.declared.outcome.Outcome.{Outcome}
-use Rattle.rules.specs.Control.{noOwner, inExchange, withPhase, withEvents, raise}
+use Rattle.state.specs.Start.{noOwner}
+use Rattle.rules.specs.Control.{inExchange, withPhase, withEvents, raise}
 
 -- nothing but a reply comes of it
 abbrev pub drawing : Control → Drawn → Outcome

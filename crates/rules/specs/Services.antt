@@ -9,6 +9,8 @@ use Rattle.state.specs.declared.setup.Setup.{Setup}
 use Rattle.state.specs.declared.control.Watchdog.{Watchdog}
 use Rattle.state.specs.declared.control.Control.{Control}
 use Rattle.state.specs.declared.state.Drawn.the-variants as drawn
+use Rattle.state.specs.Start.{noOwner}
+use Rattle.state.specs.Well.{within}
 use Rattle.rules.specs.declared.request.Request.{Request}
 use Rattle.rules.specs.declared.request.Prm.{Prm}
 use Rattle.rules.specs.declared.request.Service.{Service}
@@ -17,7 +19,7 @@ use Rattle.rules.specs.declared.outcome.OutputsDeed.{OutputsDeed}
 use Rattle.rules.specs.declared.outcome.OutputsDeed.the-variants as outputs-deed
 use Rattle.rules.specs.declared.outcome.SetDeed.the-variants as set-deed
 use Rattle.rules.specs.declared.outcome.Outcome.{Outcome}
-use Rattle.rules.specs.Control.{bit, within, noOwner, inExchange, owns, withFlags, withEvents, withStored, raise, withPrmFault, withCfgFault, withNotSupported, withoutFaults, withoutDiagFlag}
+use Rattle.rules.specs.Control.{bit, inExchange, owns, withFlags, withEvents, withStored, raise, withPrmFault, withCfgFault, withNotSupported, withoutFaults, withoutDiagFlag}
 use Rattle.rules.specs.Phases.{drawing, enteringWaitPrm, waitCfg, zerosIfLeft}
 use Rattle.rules.specs.Requests.{masterOf}
 

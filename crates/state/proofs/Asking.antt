@@ -1,4 +1,4 @@
--- What the checks of Start say, and which of its answers they lead to. Assumes nothing.
+-- What the checks of Start say, and which of its answers they lead to.
 use Prim.Native.Nat.{ℕ, _≤_}
 use native.Mathlib.Omega.{arith}
 use mathlib.Core.Path.{_≡_, refl}

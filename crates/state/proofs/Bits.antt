@@ -1,4 +1,4 @@
--- Eight marks in one octet, and back. Assumes nothing.
+-- Eight marks in one octet, and back.
 use Prim.Native.Nat.{ℕ, _+_, _*_, _/_, _%_, _≤_, _<_}
 use native.Mathlib.Omega.{arith}
 use mathlib.Core.Path.{_≡_, refl, ap}

@@ -1,4 +1,4 @@
--- Equal codes are equal answers: a refusal is told apart from every value and from every other refusal. Assumes nothing.
+-- Equal codes are equal answers: a refusal is told apart from every value and from every other refusal.
 use mathlib.Core.Path.{_≡_, refl, sym, ap, _∙_}
 use mathlib.Core.List.{List, [], _∷_}
 use lib.IntN.{ℤ, pos, negsuc}

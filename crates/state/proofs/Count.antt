@@ -1,4 +1,4 @@
--- Cases counted in their order, one more behind them: what a number law for every enum needs. Assumes nothing.
+-- Cases counted in their order, one more behind them: what a number law for every enum needs.
 use Prim.Native.Nat.{ℕ, zero, suc, _+_, _<_, _≤_}
 use native.Mathlib.Omega.{arith}
 use native.Mathlib.Nat.{not-suc-le-zero, le-of-suc-le-suc, zero-add}

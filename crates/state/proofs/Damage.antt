@@ -1,4 +1,4 @@
--- A memory loads exactly if it holds a state, and it is that state. Assumes nothing.
+-- A memory loads exactly if it holds a state, and it is that state.
 use Prim.Native.Nat.{ℕ, _%_, _≤_, _<_}
 use native.Mathlib.Omega.{arith}
 use mathlib.Core.Path.{_≡_, sym, ap, subst, _∙_}

@@ -1,4 +1,4 @@
--- A memory with a state in front: what lies behind the state is the memory's. Assumes nothing.
+-- A memory with a state in front: what lies behind the state is the memory's.
 use Prim.Native.Nat.{ℕ, _+_, _-_, _≤_}
 use native.Mathlib.Omega.{arith}
 use mathlib.Core.Path.{_≡_, sym, ap, _∙_}

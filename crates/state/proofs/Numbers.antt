@@ -1,4 +1,4 @@
--- Every case of the state's enums comes back from its number, and every number up to the last from its case. Assumes nothing.
+-- Every case of the state's enums comes back from its number, and every number up to the last from its case.
 use Prim.Native.Nat.{ℕ, _≤_}
 use mathlib.Core.Path.{_≡_, refl}
 use Rattle.state.proofs.Count.{Counts, counted, count-le}

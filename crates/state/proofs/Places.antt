@@ -1,4 +1,4 @@
--- The buffers lie in the memory, each apart from the others. Assumes nothing.
+-- The buffers lie in the memory, each apart from the others.
 use Prim.Native.Nat.{ℕ, zero, suc, _+_, _≤_, _<_}
 use native.Mathlib.Nat.{mul-le-mul-left, mul-suc, not-suc-le-zero}
 use native.Mathlib.Omega.{arith}

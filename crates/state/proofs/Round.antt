@@ -1,4 +1,4 @@
--- A sound state and its image are each other's: the octets that pass the tests are the images of the sound states. Assumes nothing.
+-- A sound state and its image are each other's: the octets that pass the tests are the images of the sound states.
 use Prim.Native.Nat.{ℕ, zero, suc, _+_, _/_, _%_, _≤_, _<_}
 use native.Mathlib.Omega.{arith}
 use native.Mathlib.Nat.{mod-add-div, div-eq-of-lt}

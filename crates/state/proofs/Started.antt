@@ -1,4 +1,4 @@
--- Start answers 0 exactly if what it is given keeps the rules, and then the memory holds the first state. Assumes nothing.
+-- Start answers 0 exactly if what it is given keeps the rules, and then the memory holds the first state.
 use Prim.Native.Nat.{ℕ, _+_, _-_, _≤_, _<_, _%_}
 use native.Mathlib.Omega.{arith}
 use mathlib.Core.Path.{_≡_, refl, sym, ap, subst, _∙_}

@@ -1,4 +1,4 @@
--- Tests joined by `&`, and the facts that they stand for. Assumes nothing.
+-- Tests joined by `&`, and the facts that they stand for.
 use Prim.Native.Nat.{ℕ, zero, suc}
 use native.Mathlib.Omega.{arith}
 use mathlib.Core.Path.{_≡_, refl, ap, _∙_}

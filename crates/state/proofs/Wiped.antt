@@ -1,4 +1,4 @@
--- The buffers after Start wiped them: zeros, the slice in the last, and nothing past them changed. Assumes nothing.
+-- The buffers after Start wiped them: zeros, the slice in the last, and nothing past them changed.
 use Prim.Native.Nat.{ℕ, _+_, _-_, _≤_}
 use native.Mathlib.Omega.{arith}
 use mathlib.Core.Path.{_≡_, sym, ap, _∙_}

@@ -1,4 +1,4 @@
--- What a call answers and leaves, and the numbers of the answers. Assumes nothing.
+-- What a call answers and leaves, and the numbers of the answers.
 use Prim.Native.Nat.{ℕ}
 use mathlib.Core.Path.{_≡_}
 use mathlib.Core.List.{List}

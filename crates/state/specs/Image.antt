@@ -1,4 +1,4 @@
--- The image of a state: 64 octets. Assumes nothing.
+-- The image of a state: 64 octets.
 use Prim.Native.Nat.{ℕ, _+_, _*_, _/_, _%_}
 use mathlib.Core.Bool.{Bool, true, false}
 use mathlib.Core.List.{List, [], _∷_}

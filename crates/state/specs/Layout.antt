@@ -1,4 +1,4 @@
--- Where the buffers lie behind the state part. Nothing else knows these numbers. Assumes nothing.
+-- Where the buffers lie behind the state part. Nothing else knows these numbers.
 use Prim.Native.Nat.{ℕ, zero, suc, _+_, _*_, _/_}
 use mathlib.Core.List.{List, [], _∷_}
 use lib.ListN.{length, getD}

@@ -1,4 +1,4 @@
--- The lent memory: its length, the state in front, and whether it is damaged. Assumes nothing.
+-- The lent memory: its length, the state in front, and whether it is damaged.
 use Prim.Native.Nat.{ℕ, _%_, _≤_}
 use mathlib.Core.Path.{_≡_}
 use mathlib.Core.Bool.{Bool, true, _&&_}

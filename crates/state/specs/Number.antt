@@ -1,4 +1,4 @@
--- The cases of the state's enums as numbers, in their order, and back: the last case answers every number past the others. Assumes nothing.
+-- The cases of the state's enums as numbers, in their order, and back: the last case answers every number past the others.
 use Prim.Native.Nat.{ℕ}
 use mathlib.Core.List.{List, [], _∷_}
 use lib.ListN.{getD}

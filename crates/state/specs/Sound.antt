@@ -1,4 +1,4 @@
--- A state whose roles, lengths and counts keep the rules. Assumes nothing.
+-- A state whose roles, lengths and counts keep the rules.
 use Prim.Native.Nat.{ℕ, _≤_}
 use mathlib.Core.Path.{_≡_}
 use mathlib.Core.Logic.{_⊎_}

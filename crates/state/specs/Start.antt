@@ -1,4 +1,4 @@
--- Start: what it checks, the first state, and what it leaves. Assumes nothing.
+-- Start: what it checks, the first state, and what it leaves.
 use Prim.Native.Nat.{ℕ, _-_}
 use mathlib.Core.Bool.{Bool, false, not, cond}
 use mathlib.Core.List.{List, [], _∷_}

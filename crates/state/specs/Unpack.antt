@@ -1,4 +1,4 @@
--- The state that the first octets of a memory hold. Assumes nothing.
+-- The state that the first octets of a memory hold.
 use Prim.Native.Nat.{ℕ, _+_, _*_, _/_, _%_}
 use mathlib.Core.Bool.{Bool}
 use mathlib.Core.List.{List}

@@ -1,4 +1,4 @@
--- Which octets are the image of a sound state: tests of the octets alone. Assumes nothing.
+-- Which octets are the image of a sound state: tests of the octets alone.
 use Prim.Native.Nat.{ℕ}
 use mathlib.Core.Bool.{Bool, true, not, _&&_, _||_, Bool·beq}
 use mathlib.Core.List.{List, [], _∷_}

@@ -1,4 +1,4 @@
--- `buffers::triple::places` meets its contract. Assumes nothing.
+-- `buffers::triple::places` meets its contract.
 use Prim.Native.Nat.{ℕ, zero, suc}
 use mathlib.Core.Path.{_≡_, refl, sym, ap}
 use mathlib.Core.List.{[], _∷_}

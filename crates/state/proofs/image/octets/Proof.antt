@@ -1,4 +1,4 @@
--- `state::image::octets` meets its contract: each called octet is what the image has there. Assumes nothing.
+-- `state::image::octets` meets its contract: each called octet is what the image has there.
 use Rattle.state.specs.Image.{unused, layout, image}
 use borrow.Author.Needs.{needs}
 use Rattle.state.proofs.image.octets.Statement.{statement}

@@ -1,4 +1,4 @@
--- `state::image::save` meets its contract. Assumes nothing.
+-- `state::image::save` meets its contract.
 use Prim.Native.Nat.{ℕ}
 use mathlib.Core.Path.{ap, _∙_}
 use mathlib.Core.List.{List, _++_}

@@ -1,4 +1,4 @@
--- `state::layout::configuration_at` meets its contract. Assumes nothing.
+-- `state::layout::configuration_at` meets its contract.
 use native.Mathlib.Omega.{arith}
 use Rattle.state.specs.Layout.{configuration, baseOf, startOf}
 use Rattle.state.proofs.Places.{base-small}

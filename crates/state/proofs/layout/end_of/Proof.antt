@@ -1,4 +1,4 @@
--- `state::layout::end_of` meets its contract. Assumes nothing.
+-- `state::layout::end_of` meets its contract.
 use native.Mathlib.Omega.{arith}
 use Rattle.state.specs.Layout.{getCfg, baseOf, startOf}
 use Rattle.state.proofs.Places.{base-small}

@@ -1,4 +1,4 @@
--- `state::layout::get_cfg_at` meets its contract. Assumes nothing.
+-- `state::layout::get_cfg_at` meets its contract.
 use Rattle.state.specs.Layout.{baseOf, startOf}
 use borrow.Author.Needs.{needs}
 use Rattle.state.proofs.layout.get_cfg_at.Statement.{statement}

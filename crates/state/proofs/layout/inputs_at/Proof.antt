@@ -1,4 +1,4 @@
--- `state::layout::inputs_at` meets its contract. Assumes nothing.
+-- `state::layout::inputs_at` meets its contract.
 use native.Mathlib.Omega.{arith}
 use Rattle.state.specs.Layout.{inputs, baseOf, startOf}
 use Rattle.state.proofs.Places.{base-small}

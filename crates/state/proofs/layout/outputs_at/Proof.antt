@@ -1,4 +1,4 @@
--- `state::layout::outputs_at` meets its contract. Assumes nothing.
+-- `state::layout::outputs_at` meets its contract.
 use Rattle.state.specs.Layout.{baseOf, startOf}
 use borrow.Author.Needs.{needs}
 use Rattle.state.proofs.layout.outputs_at.Statement.{statement}

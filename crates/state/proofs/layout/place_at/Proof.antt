@@ -1,4 +1,4 @@
--- `state::layout::place_at` meets its contract. Assumes nothing.
+-- `state::layout::place_at` meets its contract.
 use Prim.Native.Nat.{ℕ, _+_, _*_, _≤_}
 use native.Mathlib.Nat.{mul-le-mul}
 use native.Mathlib.Omega.{arith}

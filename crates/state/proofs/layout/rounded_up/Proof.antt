@@ -1,4 +1,4 @@
--- `state::layout::rounded_up` meets its contract. Assumes nothing.
+-- `state::layout::rounded_up` meets its contract.
 use native.Mathlib.Omega.{arith}
 use mathlib.Core.Path.{refl}
 use Rattle.state.specs.Layout.{roundedUp}

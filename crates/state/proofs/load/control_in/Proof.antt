@@ -1,4 +1,4 @@
--- `state::load::control_in` meets its contract. Assumes nothing.
+-- `state::load::control_in` meets its contract.
 use lib.ListN.{getD}
 use denote.Ref.{now}
 use Rattle.state.specs.Unpack.{marksIn, bitAt}

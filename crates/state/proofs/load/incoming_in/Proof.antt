@@ -1,4 +1,4 @@
--- `state::load::incoming_in` meets its contract. Assumes nothing.
+-- `state::load::incoming_in` meets its contract.
 use mathlib.Core.Path.{_∙_}
 use lib.ListN.{getD}
 use denote.Ref.{now}

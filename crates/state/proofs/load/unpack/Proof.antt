@@ -1,4 +1,4 @@
--- `state::load::unpack` meets its contract. Assumes nothing.
+-- `state::load::unpack` meets its contract.
 use native.Mathlib.Omega.{arith}
 use mathlib.Core.Path.{ap, _∙_}
 use denote.Ref.{now}

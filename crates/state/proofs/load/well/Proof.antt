@@ -1,4 +1,4 @@
--- `state::load::well` meets its contract. Assumes nothing.
+-- `state::load::well` meets its contract.
 use mathlib.Core.List.{[], _∷_}
 use Rattle.state.specs.Well.{all, wellImage}
 use borrow.Author.Needs.{needs}

@@ -1,4 +1,4 @@
--- `state::memory::length_ok` meets its contract. Assumes nothing.
+-- `state::memory::length_ok` meets its contract.
 use mathlib.Core.Path.{refl}
 use Rattle.state.specs.Memory.{lengthOk}
 use Rattle.state.proofs.memory.length_ok.Statement.{statement}

@@ -1,4 +1,4 @@
--- `state::memory::load` meets its contract. Assumes nothing.
+-- `state::memory::load` meets its contract.
 use native.Mathlib.Omega.{arith}
 use mathlib.Core.Path.{_≡_, sym, _∙_}
 use mathlib.Core.Bool.{true, false≢true}

@@ -1,4 +1,4 @@
--- `state::number::drawn_numbered` meets its contract. Assumes nothing.
+-- `state::number::drawn_numbered` meets its contract.
 use mathlib.Core.Path.{sym, ap}
 use Rattle.state.proofs.Count.{past, passed}
 use Rattle.state.specs.Number.{drawnCases, drawnNumbered}

@@ -1,4 +1,4 @@
--- `state::start::first_control` meets its contract. Assumes nothing.
+-- `state::start::first_control` meets its contract.
 use borrow.Author.Needs.{needs}
 use Rattle.state.proofs.start.first_control.Statement.{statement}
 use Rattle.state.proofs.start.first_control.Tie as tie

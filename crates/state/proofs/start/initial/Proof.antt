@@ -1,4 +1,4 @@
--- `state::start::initial` meets its contract. Assumes nothing.
+-- `state::start::initial` meets its contract.
 use mathlib.Core.Bool.{false}
 use Rattle.state.specs.Start.{initialState}
 use borrow.Author.Needs.{needs}

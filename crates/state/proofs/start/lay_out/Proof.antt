@@ -1,4 +1,4 @@
--- `state::start::lay_out` meets its contract. Assumes nothing.
+-- `state::start::lay_out` meets its contract.
 use native.Mathlib.Omega.{arith}
 use mathlib.Core.Path.{sym, ap, _∙_}
 use denote.Ref.{now}

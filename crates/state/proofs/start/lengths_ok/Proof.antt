@@ -1,4 +1,4 @@
--- `state::start::lengths_ok` meets its contract. Assumes nothing.
+-- `state::start::lengths_ok` meets its contract.
 use mathlib.Core.Path.{refl}
 use Rattle.state.specs.Start.{lengthsOk}
 use Rattle.state.proofs.start.lengths_ok.Statement.{statement}

@@ -1,4 +1,4 @@
--- `state::start::no_reply` meets its contract. Assumes nothing.
+-- `state::start::no_reply` meets its contract.
 use borrow.Author.Needs.{needs}
 use Rattle.state.proofs.start.no_reply.Statement.{statement}
 use Rattle.state.proofs.start.no_reply.Tie as tie

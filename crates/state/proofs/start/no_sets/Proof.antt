@@ -1,4 +1,4 @@
--- `state::start::no_sets` meets its contract. Assumes nothing.
+-- `state::start::no_sets` meets its contract.
 use borrow.Author.Needs.{needs}
 use Rattle.state.proofs.start.no_sets.Statement.{statement}
 use Rattle.state.proofs.start.no_sets.Tie as tie

@@ -1,4 +1,4 @@
--- `state::start::start` meets its contract. Assumes nothing.
+-- `state::start::start` meets its contract.
 use mathlib.Core.Path.{_≡_, refl, sym, ap, _∙_}
 use mathlib.Core.Bool.{true}
 use mathlib.Core.List.{List}

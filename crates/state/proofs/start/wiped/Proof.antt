@@ -1,4 +1,4 @@
--- `state::start::wiped` meets its contract. Assumes nothing.
+-- `state::start::wiped` meets its contract.
 use native.Mathlib.Omega.{arith}
 use mathlib.Core.Path.{_∙_}
 use Rattle.state.specs.Start.{wiped}

@@ -1,4 +1,4 @@
--- `buffers::events::Events::clear` meets its contract. Assumes nothing.
+-- `buffers::events::Events::clear` meets its contract.
 use borrow.Author.Needs.{needs}
 use Rattle.buffers.proofs.events.Events.clear.Statement.{statement}
 use Rattle.buffers.proofs.events.Events.clear.Tie as tie

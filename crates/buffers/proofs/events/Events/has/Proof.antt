@@ -1,4 +1,4 @@
--- `buffers::events::Events::has` meets its contract: a word of 16 bits has none from 16 on. Assumes nothing.
+-- `buffers::events::Events::has` meets its contract: a word of 16 bits has none from 16 on.
 use mathlib.Core.Path.{sym}
 use Rattle.buffers.specs.Events.{bit}
 use Rattle.buffers.proofs.Bits.{bit-high}

@@ -1,4 +1,4 @@
--- `buffers::events::Events::of` meets its contract. Assumes nothing.
+-- `buffers::events::Events::of` meets its contract.
 use Prim.Native.Nat.{ℕ, _*_, _%_, _^_, _<_}
 use native.Mathlib.Omega.{arith}
 use native.Mathlib.Nat.{one-mul}

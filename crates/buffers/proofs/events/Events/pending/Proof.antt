@@ -1,4 +1,4 @@
--- `buffers::events::Events::pending` meets its contract: at most 16 bits lie below the lowest that is set. Assumes nothing.
+-- `buffers::events::Events::pending` meets its contract: at most 16 bits lie below the lowest that is set.
 use native.Mathlib.Omega.{arith}
 use lib.Count.{trailing-le}
 use borrow.Author.Needs.{needs}

@@ -1,4 +1,4 @@
--- `buffers::events::Events::raise` meets its contract. Assumes nothing.
+-- `buffers::events::Events::raise` meets its contract.
 use borrow.Author.Needs.{needs}
 use Rattle.buffers.proofs.events.Events.raise.Statement.{statement}
 use Rattle.buffers.proofs.events.Events.raise.Tie as tie

@@ -1,4 +1,4 @@
--- `buffers::triple::Triple::number` meets its contract. Assumes nothing.
+-- `buffers::triple::Triple::number` meets its contract.
 use Prim.Native.Nat.{_+_, _*_, _%_, _≤_}
 use native.Mathlib.Omega.{arith}
 use mathlib.Core.Path.{_≡_, refl, ap}

@@ -1,4 +1,4 @@
--- `buffers::triple::Triple::numbered` meets its contract. Assumes nothing.
+-- `buffers::triple::Triple::numbered` meets its contract.
 use borrow.Author.Needs.{needs}
 use Rattle.buffers.proofs.triple.Triple.numbered.Statement.{statement}
 use Rattle.buffers.proofs.triple.Triple.numbered.Tie as tie

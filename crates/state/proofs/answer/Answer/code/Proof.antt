@@ -1,4 +1,4 @@
--- `state::answer::Answer::code` meets its contract. Assumes nothing.
+-- `state::answer::Answer::code` meets its contract.
 use Prim.Native.Nat.{ℕ, zero, suc, _<_, _^_}
 use native.Mathlib.Omega.{arith}
 use mathlib.Core.Path.{_≡_, sym, ap, _∙_}
