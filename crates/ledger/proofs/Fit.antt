@@ -38,7 +38,7 @@ use Rattle.ledger.specs.ReadBack.{Accepted, OutputsFit, InputsFit, SetsF
 use Rattle.ledger.proofs.Settling.{settle-line}
 use Rattle.ledger.proofs.ByCases.{take-cases, read-cases, write-cases, diagnosis-cases, parameters-cases, configuration-cases}
 use Rattle.ledger.proofs.Hearing.{last-heard}
-use Rattle.ledger.proofs.Lawful.{OutputsLaw, SetLaw, Lawful, and-left, and-right, refilled-counts, serve-lawful, clear-lawful, settled-lawful, ticked-lawful, parameters-lawful, configuration-lawful}
+use Rattle.ledger.proofs.Lawful.{OutputsLaw, SetLaw, Lawful, and-left, and-right, both-ends, refilled-counts, serve-lawful, clear-lawful, settled-lawful, ticked-lawful, parameters-lawful, configuration-lawful}
 use Rattle.ledger.proofs.ReadBack.{reply-reads, reply-left}
 
 -- ---------------------------------------------------------------------------------------------------
@@ -59,23 +59,23 @@ inputs-fit outputs-deed.Publish i n f = go (i .fresh)
     go false = f
 inputs-fit outputs-deed.Zeros i n f = f
 
-sets-fit : (d : SetDeed) (x : Sets) (n : ℕ) (ds : List ℕ) → SetLaw d n (length ds) → SetsFit n x → SetsFit n (onSets d x ds)
-sets-fit set-deed.Keep x n ds w f = f
-sets-fit set-deed.Receive x n ds w f = go (some (x .shown))
+sets-fit : (d : SetDeed) (x : Sets) (low high : ℕ) (ds : List ℕ) → SetLaw d low (length ds) high → SetsFit low high x → SetsFit low high (onSets d x ds)
+sets-fit set-deed.Keep x low high ds w f = f
+sets-fit set-deed.Receive x low high ds w f = go (some (x .shown))
   where
-    go : (t : Bool) → SetsFit n (cond t (record { shown = x .shown; waiting = ds }) (record { shown = ds; waiting = x .waiting }))
-    go true = record { shown = f .shown; waiting = w }
-    go false = record { shown = w; waiting = f .waiting }
-sets-fit set-deed.Advance x n ds w f = record { shown = f .waiting; waiting = omega arith }
-sets-fit set-deed.Drop x n ds w f = record { shown = omega arith; waiting = omega arith }
+    go : (t : Bool) → SetsFit low high (cond t (record { shown = x .shown; waiting = ds }) (record { shown = ds; waiting = x .waiting }))
+    go true = record { shown = f .shown; waiting = inr w }
+    go false = record { shown = inr w; waiting = f .waiting }
+sets-fit set-deed.Advance x low high ds w f = record { shown = f .waiting; waiting = inl refl }
+sets-fit set-deed.Drop x low high ds w f = record { shown = inl refl; waiting = inl refl }
 
 lists-fit : (s : Setup) (c : Control) (b : Buffers) (o : Outcome) (ds : List ℕ) → ListsFit s b → Lawful s c (length ds) o
     → ListsFit s (onBuffers o s ds b)
 lists-fit s c b o ds f w = record {
   outputs = outputs-fit (o .outputs) (b .outputs) s ds (w .outputs-fit) (f .outputs);
   inputs = inputs-fit (o .outputs) (b .inputs) (s .«input_len») (f .inputs);
-  parameters = sets-fit (o .parameters) (b .parameters) (s .«parameter_len») ds (w .parameters-fit) (f .parameters);
-  configuration = sets-fit (o .configuration) (b .configuration) (s .«configuration_len») ds (w .configuration-fit) (f .configuration);
+  parameters = sets-fit (o .parameters) (b .parameters) 7 (s .«parameter_len») ds (w .parameters-fit) (f .parameters);
+  configuration = sets-fit (o .configuration) (b .configuration) 1 (s .«configuration_len») ds (w .configuration-fit) (f .configuration);
   diagnosis = f .diagnosis;
 }
 
@@ -144,7 +144,7 @@ module _ {l : Ledger} (f : Fit l) where
       go true e =
           let n = l .control .diagnosis .«delayed_count» in
           changed-fit (caughtUp (l .control))
-          (record { count = waits n (f .counts .delayed) (eqb-false _ _ (not-true _ (and-left (delayed (l .control)) _ e))); delayed = inl refl })
+          (record { count = waits n (f .counts .delayed) (eqb-false _ _ (not-true _ (and-left (delayed (l .control)) _ e))); delayed = inl refl; flags = omega arith })
       go false e = f
 
 settle-fit : {l : Ledger} → Fit l → Fit (settle l)
@@ -236,9 +236,11 @@ written-fit {l} kind index x f = go (eqb kind 4)
 
 -- a count that new diagnosis takes
 count-in : (n m : ℕ) (p : Bool) → within 6 n m && p ≡ true → (6 ≤ n) × (n ≤ m)
-count-in n m p e =
-    let w = and-left (within 6 n m) p e in
-    (leb-true 6 n (and-left (leb 6 n) (leb n m) w), leb-true n m (and-right (leb 6 n) (leb n m) w))
+count-in n m p e = both-ends 6 n m (and-left (within 6 n m) p e)
+
+-- and its flags
+flags-in : (n m flags : ℕ) → within 6 n m && leb flags 7 ≡ true → flags ≤ 7
+flags-in n m flags e = leb-true flags 7 (and-right (within 6 n m) (leb flags 7) e)
 
 pub step-fit : (l : Ledger) (c : Call) → Fit l → Fit (step l c .ledger)
 unfolding heard paused sent elapsed handOver acknowledgeEvents leaveMaster diagnosed delaying
@@ -272,8 +274,8 @@ step-fit l hand-over f =
     (record { sending = f .lists .inputs .sending; next = f .lists .inputs .held; held = f .lists .inputs .next })) (f .counts)
 step-fit l (new-diagnosis count flags) f =
     diagnosis-cases (λ t. Fit (t .ledger)) l count flags (λ _. f)
-    (λ e. on-lists f (l .buffers) (delaying (l .control) count flags) (f .lists) (record { count = f .counts .count; delayed = inr (count-in count _ _ e) }))
-    (λ e. changed-fit f _ (record { count = count-in count _ _ e; delayed = inl refl }))
+    (λ e. on-lists f (l .buffers) (delaying (l .control) count flags) (f .lists) (record { count = f .counts .count; delayed = inr (count-in count _ _ e); flags = flags-in count _ flags e }))
+    (λ e. changed-fit f _ (record { count = count-in count _ _ e; delayed = inl refl; flags = omega arith }))
 step-fit l (judge-parameters j) f =
     parameters-cases (λ t. Fit (t .ledger)) l j (λ _ _. f)
     (λ _. carried-fit f _ [] (parameters-lawful (l .setup) (l .control) (some (l .buffers .parameters .waiting)) (eqb j 1)))
@@ -294,11 +296,11 @@ fresh-fit s slice a = record {
   lists = record {
     outputs = record { held = length-replicate (s .«output_len») 0; next = length-replicate (s .«output_len») 0 };
     inputs = record { sending = length-replicate (s .«input_len») 0; next = length-replicate (s .«input_len») 0; held = length-replicate (s .«input_len») 0 };
-    parameters = record { shown = omega arith; waiting = omega arith };
-    configuration = record { shown = omega arith; waiting = omega arith };
+    parameters = record { shown = inl refl; waiting = inl refl };
+    configuration = record { shown = inl refl; waiting = inl refl };
     diagnosis = record { own = length-replicate (s .«diagnosis_len») 0; user = length-replicate (s .«diagnosis_len») 0 };
   };
-  counts = record { count = (omega arith, a .diagnosis .0); delayed = inl refl };
+  counts = record { count = (omega arith, a .diagnosis .0); delayed = inl refl; flags = omega arith };
   reply = inl refl;
 }
 

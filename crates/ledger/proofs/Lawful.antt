@@ -26,23 +26,23 @@ use Rattle.rules.specs.Services.{otherOwns, otherIdent, wantsWatchdog, badFacto
 use Rattle.rules.specs.Line.{clearOn, settled, counts, ticked}
 use Rattle.rules.specs.User.{judgedParameters, judgedConfiguration}
 
--- n data octets may be published, or received as a set of at most m
+-- n data octets may be published, or received as a set of low to high
 abbrev pub OutputsLaw : OutputsDeed → Setup → ℕ → Type 0
 OutputsLaw outputs-deed.Keep s n = Unit
 OutputsLaw outputs-deed.Publish s n = n ≡ s .«output_len»
 OutputsLaw outputs-deed.Zeros s n = Unit
 
-abbrev pub SetLaw : SetDeed → ℕ → ℕ → Type 0
-SetLaw set-deed.Keep m n = Unit
-SetLaw set-deed.Receive m n = n ≤ m
-SetLaw set-deed.Advance m n = Unit
-SetLaw set-deed.Drop m n = Unit
+abbrev pub SetLaw : SetDeed → ℕ → ℕ → ℕ → Type 0
+SetLaw set-deed.Keep low n high = Unit
+SetLaw set-deed.Receive low n high = (low ≤ n) × (n ≤ high)
+SetLaw set-deed.Advance low n high = Unit
+SetLaw set-deed.Drop low n high = Unit
 
 pub record Lawful (s : Setup) (c : Control) (n : ℕ) (o : Outcome) : Type 0 where
   pub counts-stay : o .control .diagnosis ≡ c .diagnosis
   pub outputs-fit : OutputsLaw (o .outputs) s n
-  pub parameters-fit : SetLaw (o .parameters) (s .«parameter_len») n
-  pub configuration-fit : SetLaw (o .configuration) (s .«configuration_len») n
+  pub parameters-fit : SetLaw (o .parameters) 7 n (s .«parameter_len»)
+  pub configuration-fit : SetLaw (o .configuration) 1 n (s .«configuration_len»)
 
 -- what both have, the one that is chosen has
 choice : (t : Bool) (x y c : Control) → x .diagnosis ≡ c .diagnosis → y .diagnosis ≡ c .diagnosis → cond t x y .diagnosis ≡ c .diagnosis
@@ -71,6 +71,11 @@ pub and-right : (p q : Bool) → p && q ≡ true → q ≡ true
 and-right true q e = e
 and-right false q e = no-true e
 
+-- a number within a range
+pub both-ends : (low n high : ℕ) → within low n high ≡ true → (low ≤ n) × (n ≤ high)
+both-ends low n high e =
+    (leb-true low n (and-left (leb low n) (leb n high) e), leb-true n high (and-right (leb low n) (leb n high) e))
+
 module _ {s : Setup} {c : Control} {n : ℕ} where
   pick : (p : Bool) {x y : Outcome} → (p ≡ true → Lawful s c n x) → (p ≡ false → Lawful s c n y) → Lawful s c n (cond p x y)
   pick true f g = f refl
@@ -96,7 +101,7 @@ module _ (s : Setup) (c : Control) (r : Request) where
       (λ _. record {
         counts-stay = refl;
         outputs-fit = zeros-law (inExchange c) s (r .count);
-        parameters-fit = leb-true _ _ (and-right (leb 7 (r .count)) (leb (r .count) (s .«parameter_len»)) (not-false _ w));
+        parameters-fit = both-ends 7 (r .count) (s .«parameter_len») (not-false _ w);
         configuration-fit = tt;
       }))))))
 
@@ -109,7 +114,7 @@ module _ (s : Setup) (c : Control) (r : Request) where
         counts-stay = waitCfg-counts c;
         outputs-fit = zeros-law (inExchange c) s (r .count);
         parameters-fit = tt;
-        configuration-fit = leb-true _ _ (and-right (leb 1 (r .count)) (leb (r .count) (s .«configuration_len»)) (not-false _ w));
+        configuration-fit = both-ends 1 (r .count) (s .«configuration_len») (not-false _ w);
       }))
 
   dataExchange-lawful : Lawful s c (r .count) (dataExchange s c r)

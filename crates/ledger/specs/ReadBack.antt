@@ -54,23 +54,28 @@ pub record DiagnosesFit (n : ℕ) (d : Diagnoses) : Type 0 where
   pub own : length (d .own) ≡ n
   pub user : length (d .user) ≡ n
 
+-- no set, or one of low to high octets
+abbrev pub NoneOr : ℕ → List ℕ → ℕ → Type 0
+NoneOr low xs high = (length xs ≡ 0) ⊎ Between low (length xs) high
+
 -- and the sets no longer than theirs
-pub record SetsFit (n : ℕ) (x : Sets) : Type 0 where
-  pub shown : length (x .shown) ≤ n
-  pub waiting : length (x .waiting) ≤ n
+pub record SetsFit (low high : ℕ) (x : Sets) : Type 0 where
+  pub shown : NoneOr low (x .shown) high
+  pub waiting : NoneOr low (x .waiting) high
 
 -- all of them
 pub record ListsFit (s : Setup) (b : Buffers) : Type 0 where
   pub outputs : OutputsFit (s .«output_len») (b .outputs)
   pub inputs : InputsFit (s .«input_len») (b .inputs)
-  pub parameters : SetsFit (s .«parameter_len») (b .parameters)
-  pub configuration : SetsFit (s .«configuration_len») (b .configuration)
+  pub parameters : SetsFit 7 (s .«parameter_len») (b .parameters)
+  pub configuration : SetsFit 1 (s .«configuration_len») (b .configuration)
   pub diagnosis : DiagnosesFit (s .«diagnosis_len») (b .diagnosis)
 
--- diagnosis has 6 octets to the set length, and so has one that is delayed
+-- diagnosis has 6 octets to the set length, and so has one that is delayed, with three flags
 pub record CountsFit (s : Setup) (d : DiagnosisCounts) : Type 0 where
   pub count : Between 6 (d .count) (s .«diagnosis_len»)
   pub delayed : (d .«delayed_count» ≡ 0) ⊎ Between 6 (d .«delayed_count») (s .«diagnosis_len»)
+  pub flags : d .«delayed_flags» ≤ 7
 
 -- a reply is E5 or a telegram
 abbrev pub Reply : List ℕ → Type 0
