@@ -1,0 +1,46 @@
+use borrow.Author.Needs.{needs}
+use Rattle.station.specs.Reading.{outcomeOf}
+use Rattle.station.proofs.reading.outcome_of.Statement.{statement}
+use Rattle.station.proofs.reading.outcome_of.Tie as tie
+
+service-of-requires : tie.Need-service-of-requires
+service-of-requires c κs = search needs
+
+refilled-requires : tie.Need-refilled-requires
+refilled-requires c κs = search needs
+
+prm-in-requires : tie.Need-prm-in-requires
+prm-in-requires c κs = search needs
+
+is-open-requires : tie.Need-is-open-requires
+is-open-requires c κs = search needs
+
+is-open-requires-2 : tie.Need-is-open-requires-2
+is-open-requires-2 c κs = search needs
+
+serve-requires : tie.Need-serve-requires
+serve-requires c κs = search needs
+
+returns : tie.Need-returns
+unfolding outcomeOf
+returns c =
+    rw (
+      c .serve .ensures,
+      c .before .is-open2 .ensures,
+      c .before .before .is-open .ensures,
+      c .before .before .before .prm-in .ensures,
+      c .before .before .before .before .refilled .ensures,
+      c .before .before .before .before .before .service-of .ensures,
+    )
+
+pub outcome-of-spec : {M : Type 1} → statement M
+outcome-of-spec =
+    tie.close
+    (tie.spec
+    service-of-requires
+    refilled-requires
+    prm-in-requires
+    is-open-requires
+    is-open-requires-2
+    serve-requires
+    returns)

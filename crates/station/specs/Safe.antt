@@ -1,0 +1,18 @@
+-- What the station's steps need of a state and a memory: every place is a buffer's, and every buffer lies in the memory.
+-- A memory that is not damaged has it, and every step keeps it.
+use Prim.Native.Nat.{ℕ, _≤_}
+use mathlib.Core.List.{List}
+use lib.ListN.{length}
+use Rattle.buffers.specs.Triple.{Permutation}
+use Rattle.state.specs.declared.state.State.{State}
+use Rattle.state.specs.Layout.{endOf}
+
+pub record Safe (s : State) (m : List ℕ) : Type 0 where
+  pub outputs : Permutation (s .outputs .set .place)
+  pub inputs : Permutation (s .inputs .place)
+  pub parameters : Permutation (s .parameters .set .place)
+  pub configuration : Permutation (s .configuration .set .place)
+  pub reply : s .reply .place ≤ 2
+  -- Set_Prm's octets are read from a buffer of at least 7
+  pub long : 7 ≤ s .setup .«parameter_len»
+  pub room : endOf (s .setup) ≤ length m

@@ -1,0 +1,19 @@
+-- What a step makes of a state and a memory.
+use Prim.Native.Nat.{ℕ}
+use mathlib.Core.Path.{_≡_}
+use mathlib.Core.List.{List}
+use Rattle.state.specs.declared.answer.Answer.{Answer}
+use Rattle.state.specs.declared.state.State.{State}
+
+-- the state and the memory behind the state part
+pub record Stepped : Type 0 where
+  pub state : State
+  pub memory : List ℕ
+
+-- the state s and the memory m after the step are those
+pub record Steps (r : Stepped) (s : State) (m : List ℕ) : Type 0 where
+  pub states : s ≡ r .state
+  pub leaves : m ≡ r .memory
+
+abbrev pub unchanged : State → List ℕ → Stepped
+unchanged s m = record { state = s; memory = m }

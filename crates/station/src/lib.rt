@@ -1,0 +1,5 @@
+// The station over its lent memory: the calls of the bus and of the vat program.
+pub mod bus;
+pub mod deeds;
+pub mod reading;
+pub mod replies;

@@ -1,0 +1,236 @@
+// The reply in progress: how it is drawn, and where its data octets are read.
+use rules::diagnosis::header_of;
+use state::control::Control;
+use state::layout::diagnosis_at;
+use state::layout::get_cfg_at;
+use state::layout::inputs_at;
+use state::layout::outputs_at;
+use state::setup::Setup;
+use state::state::Drawn;
+use state::state::Header;
+use state::state::Reply;
+use state::state::State;
+use telegram::Datum;
+use telegram::Kind;
+use telegram::sender::Sender;
+ghost use Prim.Native.Nat.{_+_, _≤_};
+ghost use mathlib.Core.Path.{_≡_};
+ghost use lib.ListN.{length, getD};
+ghost use Rattle.octets.specs.Part.{part};
+ghost use Rattle.station.specs.Safe.{Safe};
+ghost use Rattle.station.specs.Replies.{noReply, exchangeFc, servicing, senderFor, replyFor, ownPlace, userPlace, headerAt, contentAt, pointOf, isExchange, datumAt, askedFor};
+
+// Nothing to send.
+pub fn no_reply() -> Reply
+    ensures { λ r. ⌜ r ≡ noReply ⌝ }
+{
+    Reply {
+        drawn: Drawn::Nothing,
+        sender: Sender::empty(),
+        place: 0,
+        header: Header {
+            status1: 0,
+            status2: 0,
+            status3: 0,
+            master: 0,
+        },
+    }
+}
+
+// FC 08, or 0A while Diag_Flag.
+fn exchange_fc(control: Control) -> u8
+    ensures { λ r. ⌜ r ≡ exchangeFc control ⌝ }
+{
+    if control.flags.diag_flag {
+        return 0x0A;
+    }
+    0x08
+}
+
+// SD2 with bit 7 in both addresses: DSAP and SSAP stand before n data octets.
+fn servicing(setup: Setup, master: u8, n: u8) -> Sender
+    ensures { λ r. ⌜ r ≡ servicing setup master n ⌝ }
+{
+    let da = std::num::wrapping_add_u8(master, 128);
+    let sa = std::num::wrapping_add_u8(setup.address, 128);
+    Sender::telegram(Kind::Sd2, da, sa, 0x08, std::num::wrapping_add_u8(n, 2))
+}
+
+// The sender of each reply to a master.
+fn sender_for(drawn: Drawn, s: State, master: u8) -> Sender
+    ensures { λ r. ⌜ r ≡ senderFor drawn s master ⌝ }
+{
+    let setup = s.setup;
+    match drawn {
+        Drawn::Nothing => Sender::empty(),
+        Drawn::Acknowledge => Sender::single(),
+        Drawn::Status => Sender::telegram(Kind::Sd1, master, setup.address, 0x00, 0),
+        Drawn::Rejected => Sender::telegram(Kind::Sd1, master, setup.address, 0x03, 0),
+        Drawn::Exchange => {
+            let fc = exchange_fc(s.control);
+            Sender::telegram(Kind::Sd2, master, setup.address, fc, setup.input_len)
+        }
+        Drawn::Inputs => servicing(setup, master, setup.input_len),
+        Drawn::Outputs => servicing(setup, master, setup.output_len),
+        Drawn::Configuration => servicing(setup, master, setup.get_cfg_len),
+        Drawn::Diagnosis => servicing(setup, master, s.control.diagnosis.count),
+    }
+}
+
+// A reply as it is drawn: the place of the held outputs and the diagnosis header are fixed here.
+pub fn reply_for(drawn: Drawn, s: State, master: u8) -> Reply
+    ensures { λ r. ⌜ r ≡ replyFor drawn s master ⌝ }
+{
+    let sender = sender_for(drawn, s, master);
+    let place = s.outputs.set.held();
+    let header = header_of(s.control);
+    Reply {
+        drawn,
+        sender,
+        place,
+        header,
+    }
+}
+
+// Which of the two diagnosis buffers is the controller's.
+fn own_place(swapped: bool) -> u8
+    ensures { λ r. ⌜ (r ≡ ownPlace swapped) × (r ≤ 1) ⌝ }
+{
+    if swapped { 1 } else { 0 }
+}
+
+pub fn user_place(swapped: bool) -> u8
+    ensures { λ r. ⌜ (r ≡ userPlace swapped) × (r ≤ 1) ⌝ }
+{
+    if swapped { 0 } else { 1 }
+}
+
+// The station's own diagnosis octets 0 to 5.
+fn header_at(header: Header, ident: u16, i: u8) -> u8
+    ensures { λ r. ⌜ r ≡ headerAt header ident i ⌝ }
+{
+    if i == 0 {
+        return header.status1;
+    }
+    if i == 1 {
+        return header.status2;
+    }
+    if i == 2 {
+        return header.status3;
+    }
+    if i == 3 {
+        return header.master;
+    }
+    if i == 4 {
+        return (ident / 256) as u8;
+    }
+    (ident % 256) as u8
+}
+
+// Octet i of a buffer of len octets, 0 past its end.
+fn octet_in(mem: &[u8], from: usize, len: u8, i: u8) -> u8
+    requires { ⌜ from + len ≤ length (now mem) ⌝ }
+    ensures { λ r. ⌜ r ≡ getD (part (now (mem .entry)) from len) i 0 ⌝ }
+{
+    if i < len {
+        return mem[from + i as usize];
+    }
+    0
+}
+
+// Data octet i of a diagnosis reply behind DSAP and SSAP.
+fn diagnosis_octet(s: State, mem: &[u8], i: u8) -> u8
+    requires { ⌜ Safe s (now mem) ⌝ }
+    ensures { λ r. ⌜ r ≡ contentAt Drawn.Diagnosis s (now (mem .entry)) i ⌝ }
+{
+    if i < 6 {
+        let header = s.reply.header;
+        return header_at(header, s.setup.ident, i);
+    }
+    let from = diagnosis_at(s.setup, own_place(s.swapped));
+    octet_in(mem, from, s.setup.diagnosis_len, i)
+}
+
+// Data octet i of the reply behind DSAP and SSAP.
+fn content_at(drawn: Drawn, s: State, mem: &[u8], i: u8) -> u8
+    requires { ⌜ Safe s (now mem) ⌝ }
+    ensures { λ r. ⌜ r ≡ contentAt drawn s (now (mem .entry)) i ⌝ }
+{
+    let setup = s.setup;
+    match drawn {
+        Drawn::Nothing => 0,
+        Drawn::Acknowledge => 0,
+        Drawn::Status => 0,
+        Drawn::Rejected => 0,
+        Drawn::Exchange => octet_in(mem, inputs_at(setup, s.inputs.fill()), setup.input_len, i),
+        Drawn::Inputs => octet_in(mem, inputs_at(setup, s.inputs.fill()), setup.input_len, i),
+        Drawn::Outputs => octet_in(mem, outputs_at(setup, s.reply.place), setup.output_len, i),
+        Drawn::Configuration => octet_in(mem, get_cfg_at(setup), setup.get_cfg_len, i),
+        Drawn::Diagnosis => diagnosis_octet(s, mem, i),
+    }
+}
+
+// The service point that a reply comes from.
+fn point_of(drawn: Drawn) -> u8
+    ensures { λ r. ⌜ r ≡ pointOf drawn ⌝ }
+{
+    match drawn {
+        Drawn::Nothing => 0,
+        Drawn::Acknowledge => 0,
+        Drawn::Status => 0,
+        Drawn::Rejected => 0,
+        Drawn::Exchange => 0,
+        Drawn::Inputs => 56,
+        Drawn::Outputs => 57,
+        Drawn::Configuration => 59,
+        Drawn::Diagnosis => 60,
+    }
+}
+
+fn is_exchange(drawn: Drawn) -> bool
+    ensures { λ r. ⌜ r ≡ isExchange drawn ⌝ }
+{
+    match drawn {
+        Drawn::Nothing => false,
+        Drawn::Acknowledge => false,
+        Drawn::Status => false,
+        Drawn::Rejected => false,
+        Drawn::Exchange => true,
+        Drawn::Inputs => false,
+        Drawn::Outputs => false,
+        Drawn::Configuration => false,
+        Drawn::Diagnosis => false,
+    }
+}
+
+// Data octet k of the reply: 3E and the service point first, but in the reply to Data_Exchange.
+fn datum_at(s: State, mem: &[u8], k: u8) -> u8
+    requires { ⌜ Safe s (now mem) ⌝ }
+    ensures { λ r. ⌜ r ≡ datumAt s (now (mem .entry)) k ⌝ }
+{
+    let reply = s.reply;
+    let drawn = reply.drawn;
+    if is_exchange(drawn) {
+        return content_at(Drawn::Exchange, s, mem, k);
+    }
+    if k == 0 {
+        return 0x3E;
+    }
+    if k == 1 {
+        return point_of(drawn);
+    }
+    content_at(drawn, s, mem, k - 2)
+}
+
+// The data octet that the sender asks for.
+pub fn asked_for(s: State, mem: &[u8]) -> u8
+    requires { ⌜ Safe s (now mem) ⌝ }
+    ensures { λ r. ⌜ r ≡ askedFor s (now (mem .entry)) ⌝ }
+{
+    let sender = s.reply.sender;
+    let asked = sender.asks();
+    match asked {
+        Datum::Number(k) => datum_at(s, mem, k),
+        Datum::Nothing => 0,
+    }
+}
