@@ -29,4 +29,7 @@ mod Completes
 mod Hears
 mod KeepsOctet
 pub mod OctetSend
+pub mod Packed
+mod Lengths
+pub mod Agreement
 pub mod Safety

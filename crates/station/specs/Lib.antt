@@ -7,3 +7,4 @@ pub mod Reading
 pub mod Bus
 pub mod User
 pub mod Calls
+pub mod Agreement
