@@ -1,4 +1,4 @@
--- A memory that changed in one buffer alone: every other buffer is as it was. Assumes nothing.
+-- A memory that changed in one buffer alone: every other buffer is as it was.
 use Prim.Native.Nat.{ℕ, _+_, _≤_, _<_}
 use native.Mathlib.Omega.{arith}
 use mathlib.Core.Path.{_≡_, refl}

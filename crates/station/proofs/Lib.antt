@@ -33,3 +33,5 @@ pub mod Packed
 mod Lengths
 pub mod Agreement
 pub mod Safety
+pub mod Reaching
+pub mod Calling

@@ -1,4 +1,4 @@
--- Every step keeps what the steps need of a state and a memory, and every buffer that they name lies in the memory. Assumes nothing.
+-- Every step keeps what the steps need of a state and a memory, and every buffer that they name lies in the memory.
 use Prim.Native.Nat.{ℕ, _+_, _≤_, _<_}
 use native.Mathlib.Omega.{arith}
 use mathlib.Core.Path.{_≡_, refl}

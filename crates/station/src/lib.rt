@@ -1,5 +1,7 @@
 // The station over its lent memory: the calls of the bus and of the vat program.
 pub mod bus;
+pub mod calls;
 pub mod deeds;
 pub mod reading;
 pub mod replies;
+pub mod user;

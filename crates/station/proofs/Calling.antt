@@ -1,0 +1,147 @@
+-- What every call over the lent memory shares: the memory is damaged, or it holds the state that was found in it, the step
+-- is made and the state packed again.
+use Prim.Native.Nat.{ℕ, _≤_}
+use native.Mathlib.Omega.{arith}
+use mathlib.Core.Path.{_≡_, refl, sym, ap, _∙_}
+use mathlib.Core.Bool.{Bool, true, false, cond, not, _&&_}
+use mathlib.Core.List.{List, _++_}
+use mir.Syntax.{w8}
+use mir.Val.{Fits}
+use lib.Dec.{leb}
+use lib.ListN.{length, getD, take, drop, take-append-drop}
+use borrow.Author.Tests.{not-true, not-false}
+use Rattle.state.specs.declared.answer.Answer.{Answer}
+use Rattle.state.specs.declared.answer.Answer.the-variants.{Value, Refused}
+use Rattle.state.specs.declared.answer.Refusal.{Refusal}
+use Rattle.state.specs.declared.answer.Refusal.the-variants.{Damaged, Judging, Range, Absent, Delayed}
+use Rattle.state.specs.declared.memory.Loaded.{Loaded}
+use Rattle.state.specs.declared.state.State.{State}
+use Rattle.state.specs.Answer.{Called, Meets, refused}
+use Rattle.state.specs.Layout.{stateLength}
+use Rattle.state.specs.Memory.{kept, Holds, Loads}
+use Rattle.state.proofs.Damage.{holds-unpacked, holds-well, load-good}
+use Rattle.state.specs.Well.{within}
+use Rattle.rules.specs.Diagnosis.{delayed}
+use Rattle.ledger.specs.User.{inRange, writable}
+use Rattle.ledger.specs.Calls as calls
+use Rattle.ledger.specs.Calls.{Call}
+use Rattle.station.specs.Safe.{Safe}
+use Rattle.station.specs.Stepped.{Stepped, Steps}
+use Rattle.station.specs.Deeds.{isOpen, diagnosisLeaves}
+use Rattle.station.specs.User.{absent, Told, told, refusing, toldOf, Tells, takeOutputs, readOctet, writeOctet, handOver, newDiagnosis, judgeParameters, judgeConfiguration, acknowledgeEvents, leaveMaster}
+use Rattle.station.specs.Calls.{step, packed, called}
+use Rattle.station.proofs.Reaching.{written-front}
+
+-- ---- a memory that holds a state
+
+-- the steps may be made on it
+pub holds-safe : (m : List ℕ) (s : State) → Holds m s → Safe s m
+holds-safe m s h =
+    let g = h .sound in
+    record {
+      outputs = g .outputs;
+      inputs = g .inputs;
+      parameters = g .parameters;
+      configuration = g .configuration;
+      reply = g .place;
+      long = g .parameter-len .0;
+      room = h .room;
+    }
+
+-- it has room for the state
+pub holds-long : (m : List ℕ) (s : State) → Holds m s → stateLength ≤ length m
+holds-long m s h = let w = h .length-in in omega arith
+
+-- another memory with that state's octets in front stays as it is where the state is packed again
+pub fronted : (m n : List ℕ) (s : State) → Holds m s → take stateLength n ≡ take stateLength m → n ≡ kept s n
+fronted m n s h e = sym (take-append-drop stateLength n) ∙ ap (λ (l : List ℕ). l ++ drop stateLength n) (e ∙ h .front)
+
+-- ---- a refusal leaves the memory
+
+-- what a step leaves, packed whatever it answers
+abbrev pub whole : Told → Called
+whole t = record { answer = t .answer; memory = kept (t .state) (t .memory) }
+
+record Packs (m : List ℕ) (t : Told) : Type 0 where
+  packed-so : packed m t ≡ whole t
+
+either : (m : List ℕ) (b : Bool) (t u : Told) → Packs m t → Packs m u → Packs m (cond b t u)
+either m true t u p q = p
+either m false t u p q = q
+
+module _ (s : State) (m : List ℕ) (same : m ≡ kept s m) where
+  refuses : (why : Refusal) → Packs m (refusing why s m)
+  refuses why = record { packed-so = ap (λ (l : List ℕ). refused l why) same }
+
+  tells : (n : ℕ) (t : State) (x : List ℕ) → Packs m (told n t x)
+  tells n t x = record { packed-so = refl }
+
+  -- two tests in front of a step
+  tested : (b : Bool) (why : Refusal) (c : Bool) (then : Refusal) (t : Told) → Packs m t
+      → Packs m (cond b (refusing why s m) (cond c (refusing then s m) t))
+  tested b why c then t p = either m b _ _ (refuses why) (either m c _ _ (refuses then) p)
+
+  -- where a step is refused, state and memory are as they were
+  packs : (c : Call) → Packs m (step s m c)
+  unfolding takeOutputs readOctet writeOctet handOver newDiagnosis judgeParameters judgeConfiguration acknowledgeEvents leaveMaster
+  packs (calls.octet b bad) = tells _ _ _
+  packs calls.gap = tells _ _ _
+  packs calls.send = tells _ _ _
+  packs calls.tick = tells _ _ _
+  packs calls.take = either m (not (s .outputs .set .fresh)) _ _ (tells _ _ _) (tells _ _ _)
+  packs (calls.read kind index) = tested (not (inRange (s .setup) kind index)) Range (absent s kind index) Absent _ (tells _ _ _)
+  packs (calls.write kind index x) =
+      tested (not (writable kind && inRange (s .setup) kind index)) Range (absent s kind index) Absent _ (tells _ _ _)
+  packs calls.hand-over = tells _ _ _
+  packs (calls.new-diagnosis count flags) =
+      tested (not (within 6 count (s .setup .«diagnosis_len») && leb flags 7)) Range (delayed (s .control)) Delayed _
+      (either m (diagnosisLeaves s) _ _ (tells _ _ _) (tells _ _ _))
+  packs (calls.judge-parameters j) = tested (not (isOpen (s .parameters))) Judging (not (leb j 1)) Range _ (tells _ _ _)
+  packs (calls.judge-configuration j) =
+      tested (not (isOpen (s .configuration) && s .control .flags .«parameters_good»)) Judging (not (leb j 1)) Range _ (tells _ _ _)
+  packs calls.events = tells _ _ _
+  packs (calls.acknowledge mask) = tells _ _ _
+  packs calls.pending = tells _ _ _
+  packs calls.leave = tells _ _ _
+
+-- ---- the call
+
+-- no state was found
+pub damaged : (m : List ℕ) (l : Loaded) (c : Call) → Loads m l → not (l .ok) ≡ true → Meets (called m c) (Refused Damaged) m
+unfolding called
+damaged m l c loads e = rw (sym (loads .tells) ∙ not-true (l .ok) e) (record { answers = refl; leaves = refl })
+
+-- the memory holds the state that was found
+pub found : (m : List ℕ) (l : Loaded) → ((i : ℕ) → Fits w8 (getD m i 0)) → Loads m l → not (l .ok) ≡ false → Holds m (l .state)
+found m l octets loads e = load-good m l (λ i. octets i .fits) loads (not-false (l .ok) e)
+
+module _ (m : List ℕ) (s : State) (c : Call) (h : Holds m s) where
+  -- a call makes that state's step
+  pub called-whole : called m c ≡ whole (step s m c)
+  unfolding called
+  called-whole =
+      (λ i. cond (holds-well m s h i) (packed m (step (holds-unpacked m s h i) m c)) (refused m Damaged))
+      ∙ packs s m (fronted m m s h refl) c .packed-so
+
+  -- as the code makes it and packs it again
+  pub stepped : (a : Answer) (t : State) (n x : List ℕ) → Tells (step s m c) a t n → x ≡ kept t n → Meets (called m c) a x
+  stepped a t n x r k =
+      rw called-whole (record { answers = r .answers; leaves = k ∙ (λ i. kept (r .states i) (r .leaves i)) })
+
+  -- and as it only answers
+  pub answered : (a : Answer) → Tells (step s m c) a s m → Meets (called m c) a m
+  answered a r = stepped a s m m r (fronted m m s h refl)
+
+-- ---- the steps
+
+-- a step of the bus tells a number
+pub bus-tells : (j : ℕ) (r : Stepped) (k : ℕ) (t : State) (n : List ℕ)
+    → k ≡ j → Steps r t n → Tells (toldOf j r) (Value k) t n
+bus-tells j r k t n e h = record { answers = ap Value e; states = h .states; leaves = h .leaves }
+
+-- a write leaves the state in front
+pub wrote : (m : List ℕ) (s : State) (kind index x : ℕ) → Holds m s → (a : Answer) (n : List ℕ)
+    → Tells (writeOctet s m kind index x) a s n → Meets (called m (calls.write kind index x)) a n
+wrote m s kind index x h a n r =
+    let front = ap (take stateLength) (r .leaves) ∙ written-front s m kind index (holds-safe m s h) x in
+    stepped m s (calls.write kind index x) h a s n n r (fronted m n s h front)

@@ -1,0 +1,89 @@
+-- `station::user::read_octet` meets its contract.
+use Prim.Native.Nat.{_+_, _<_}
+use native.Mathlib.Omega.{arith}
+use mathlib.Core.Bool.{true}
+use mathlib.Core.Path.{_≡_, refl, sym, _∙_}
+use denote.Ref.{now}
+use lib.ListN.{length}
+use borrow.Author.Tests.{not-true, not-false}
+use Rattle.ledger.specs.User.{inRange}
+use Rattle.station.specs.User.{readOctet}
+use Rattle.station.proofs.Reaching.{reached}
+use borrow.Author.Needs.{needs}
+use Rattle.station.proofs.user.read_octet.Statement.{statement}
+use Rattle.station.proofs.user.read_octet.Tie as tie
+
+in-range-requires : tie.Need-in-range-requires
+in-range-requires c κs = search needs
+
+returns : tie.Need-returns
+unfolding readOctet
+returns c =
+    rw (sym (c .before .in-range .ensures) ∙ not-true _ (c .if1 .taken))
+    (record { answers = refl; states = refl; leaves = refl })
+
+absent-requires : tie.Need-absent-requires
+absent-requires c κs = search needs
+
+-- the index is in range
+in-range-is : (c : tie.Else1)
+    → inRange (c .before .before .before .args .s .setup) (c .before .before .before .args .kind) (c .before .before .before .args .index)
+    ≡ true
+in-range-is c = sym (c .before .in-range .ensures) ∙ not-false _ (c .if1 .left)
+
+returns-2 : tie.Need-returns-2
+unfolding readOctet
+returns-2 c =
+    rw (
+      in-range-is (c .before .before),
+      sym (c .before .absent .ensures) ∙ c .if2 .taken,
+    )
+    (record { answers = refl; states = refl; leaves = refl })
+
+kind-at-requires : tie.Need-kind-at-requires
+kind-at-requires c κs = search needs
+
+-- and its octet in the memory
+lies : (c : tie.After-kind-at)
+    → c .kind-at .result + c .before .before .before .before .before .before .args .index
+    < length (now (c .before .before .before .before .before .before .args .mem))
+lies c =
+    let d = c .before .before .before .before .before .before in
+    rw (c .kind-at .ensures)
+    (reached (d .args .s) (now (d .args .mem)) (d .args .kind) (d .args .index) (d .pre) (in-range-is (c .before .before .before)) .1)
+
+add-t12 : tie.Need-add-t12
+add-t12 c = let h = lies c in omega (arith, c .before .before .before .before .before .before .good)
+
+shared-slice-read-t14 : tie.Need-shared-slice-read-t14
+shared-slice-read-t14 c = lies (c .before)
+
+cast-t15 : tie.Need-cast-t15
+cast-t15 c =
+    let i = c .before .before .before .before .before .before .before .args .index in
+    omega (arith, c .shared-slice-known2 .given (c .before .kind-at .result + i))
+
+returns-3 : tie.Need-returns-3
+unfolding readOctet
+returns-3 c =
+    let d = c .before in
+    rw (
+      in-range-is (d .before .before .before),
+      sym (d .before .before .absent .ensures) ∙ d .before .if2 .left,
+      ← d .kind-at .ensures,
+    )
+    (record { answers = refl; states = refl; leaves = refl })
+
+pub read-octet-spec : {M : Type 1} → statement M
+read-octet-spec =
+    tie.close
+    (tie.spec
+    in-range-requires
+    returns
+    absent-requires
+    returns-2
+    kind-at-requires
+    add-t12
+    shared-slice-read-t14
+    cast-t15
+    returns-3)

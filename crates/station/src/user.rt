@@ -1,0 +1,285 @@
+// The calls of the vat program.
+use crate::deeds::busy;
+use crate::deeds::carry_out;
+use crate::deeds::diagnosis_changed;
+use crate::deeds::diagnosis_leaves;
+use crate::deeds::is_open;
+use crate::replies::user_place;
+use rules::diagnosis::delayed;
+use rules::diagnosis::delaying;
+use rules::diagnosis::diagnosed;
+use rules::line::clear_on;
+use rules::user::judged_configuration;
+use rules::user::judged_parameters;
+use state::answer::Answer;
+use state::answer::Refusal;
+use state::layout::configuration_at;
+use state::layout::diagnosis_at;
+use state::layout::inputs_at;
+use state::layout::outputs_at;
+use state::layout::parameters_at;
+use state::setup::Setup;
+use state::state::Outputs;
+use state::state::State;
+ghost use Prim.Native.Nat.{ℕ};
+ghost use mathlib.Core.Bool.{cond};
+ghost use mathlib.Core.List.{List};
+ghost use mathlib.Core.Path.{_≡_};
+ghost use lib.Dec.{eqb, leb};
+ghost use Rattle.ledger.specs.User.{lengthOf, inRange};
+ghost use Rattle.station.specs.Safe.{Safe};
+ghost use Rattle.station.specs.User.{Tells, told, refusing, absent, kindAt, takeOutputs, readOctet, writeOctet, handOver, newDiagnosis, judgeParameters, judgeConfiguration, acknowledgeEvents, leaveMaster};
+
+// What a call answers, and the state after it.
+pub struct UserStep {
+    pub answer: Answer,
+    pub state: State,
+}
+
+// A value and that state.
+fn told(n: u32, state: State) -> UserStep
+    ensures { λ r. ⌜ ((m : List ℕ) → Tells (told n state m) (r .answer) (r .state) m) ⌝ }
+{
+    UserStep {
+        answer: Answer::Value(n),
+        state,
+    }
+}
+
+// A refusal, and the state as it was.
+fn refusing(why: Refusal, state: State) -> UserStep
+    ensures { λ r. ⌜ ((m : List ℕ) → Tells (refusing why state m) (r .answer) (r .state) m) ⌝ }
+{
+    UserStep {
+        answer: Answer::Refused(why),
+        state,
+    }
+}
+
+// New outputs: 1, or 2 where the station published zeros.
+fn new_number(zeros: bool) -> u32
+    ensures { λ r. ⌜ r ≡ cond zeros 2 1 ⌝ }
+{
+    if zeros {
+        return 2;
+    }
+    1
+}
+
+// Take outputs: 0 nothing new; else its number, and next and held change.
+pub fn take_outputs(mut s: State) -> UserStep
+    ensures { λ r. ⌜ ((m : List ℕ) → Tells (takeOutputs s m) (r .answer) (r .state) m) ⌝ }
+{
+    if !s.outputs.set.fresh {
+        return told(0, s);
+    }
+    let zeros = s.outputs.zeros;
+    let outputs = Outputs {
+        set: s.outputs.set.take(),
+        zeros,
+    };
+    s.outputs = outputs;
+    told(new_number(zeros), s)
+}
+
+// What each kind is set to hold at most; 0 where there is no such kind.
+fn length_of(setup: Setup, kind: u32) -> u8
+    ensures { λ r. ⌜ r ≡ lengthOf setup kind ⌝ }
+{
+    if kind == 1 {
+        return setup.output_len;
+    }
+    if kind == 2 {
+        return setup.parameter_len;
+    }
+    if kind == 3 {
+        return setup.configuration_len;
+    }
+    if kind == 4 {
+        return setup.input_len;
+    }
+    if kind == 5 {
+        return setup.diagnosis_len;
+    }
+    0
+}
+
+// Index from 0, for 5 from 6,
+fn first_of(kind: u32) -> u32
+    ensures { λ r. ⌜ r ≡ cond (eqb kind 5) 6 0 ⌝ }
+{
+    if kind == 5 {
+        return 6;
+    }
+    0
+}
+
+// below the kind's set length.
+fn in_range(setup: Setup, kind: u32, index: u32) -> bool
+    ensures { λ r. ⌜ r ≡ inRange setup kind index ⌝ }
+{
+    (first_of(kind) <= index) & (index < length_of(setup, kind) as u32)
+}
+
+// An index is not below a count.
+fn past(count: u8, index: u32) -> bool
+    ensures { λ r. ⌜ r ≡ leb count index ⌝ }
+{
+    count as u32 <= index
+}
+
+// Kind 2 or 3 with no set shown or at an index not below its count, kind 5 while a new diagnosis is delayed.
+fn absent(s: State, kind: u32, index: u32) -> bool
+    ensures { λ r. ⌜ r ≡ absent s kind index ⌝ }
+{
+    ((kind == 2) & past(s.parameters.shown, index))
+        | ((kind == 3) & past(s.configuration.shown, index))
+        | ((kind == 5) & delayed(s.control))
+}
+
+// Where the octets of a kind begin.
+fn kind_at(s: State, kind: u32) -> usize
+    ensures { λ r. ⌜ r ≡ kindAt s kind ⌝ }
+{
+    let setup = s.setup;
+    if kind == 1 {
+        return outputs_at(setup, s.outputs.set.held());
+    }
+    if kind == 2 {
+        return parameters_at(setup, s.parameters.set.held());
+    }
+    if kind == 3 {
+        return configuration_at(setup, s.configuration.set.held());
+    }
+    if kind == 4 {
+        return inputs_at(setup, s.inputs.held());
+    }
+    diagnosis_at(setup, user_place(s.swapped))
+}
+
+// Reading answers the octet.
+pub fn read_octet(s: State, mem: &[u8], kind: u32, index: u32) -> Answer
+    requires { ⌜ Safe s (now mem) ⌝ }
+    ensures { λ r. ⌜ Tells (readOctet s (now (mem .entry)) kind index) r s (now (mem .entry)) ⌝ }
+{
+    if !in_range(s.setup, kind, index) {
+        return Answer::Refused(Refusal::Range);
+    }
+    if absent(s, kind, index) {
+        return Answer::Refused(Refusal::Absent);
+    }
+    Answer::Value(mem[kind_at(s, kind) + index as usize] as u32)
+}
+
+// Kinds 4 and 5 are written.
+pub fn write_octet(s: State, mem: &mut [u8], kind: u32, index: u32, octet: u8) -> Answer
+    requires { ⌜ Safe s (now mem) ⌝ }
+    ensures { λ r. ⌜ Tells (writeOctet s (now (mem .entry)) kind index octet) r s (now (mem .exit)) ⌝ }
+{
+    if !(((kind == 4) | (kind == 5)) & in_range(s.setup, kind, index)) {
+        return Answer::Refused(Refusal::Range);
+    }
+    if absent(s, kind, index) {
+        return Answer::Refused(Refusal::Absent);
+    }
+    mem[kind_at(s, kind) + index as usize] = octet;
+    Answer::Value(0)
+}
+
+// Hand over inputs: held and next change, next is new.
+pub fn hand_over(mut s: State) -> State
+    ensures { λ r. ⌜ ((m : List ℕ) → Tells (handOver s m) (Answer.Value 0) r m) ⌝ }
+{
+    let inputs = s.inputs.hand_over();
+    s.inputs = inputs;
+    s
+}
+
+// New diagnosis; while a Slave_Diag reply is unfinished all of it waits.
+pub fn new_diagnosis(mut s: State, count: u32, flags: u32) -> UserStep
+    ensures { λ r. ⌜ ((m : List ℕ) → Tells (newDiagnosis s m count flags) (r .answer) (r .state) m) ⌝ }
+{
+    if !((6 <= count) & (count <= s.setup.diagnosis_len as u32) & (flags <= 7)) {
+        return refusing(Refusal::Range, s);
+    }
+    if delayed(s.control) {
+        return refusing(Refusal::Delayed, s);
+    }
+    let n = count as u8;
+    let f = flags as u8;
+    if diagnosis_leaves(s) {
+        s.control = delaying(s.control, n, f);
+        return told(0, s);
+    }
+    told(0, diagnosis_changed(s, diagnosed(s.control, n, f)))
+}
+
+// 1 if a newer set waited, else 0.
+fn waited_number(waits: bool) -> u32
+    ensures { λ r. ⌜ r ≡ cond waits 1 0 ⌝ }
+{
+    if waits {
+        return 1;
+    }
+    0
+}
+
+// Judge parameters: a set has to be open.
+pub fn judge_parameters(s: State, mem: &mut [u8], judgement: u32) -> UserStep
+    requires { ⌜ Safe s (now mem) ⌝ }
+    ensures { λ r. ⌜ Tells (judgeParameters s (now (mem .entry)) judgement) (r .answer) (r .state) (now (mem .exit)) ⌝ }
+{
+    if !is_open(s.parameters) {
+        return refusing(Refusal::Judging, s);
+    }
+    if !(judgement <= 1) {
+        return refusing(Refusal::Range, s);
+    }
+    let waits = s.parameters.set.fresh;
+    let t = carry_out(
+        s,
+        mem,
+        judged_parameters(s.control, waits, judgement == 1),
+        0,
+    );
+    told(waited_number(waits), t)
+}
+
+// Judge configuration: likewise, and not before good parameters.
+pub fn judge_configuration(s: State, mem: &mut [u8], judgement: u32) -> UserStep
+    requires { ⌜ Safe s (now mem) ⌝ }
+    ensures { λ r. ⌜ Tells (judgeConfiguration s (now (mem .entry)) judgement) (r .answer) (r .state) (now (mem .exit)) ⌝ }
+{
+    if !(is_open(s.configuration) & s.control.flags.parameters_good) {
+        return refusing(Refusal::Judging, s);
+    }
+    if !(judgement <= 1) {
+        return refusing(Refusal::Range, s);
+    }
+    let waits = s.configuration.set.fresh;
+    let t = carry_out(
+        s,
+        mem,
+        judged_configuration(s.control, waits, judgement == 1),
+        0,
+    );
+    told(waited_number(waits), t)
+}
+
+// Acknowledge clears bits, never 10 or 11.
+pub fn acknowledge(mut s: State, mask: u16) -> State
+    ensures { λ r. ⌜ ((m : List ℕ) → Tells (acknowledgeEvents s m mask) (Answer.Value 0) r m) ⌝ }
+{
+    let mut control = s.control;
+    control.events = control.events.acknowledge(mask);
+    s.control = control;
+    s
+}
+
+// Leave master: a clear.
+pub fn leave(s: State, mem: &mut [u8]) -> State
+    requires { ⌜ Safe s (now mem) ⌝ }
+    ensures { λ r. ⌜ Tells (leaveMaster s (now (mem .entry))) (Answer.Value 0) r (now (mem .exit)) ⌝ }
+{
+    carry_out(s, mem, clear_on(busy(s), s.control), 0)
+}
