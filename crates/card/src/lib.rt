@@ -1,0 +1,174 @@
+// The station as firmware in C calls it: the memory first, plain numbers, a refusal negated.
+use station::calls;
+ghost use mathlib.Core.Bool.{not};
+ghost use lib.Dec.{eqb};
+ghost use lib.ListN.{length};
+ghost use Rattle.state.specs.Start.{given, started};
+ghost use Rattle.ledger.specs.Calls.{gap, send, tick, take, read, write, hand-over, new-diagnosis, judge-parameters, judge-configuration, events, acknowledge, pending, leave};
+ghost use Rattle.ledger.specs.Calls as call;
+ghost use Rattle.station.specs.Calls.{called};
+ghost use Rattle.card.specs.Exports.{Returns};
+
+// Start: sets the station up in the memory. 0, or refused by 1 to 4.
+#[no_mangle]
+pub extern "C" fn dp_start(
+    memory: &mut [u8],
+    address: u32,
+    ident: u16,
+    output_len: u32,
+    input_len: u32,
+    parameter_len: u32,
+    configuration_len: u32,
+    diagnosis_len: u32,
+    get_cfg: &[u8],
+) -> i64
+    ensures { λ r. ⌜ Returns (started (now (memory .entry)) (given address ident «output_len» «input_len» «parameter_len» «configuration_len» «diagnosis_len» (length (now («get_cfg» .entry)))) (now («get_cfg» .entry))) r (now (memory .exit)) ⌝ }
+{
+    let answer = state::start::start(
+        memory,
+        address,
+        ident,
+        output_len,
+        input_len,
+        parameter_len,
+        configuration_len,
+        diagnosis_len,
+        get_cfg,
+    );
+    answer.code()
+}
+
+// The bus's octet. bad: 0 for one that was well received, any other value flags it.
+#[no_mangle]
+pub extern "C" fn dp_octet(memory: &mut [u8], octet: u8, bad: u8) -> i64
+    ensures { λ r. ⌜ Returns (called (now (memory .entry)) (call.octet octet (not (eqb bad 0)))) r (now (memory .exit)) ⌝ }
+{
+    let answer = calls::octet(memory, octet, !(bad == 0));
+    answer.code()
+}
+
+// A gap on the line.
+#[no_mangle]
+pub extern "C" fn dp_gap(memory: &mut [u8]) -> i64
+    ensures { λ r. ⌜ Returns (called (now (memory .entry)) gap) r (now (memory .exit)) ⌝ }
+{
+    let answer = calls::gap(memory);
+    answer.code()
+}
+
+// The next octet of the reply, 256 when none is left.
+#[no_mangle]
+pub extern "C" fn dp_send(memory: &mut [u8]) -> i64
+    ensures { λ r. ⌜ Returns (called (now (memory .entry)) send) r (now (memory .exit)) ⌝ }
+{
+    let answer = calls::send(memory);
+    answer.code()
+}
+
+// A Tick, every 10 ms.
+#[no_mangle]
+pub extern "C" fn dp_tick(memory: &mut [u8]) -> i64
+    ensures { λ r. ⌜ Returns (called (now (memory .entry)) tick) r (now (memory .exit)) ⌝ }
+{
+    let answer = calls::tick(memory);
+    answer.code()
+}
+
+// Take outputs: 0 nothing new, 1 new, 2 new zeros published by the station.
+#[no_mangle]
+pub extern "C" fn dp_take_outputs(memory: &mut [u8]) -> i64
+    ensures { λ r. ⌜ Returns (called (now (memory .entry)) take) r (now (memory .exit)) ⌝ }
+{
+    let answer = calls::take(memory);
+    answer.code()
+}
+
+// An octet of kind 1 outputs, 2 parameters shown, 3 configuration shown, 4 held inputs, 5 the user's diagnosis.
+#[no_mangle]
+pub extern "C" fn dp_read(memory: &mut [u8], kind: u32, index: u32) -> i64
+    ensures { λ r. ⌜ Returns (called (now (memory .entry)) (read kind index)) r (now (memory .exit)) ⌝ }
+{
+    let answer = calls::read(memory, kind, index);
+    answer.code()
+}
+
+// An octet of kind 4 or 5 written.
+#[no_mangle]
+pub extern "C" fn dp_write(memory: &mut [u8], kind: u32, index: u32, octet: u8) -> i64
+    ensures { λ r. ⌜ Returns (called (now (memory .entry)) (write kind index octet)) r (now (memory .exit)) ⌝ }
+{
+    let answer = calls::write(memory, kind, index, octet);
+    answer.code()
+}
+
+// Hand over inputs.
+#[no_mangle]
+pub extern "C" fn dp_hand_over_inputs(memory: &mut [u8]) -> i64
+    ensures { λ r. ⌜ Returns (called (now (memory .entry)) hand-over) r (now (memory .exit)) ⌝ }
+{
+    let answer = calls::hand_over(memory);
+    answer.code()
+}
+
+// New diagnosis of `count` octets, flags in bits 0 to 2: Ext_Diag, Stat_Diag, overflow.
+#[no_mangle]
+pub extern "C" fn dp_new_diagnosis(memory: &mut [u8], count: u32, flags: u32) -> i64
+    ensures { λ r. ⌜ Returns (called (now (memory .entry)) (new-diagnosis count flags)) r (now (memory .exit)) ⌝ }
+{
+    let answer = calls::new_diagnosis(memory, count, flags);
+    answer.code()
+}
+
+// Judge parameters, 1 good, 0 bad: 1 if a newer set waited, which is now shown, else 0.
+#[no_mangle]
+pub extern "C" fn dp_judge_parameters(memory: &mut [u8], judgement: u32) -> i64
+    ensures { λ r. ⌜ Returns (called (now (memory .entry)) (judge-parameters judgement)) r (now (memory .exit)) ⌝ }
+{
+    let answer = calls::judge_parameters(memory, judgement);
+    answer.code()
+}
+
+// Judge configuration, likewise.
+#[no_mangle]
+pub extern "C" fn dp_judge_configuration(memory: &mut [u8], judgement: u32) -> i64
+    ensures { λ r. ⌜ Returns (called (now (memory .entry)) (judge-configuration judgement)) r (now (memory .exit)) ⌝ }
+{
+    let answer = calls::judge_configuration(memory, judgement);
+    answer.code()
+}
+
+// The event word.
+#[no_mangle]
+pub extern "C" fn dp_events(memory: &mut [u8]) -> i64
+    ensures { λ r. ⌜ Returns (called (now (memory .entry)) events) r (now (memory .exit)) ⌝ }
+{
+    let answer = calls::events(memory);
+    answer.code()
+}
+
+// Clears the events of the mask, never 10 or 11.
+#[no_mangle]
+pub extern "C" fn dp_acknowledge(memory: &mut [u8], mask: u16) -> i64
+    ensures { λ r. ⌜ Returns (called (now (memory .entry)) (acknowledge mask)) r (now (memory .exit)) ⌝ }
+{
+    let answer = calls::acknowledge(memory, mask);
+    answer.code()
+}
+
+// The number of some event that is set, 16 for none.
+#[no_mangle]
+pub extern "C" fn dp_pending(memory: &mut [u8]) -> i64
+    ensures { λ r. ⌜ Returns (called (now (memory .entry)) pending) r (now (memory .exit)) ⌝ }
+{
+    let answer = calls::pending(memory);
+    answer.code()
+}
+
+// Leave the master: a clear.
+#[no_mangle]
+pub extern "C" fn dp_leave_master(memory: &mut [u8]) -> i64
+    ensures { λ r. ⌜ Returns (called (now (memory .entry)) leave) r (now (memory .exit)) ⌝ }
+{
+    let answer = calls::leave(memory);
+    answer.code()
+}
