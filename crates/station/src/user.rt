@@ -104,7 +104,7 @@ fn length_of(setup: Setup, kind: u32) -> u8
     0
 }
 
-// Index from 0, for 5 from 6,
+// The first index of a kind: 0, and 6 for kind 5.
 fn first_of(kind: u32) -> u32
     ensures { λ r. ⌜ r ≡ cond (eqb kind 5) 6 0 ⌝ }
 {
@@ -114,7 +114,7 @@ fn first_of(kind: u32) -> u32
     0
 }
 
-// below the kind's set length.
+// Index from the first one, below the kind's set length.
 fn in_range(setup: Setup, kind: u32, index: u32) -> bool
     ensures { λ r. ⌜ r ≡ inRange setup kind index ⌝ }
 {
