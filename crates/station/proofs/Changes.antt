@@ -20,7 +20,8 @@ use Rattle.ledger.specs.Ledger as ledger
 use Rattle.ledger.specs.Ledger.{Ledger, withLine}
 use Rattle.ledger.specs.Deeds as ledger-deeds
 use Rattle.station.specs.With.{withControl, withReply}
-use Rattle.station.specs.Deeds.{isDiagnosis, diagnosisLeaves, diagnosisChanged}
+use Rattle.ledger.specs.Replies.{diagnoses}
+use Rattle.station.specs.Deeds.{diagnosisLeaves, diagnosisChanged}
 use Rattle.station.specs.Replies.{noReply, ownPlace}
 use Rattle.station.specs.Reading.{readBy}
 use Rattle.station.proofs.Relation.{DiagnosesAgree, Gathered, ReadingAgrees, Agrees}
@@ -49,7 +50,7 @@ flipped false h = record { own = h .user; user = h .own }
 
 -- an unfinished reply is not a Slave_Diag's
 not-diagnosis : (s : State) → diagnosisLeaves s ≡ false → left (s .reply .sender) ≡ true → s .reply .drawn ≡ drawn.Diagnosis → ⊥
-not-diagnosis s e h w = no-true (sym e ∙ (λ i. isDiagnosis (w i) && h i))
+not-diagnosis s e h w = no-true (sym e ∙ (λ i. diagnoses (w i) && h i))
 
 -- nothing gathered stands anywhere
 pub gathered-none : (s : State) (m : List ℕ) → Gathered s m []

@@ -32,7 +32,8 @@ use Rattle.ledger.specs.Ledger.{Line}
 use Rattle.ledger.specs.Replies.{headerOctets, diagnosisOctets, serviceReply, replyOf, diagnoses}
 use Rattle.station.specs.Safe.{Safe}
 use Rattle.station.specs.With.{withReply}
-use Rattle.station.specs.Replies.{exchangeFc, servicing, replyFor, ownPlace, headerAt, contentAt, datumAt}
+use Rattle.ledger.specs.Replies.{exchangeFc}
+use Rattle.station.specs.Replies.{servicing, replyFor, ownPlace, headerAt, contentAt, datumAt}
 use Rattle.station.proofs.Relation.{ReplyAgrees}
 use Rattle.station.proofs.Carries.{own-in}
 use Rattle.station.proofs.Facts.{Ranges}

@@ -18,7 +18,7 @@ use Rattle.state.specs.Layout.{outputsAt, inputsAt, parametersAt, configuration
 use Rattle.ledger.specs.Lists.{some, Outputs, Inputs, Sets, Diagnoses}
 use Rattle.ledger.specs.Ledger.{Line, Ledger}
 use Rattle.station.specs.Safe.{Safe}
-use Rattle.station.specs.Deeds.{isDiagnosis}
+use Rattle.ledger.specs.Replies.{diagnoses}
 use Rattle.station.specs.Replies.{ownPlace, userPlace, datumAt}
 use Rattle.station.specs.Reading.{isIgnored}
 
@@ -75,7 +75,7 @@ pub record ReplyAgrees (s : State) (m : List ℕ) (n : Line) (ds : List ℕ) : T
   pub count : length ds ≡ s .reply .sender .count
   pub octets : (k : ℕ) → k < length ds → datumAt s m k ≡ getD ds k 0
   pub left : toSend (s .reply .sender) ds ≡ n .reply
-  pub diagnosis : isDiagnosis (s .reply .drawn) ≡ n .diagnosing
+  pub diagnosis : diagnoses (s .reply .drawn) ≡ n .diagnosing
 
 pub record Agrees (s : State) (m : List ℕ) (l : Ledger) : Type 0 where
   pub setup : s .setup ≡ l .setup

@@ -20,7 +20,7 @@ use Rattle.state.specs.declared.state.Reply.{Reply}
 use Rattle.state.specs.declared.state.State.{State}
 use Rattle.state.specs.Layout.{outputsAt, inputsAt, parametersAt, configurationAt, diagnosisAt, getCfgAt}
 use Rattle.ledger.specs.Ledger.{Line}
-use Rattle.station.specs.Deeds.{isDiagnosis}
+use Rattle.ledger.specs.Replies.{diagnoses}
 use Rattle.station.specs.Replies.{ownPlace, headerAt, contentAt, pointOf, isExchange, datumAt}
 use Rattle.station.specs.Reading.{isIgnored}
 use Rattle.station.proofs.Relation.{BeginsWith, Gathered, ReadingAgrees, ReplyAgrees}
@@ -94,7 +94,7 @@ module _ (s s′ : State) (m m′ : List ℕ) (same : s′ .reply ≡ s .reply) 
           count = h .count ∙ sym counts;
           octets = λ k l. datum-same k (f e) ∙ h .octets k l;
           left = ap (λ (x : Reply). toSend (x .sender) (r .0)) same ∙ h .left;
-          diagnosis = ap (λ (x : Reply). isDiagnosis (x .drawn)) same ∙ h .diagnosis;
+          diagnosis = ap (λ (x : Reply). diagnoses (x .drawn)) same ∙ h .diagnosis;
         },
       )
       go false e =
@@ -105,7 +105,7 @@ module _ (s s′ : State) (m m′ : List ℕ) (same : s′ .reply ≡ s .reply) 
               octets = λ k l. xs .2 k (omega (arith, xs .1));
               left =
                   ap (λ (x : Reply). toSend (x .sender) (xs .0)) same ∙ none (s .reply .sender) (xs .0) e ∙ sym (none (s .reply .sender) (r .0) e) ∙ h .left;
-              diagnosis = ap (λ (x : Reply). isDiagnosis (x .drawn)) same ∙ h .diagnosis;
+              diagnosis = ap (λ (x : Reply). diagnoses (x .drawn)) same ∙ h .diagnosis;
             },
           )
 

@@ -13,8 +13,6 @@ use Rattle.telegram.specs.Reading.{status}
 use Rattle.telegram.specs.Sending.{left}
 use Rattle.state.specs.declared.setup.Setup.{Setup}
 use Rattle.state.specs.declared.control.Control.{Control}
-use Rattle.state.specs.declared.state.Drawn.{Drawn}
-use Rattle.state.specs.declared.state.Drawn.the-variants as drawn
 use Rattle.state.specs.declared.state.Outputs.{Outputs}
 use Rattle.state.specs.declared.state.Sets.{Sets}
 use Rattle.state.specs.declared.state.State.{State}
@@ -25,6 +23,7 @@ use Rattle.rules.specs.declared.outcome.SetDeed.{SetDeed}
 use Rattle.rules.specs.declared.outcome.SetDeed.the-variants as set-deed
 use Rattle.rules.specs.declared.outcome.Outcome.{Outcome}
 use Rattle.rules.specs.Line.{settled}
+use Rattle.ledger.specs.Replies.{diagnoses}
 use Rattle.rules.specs.Diagnosis.{delayed, caughtUp}
 use Rattle.station.specs.Stepped.{Stepped}
 
@@ -42,20 +41,9 @@ begun s = isInside (status (s .incoming .reader))
 abbrev pub busy : State → Bool
 busy s = begun s || left (s .reply .sender)
 
-abbrev pub isDiagnosis : Drawn → Bool
-isDiagnosis drawn.Nothing = false
-isDiagnosis drawn.Acknowledge = false
-isDiagnosis drawn.Status = false
-isDiagnosis drawn.Rejected = false
-isDiagnosis drawn.Exchange = false
-isDiagnosis drawn.Inputs = false
-isDiagnosis drawn.Outputs = false
-isDiagnosis drawn.Configuration = false
-isDiagnosis drawn.Diagnosis = true
-
 -- a Slave_Diag reply is unfinished
 abbrev pub diagnosisLeaves : State → Bool
-diagnosisLeaves s = isDiagnosis (s .reply .drawn) && left (s .reply .sender)
+diagnosisLeaves s = diagnoses (s .reply .drawn) && left (s .reply .sender)
 
 -- a set is open
 abbrev pub isOpen : Sets → Bool

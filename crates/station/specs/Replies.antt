@@ -21,14 +21,11 @@ use Rattle.state.specs.declared.state.Reply.{Reply}
 use Rattle.state.specs.declared.state.State.{State}
 use Rattle.state.specs.Layout.{outputsAt, inputsAt, diagnosisAt, getCfgAt}
 use Rattle.rules.specs.Diagnosis.{headerOf}
+use Rattle.ledger.specs.Replies.{exchangeFc}
 
 -- nothing to send
 abbrev pub noReply : Reply
 noReply = record { drawn = Nothing; sender = empty; place = 0; header = record { status1 = 0; status2 = 0; status3 = 0; master = 0 } }
-
--- FC 08, or 0A while Diag_Flag
-abbrev pub exchangeFc : Control → ℕ
-exchangeFc c = cond (c .flags .«diag_flag») 0x0A 0x08
 
 -- SD2 with bit 7 in both addresses: DSAP and SSAP stand before n data octets
 abbrev pub servicing : Setup → ℕ → ℕ → Sender

@@ -16,7 +16,8 @@ use telegram::reader::Status;
 ghost use mathlib.Core.Path.{_≡_};
 ghost use Rattle.station.specs.Safe.{Safe};
 ghost use Rattle.station.specs.Stepped.{Steps};
-ghost use Rattle.station.specs.Deeds.{isInside, begun, busy, isDiagnosis, diagnosisLeaves, isOpen, onOutputs, onInputs, receivedSet, onSets, onState, onMemory, carried, diagnosisChanged, afterReply, settle};
+ghost use Rattle.ledger.specs.Replies.{diagnoses};
+ghost use Rattle.station.specs.Deeds.{isInside, begun, busy, diagnosisLeaves, isOpen, onOutputs, onInputs, receivedSet, onSets, onState, onMemory, carried, diagnosisChanged, afterReply, settle};
 
 fn is_inside(status: Status) -> bool
     ensures { λ r. ⌜ r ≡ isInside status ⌝ }
@@ -46,7 +47,7 @@ pub fn busy(s: State) -> bool
 }
 
 fn is_diagnosis(drawn: Drawn) -> bool
-    ensures { λ r. ⌜ r ≡ isDiagnosis drawn ⌝ }
+    ensures { λ r. ⌜ r ≡ diagnoses drawn ⌝ }
 {
     match drawn {
         Drawn::Nothing => false,

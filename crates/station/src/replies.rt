@@ -18,7 +18,8 @@ ghost use mathlib.Core.Path.{_≡_};
 ghost use lib.ListN.{length, getD};
 ghost use Rattle.octets.specs.Part.{part};
 ghost use Rattle.station.specs.Safe.{Safe};
-ghost use Rattle.station.specs.Replies.{noReply, exchangeFc, servicing, senderFor, replyFor, ownPlace, userPlace, headerAt, contentAt, pointOf, isExchange, datumAt, askedFor};
+ghost use Rattle.ledger.specs.Replies.{exchangeFc};
+ghost use Rattle.station.specs.Replies.{noReply, servicing, senderFor, replyFor, ownPlace, userPlace, headerAt, contentAt, pointOf, isExchange, datumAt, askedFor};
 
 // Nothing to send.
 pub fn no_reply() -> Reply
