@@ -1,33 +1,30 @@
 -- Demand 3: for every list of calls from a freshly started station the answers over the memory are the ledger's.
 use Prim.Native.Nat.{ℕ, _<_}
 use native.Mathlib.Omega.{arith}
-use mathlib.Core.Path.{_≡_, refl, sym, ap, _∙_, subst}
-use mathlib.Core.Bool.{Bool, true, cond}
+use mathlib.Core.Path.{_≡_, refl, sym, ap, _∙_}
+use mathlib.Core.Bool.{Bool}
 use mathlib.Core.List.{List, [], _∷_, _++_}
 use lib.ListN.{length, getD}
 use Rattle.state.specs.declared.answer.Answer.{Answer}
-use Rattle.state.specs.declared.answer.Answer.the-variants.{Value, Refused}
-use Rattle.state.specs.declared.answer.Refusal.{Refusal}
-use Rattle.state.specs.declared.answer.Refusal.the-variants.{Damaged}
+use Rattle.state.specs.declared.answer.Answer.the-variants.{Value}
 use Rattle.state.specs.declared.setup.Setup.{Setup}
 use Rattle.state.specs.declared.state.State.{State}
-use Rattle.state.specs.Answer.{Called, refused}
-use Rattle.state.specs.Memory.{Holds, wellMemory, kept}
+use Rattle.state.specs.Answer.{Called}
+use Rattle.state.specs.Memory.{Holds, kept}
 use Rattle.state.specs.Start.{initialState, started}
-use Rattle.state.specs.Unpack.{unpacked}
-use Rattle.state.proofs.Damage.{holds-unpacked, holds-well, kept-holds}
+use Rattle.state.proofs.Damage.{kept-holds}
 use Rattle.state.proofs.Started.{after-holds}
 use Rattle.ledger.specs.Ledger.{Ledger, fresh}
 use Rattle.ledger.specs.Calls as ledger
 use Rattle.ledger.specs.Calls.{Call, octet, read, after}
-use Rattle.ledger.specs.Exchange.{Inner, Exchanged, ofUser}
+use Rattle.ledger.specs.Exchange.{Exchanged}
 use Rattle.ledger.specs.History.{readable, history}
 use Rattle.ledger.specs.ReadBack.{Accepted, Fit}
 use Rattle.ledger.proofs.Exchange.{exchange}
 use Rattle.ledger.proofs.Fit.{step-fit, replies-read}
 use Rattle.ledger.proofs.History.{outputs-read}
 use Rattle.station.specs.User.{Told}
-use Rattle.station.specs.Calls.{step, packedAs, packed, called, answers}
+use Rattle.station.specs.Calls.{step, called, answers}
 use Rattle.station.specs.Agreement.{memoryOf, PlacesChanged, Agreement}
 use Rattle.station.proofs.Steady.{Related}
 use Rattle.station.proofs.Follows.{Follows}
@@ -35,7 +32,8 @@ use Rattle.station.proofs.Facts.{Ranges}
 use Rattle.station.proofs.Begins.{start-ranges}
 use Rattle.station.proofs.OctetSend.{all-follow, start-related}
 use Rattle.station.proofs.Packed.{kept-agrees, agrees-sound}
-use Rattle.station.proofs.Lengths.{step-length, step-leaves}
+use Rattle.station.proofs.Calling.{called-whole}
+use Rattle.station.proofs.Lengths.{step-length}
 
 -- the memory m holds the state s, which the ledger l is about
 record On (m : List ℕ) (s : State) (l : Ledger) : Type 0 where
@@ -62,13 +60,6 @@ fit-ranges f = record {
 }
 
 module _ (m : List ℕ) (s : State) (l : Ledger) (o : On m s l) (c : Call) where
-  -- the memory is well, and the state is unpacked
-  unpacks : called m c ≡ packed m (step s m c)
-  unfolding called
-  unpacks =
-      ap (λ (b : Bool). cond b (packed m (step (unpacked m) m c)) (refused m Damaged)) (holds-well m s (o .holds))
-      ∙ ap (λ (x : State). packed m (step x m c)) (holds-unpacked m s (o .holds))
-
   t : Told
   t = step s m c
 
@@ -91,39 +82,14 @@ module _ (m : List ℕ) (s : State) (l : Ledger) (o : On m s l) (c : Call) where
         fit = after-fit;
       }
 
-  -- or nothing changed
-  stays : (why : Refusal) → t .answer ≡ Refused why → On m s (ledger.step l c .ledger)
-  unfolding t
-  stays why e =
-      let v = step-leaves s m c in
-      record {
-        holds = o .holds;
-        related =
-            subst (λ (x : State). Related x m (ledger.step l c .ledger)) (v .state-same why e)
-            (subst (λ (n : List ℕ). Related (t .state) n (ledger.step l c .ledger)) (v .memory-same why e) (follow .again));
-        fit = after-fit;
-      }
-
   does : Does m l c
   unfolding t
-  does = go (t .answer) refl
-    where
-      told : t .answer ≡ ledger.step l c .answer
-      told = follow .matches .answers
-
-      go : (a : Answer) → t .answer ≡ a → Does m l c
-      go (Value n) e = record {
-        memory-after = kept (t .state) (t .memory);
-        state-after = t .state;
-        tells = unpacks ∙ ap (λ (a : Answer). packedAs a m t) e ∙ ap (λ (a : Answer). record { answer = a; memory = kept (t .state) (t .memory) }) (sym e ∙ told);
-        again = packs;
-      }
-      go (Refused why) e = record {
-        memory-after = m;
-        state-after = s;
-        tells = unpacks ∙ ap (λ (a : Answer). packedAs a m t) e ∙ ap (λ (a : Answer). record { answer = a; memory = m }) (sym e ∙ told);
-        again = stays why e;
-      }
+  does = record {
+    memory-after = kept (t .state) (t .memory);
+    state-after = t .state;
+    tells = called-whole m s c (o .holds) ∙ ap (λ (a : Answer). record { answer = a; memory = kept (t .state) (t .memory) }) (follow .matches .answers);
+    again = packs;
+  }
 
 -- over a list of calls
 agrees-on : (cs : List Call) (m : List ℕ) (s : State) (l : Ledger) → On m s l → answers m cs ≡ ledger.answers l cs

@@ -1,6 +1,5 @@
--- No call changes the memory's length, and a refused one changes nothing.
+-- No call changes the memory's length.
 use Prim.Native.Nat.{ℕ}
-use native.Mathlib.Omega.{arith}
 use mathlib.Core.Path.{_≡_, refl, _∙_}
 use mathlib.Core.Bool.{Bool, true, false, cond, not, _&&_}
 use mathlib.Core.List.{List}
@@ -13,9 +12,6 @@ use Rattle.telegram.specs.declared.reader.Status.{Status}
 use Rattle.telegram.specs.declared.reader.Status.the-variants.{Fresh, Inside, Complete, Broken}
 use Rattle.telegram.specs.Reading.{start, off, received, status, datumOf}
 use Rattle.telegram.specs.Sending.{left, sent}
-use Rattle.state.specs.declared.answer.Answer.the-variants.{Value, Refused}
-use Rattle.state.specs.declared.answer.Refusal.{Refusal}
-use Rattle.state.specs.declared.answer.Refusal.the-variants.{Judging, Range, Absent, Delayed}
 use Rattle.state.specs.declared.state.State.{State}
 use Rattle.state.specs.Well.{within}
 use Rattle.rules.specs.declared.outcome.Outcome.{Outcome}
@@ -38,8 +34,6 @@ use Rattle.station.proofs.Safety.{on-memory-length, stored-data-length,
 either : {A : Type 0} (P : A → Type 0) (t : Bool) {x y : A} → P x → P y → P (cond t x y)
 either P true p q = p
 either P false p q = q
-
--- ---- lengths
 
 -- as long as m
 abbrev Long : List ℕ → Stepped → Type 0
@@ -119,52 +113,3 @@ module _ (s : State) (m : List ℕ) (h : Safe s m) where
   step-length (acknowledge mask) = refl
   step-length pending = refl
   step-length leave = carried-length s m h _ 0
-
--- ---- refusals
-
--- a refused call changes nothing
-pub record Leaves (s : State) (m : List ℕ) (t : Told) : Type 0 where
-  pub state-same : (why : Refusal) → t .answer ≡ Refused why → t .state ≡ s
-  pub memory-same : (why : Refusal) → t .answer ≡ Refused why → t .memory ≡ m
-
-no-refusal : {A : Type 0} (n : ℕ) (why : Refusal) → Value n ≡ Refused why → A
-no-refusal n why e = let z : _≡_ {A = ℕ} 0 1 = cc in absurd (omega arith)
-
-module _ (s : State) (m : List ℕ) where
-  answered-leaves : (t : Told) (n : ℕ) → t .answer ≡ Value n → Leaves s m t
-  answered-leaves t n e = record {
-    state-same = λ why f. let g : Value n ≡ Refused why = cc in no-refusal n why g;
-    memory-same = λ why f. let g : Value n ≡ Refused why = cc in no-refusal n why g;
-  }
-
-  refusal-leaves : {t : Told} → t .state ≡ s → t .memory ≡ m → Leaves s m t
-  refusal-leaves e f = record { state-same = λ _ _. e; memory-same = λ _ _. f }
-
-  pub step-leaves : (c : Call) → Leaves s m (step s m c)
-  unfolding paused takeOutputs readOctet writeOctet handOver newDiagnosis judgeParameters judgeConfiguration acknowledgeEvents leaveMaster
-  step-leaves (octet b bad) = answered-leaves _ 0 refl
-  step-leaves gap = answered-leaves _ 0 refl
-  step-leaves send = answered-leaves _ _ refl
-  step-leaves tick = answered-leaves _ 0 refl
-  step-leaves take = either (Leaves s m) (not (s .outputs .set .fresh)) (answered-leaves _ 0 refl) (answered-leaves _ _ refl)
-  step-leaves (read kind index) =
-      either (Leaves s m) (not (inRange (s .setup) kind index)) (refusal-leaves refl refl)
-      (either (Leaves s m) (absent s kind index) (refusal-leaves refl refl) (answered-leaves _ _ refl))
-  step-leaves (write kind index x) =
-      either (Leaves s m) (not (writable kind && inRange (s .setup) kind index)) (refusal-leaves refl refl)
-      (either (Leaves s m) (absent s kind index) (refusal-leaves refl refl) (answered-leaves _ 0 refl))
-  step-leaves hand-over = answered-leaves _ 0 refl
-  step-leaves (new-diagnosis count flags) =
-      either (Leaves s m) (not (within 6 count (s .setup .«diagnosis_len») && leb flags 7)) (refusal-leaves refl refl)
-      (either (Leaves s m) (delayed (s .control)) (refusal-leaves refl refl)
-      (either (Leaves s m) (diagnosisLeaves s) (answered-leaves _ 0 refl) (answered-leaves _ 0 refl)))
-  step-leaves (judge-parameters j) =
-      either (Leaves s m) (not (isOpen (s .parameters))) (refusal-leaves refl refl)
-      (either (Leaves s m) (not (leb j 1)) (refusal-leaves refl refl) (answered-leaves _ _ refl))
-  step-leaves (judge-configuration j) =
-      either (Leaves s m) (not (isOpen (s .configuration) && s .control .flags .«parameters_good»)) (refusal-leaves refl refl)
-      (either (Leaves s m) (not (leb j 1)) (refusal-leaves refl refl) (answered-leaves _ _ refl))
-  step-leaves events = answered-leaves _ _ refl
-  step-leaves (acknowledge mask) = answered-leaves _ 0 refl
-  step-leaves pending = answered-leaves _ _ refl
-  step-leaves leave = answered-leaves _ 0 refl
