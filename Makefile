@@ -1,0 +1,81 @@
+# The C side: the example firmware and the benchmark. All that is made lies below target/.
+#   make run      the library if need be, the example, and its run
+#   make check    the example's output against examples/card.expected, the header in C99 and in C++17
+#   make bench    instructions for each call (needs valgrind) and octets per second
+#   make clean    removes what this file made; the library stays
+# LIB=path takes another library than the repository's.
+
+LIB ?= target/staticlib/libcard.a
+OUT := target/c
+
+CC := gcc
+CXX := g++
+WARNINGS := -Wall -Wextra -Werror -pedantic
+CFLAGS := -std=c99 -O2 $(WARNINGS)
+CXXFLAGS := -x c++ -std=c++17 -O2 $(WARNINGS)
+CPPFLAGS := -Iinclude -Iexamples
+
+# Under valgrind a smaller number does: the counts are the same in every cycle.
+COUNTED_CYCLES := 200
+
+HEADERS := include/dp.h examples/refusals.h examples/card.h
+
+.PHONY: run check check-example check-header check-prototypes bench clean FORCE
+
+run: $(OUT)/card
+	$(OUT)/card
+
+# The library is proved again when something under crates/ is newer than it; that takes minutes.
+target/staticlib/libcard.a: crates.txt $(shell find crates -type f \( -name '*.rt' -o -name '*.antt' \))
+	rt staticlib card
+
+$(OUT):
+	mkdir -p $@
+
+# Which library was linked: with another one everything is linked again.
+$(OUT)/library: FORCE | $(OUT)
+	@echo '$(LIB)' | cmp -s - $@ || echo '$(LIB)' >$@
+
+$(OUT)/card: examples/card.c examples/master.c $(HEADERS) $(LIB) $(OUT)/library | $(OUT)
+	$(CC) $(CPPFLAGS) $(CFLAGS) examples/card.c examples/master.c $(LIB) -o $@
+
+$(OUT)/header-c99: examples/header.c $(HEADERS) $(LIB) $(OUT)/library | $(OUT)
+	$(CC) $(CPPFLAGS) $(CFLAGS) $< $(LIB) -o $@
+
+$(OUT)/header-c++17: examples/header.c $(HEADERS) $(LIB) $(OUT)/library | $(OUT)
+	$(CXX) $(CPPFLAGS) $(CXXFLAGS) $< -x none $(LIB) -o $@
+
+# Bound at the start: valgrind would count the binding of memset as a part of the call that needs it first.
+$(OUT)/bench: bench/bench.c $(HEADERS) $(LIB) $(OUT)/library | $(OUT)
+	$(CC) $(CPPFLAGS) $(CFLAGS) $< $(LIB) -Wl,-z,now -o $@
+
+check: check-example check-header check-prototypes
+	@echo "check: all as expected"
+
+check-example: $(OUT)/card
+	$(OUT)/card >$(OUT)/card.out
+	diff examples/card.expected $(OUT)/card.out
+
+check-header: $(OUT)/header-c99 $(OUT)/header-c++17
+	$(OUT)/header-c99
+	$(OUT)/header-c++17
+
+# The header declares what the card crate exports, argument for argument: nothing else would notice a difference.
+check-prototypes: | $(OUT)
+	awk -f examples/prototypes.awk crates/card/src/lib.rt >$(OUT)/exported
+	awk -f examples/prototypes.awk include/dp.h >$(OUT)/declared
+	diff $(OUT)/exported $(OUT)/declared
+
+bench: $(OUT)/bench
+	@if command -v valgrind >/dev/null; then \
+	    valgrind --tool=callgrind --callgrind-out-file=$(OUT)/callgrind.out $(OUT)/bench $(COUNTED_CYCLES) \
+	        >$(OUT)/callgrind.log 2>&1 || { cat $(OUT)/callgrind.log; exit 1; }; \
+	    echo "Instructions for each call, counted by valgrind over $(COUNTED_CYCLES) cycles:"; \
+	    awk -f bench/instructions.awk $(OUT)/callgrind.out; \
+	else \
+	    echo "valgrind is not installed: no instructions are counted"; \
+	fi
+	@$(OUT)/bench
+
+clean:
+	rm -rf $(OUT)

@@ -1,0 +1,31 @@
+/* The card's firmware, by what drives it: the line's interrupts, the 10 ms timer, the main loop. */
+#ifndef CARD_H
+#define CARD_H
+
+#include <stdint.h>
+
+enum { CARD_ADDRESS = 5, CARD_IDENT = 0x80B3, CARD_OUTPUTS = 2, CARD_INPUTS = 2 };
+
+/* What the transmitter gets when there is nothing to send. */
+enum { CARD_SILENT = -1 };
+
+/* Power-up, before any interrupt is let through. */
+void card_power_up(void);
+
+/* The receive interrupt. bad: not 0 if the receiver flags the octet. */
+void card_on_octet(uint8_t octet, uint8_t bad);
+
+/* The timer that runs out when the line was quiet for so long that a telegram may begin. */
+void card_on_gap(void);
+
+/* The transmit side: asked after the station's delay, and then whenever the transmitter has room. Answers an octet or
+   CARD_SILENT, at which the driver goes back to listening. */
+int card_on_transmitter_free(void);
+
+/* The timer of 10 ms. */
+void card_on_tick(void);
+
+/* One round of the main loop. */
+void vat_cycle(void);
+
+#endif

@@ -1,0 +1,93 @@
+/*
+ * The header in C99 and in C++17: every call has its type and is in the library, so that this links, and the constants
+ * are the numbers that the station answers.
+ */
+#include "dp.h"
+#include "dp.h" /* a second time: the guard holds */
+#include "refusals.h"
+
+typedef int64_t (*on_memory)(uint8_t *, size_t);
+typedef int64_t (*on_number)(uint8_t *, size_t, uint32_t);
+typedef int64_t (*on_two_numbers)(uint8_t *, size_t, uint32_t, uint32_t);
+typedef int64_t (*on_octet)(uint8_t *, size_t, uint8_t, uint8_t);
+typedef int64_t (*on_mask)(uint8_t *, size_t, uint16_t);
+typedef int64_t (*on_write)(uint8_t *, size_t, uint32_t, uint32_t, uint8_t);
+typedef int64_t (*on_start)(uint8_t *, size_t, uint32_t, uint16_t, uint32_t, uint32_t, uint32_t, uint32_t, uint32_t,
+                            const uint8_t *, size_t);
+
+static const on_start start = dp_start;
+static const on_octet octet = dp_octet;
+static const on_write write_octet = dp_write;
+static const on_mask acknowledge = dp_acknowledge;
+static const on_two_numbers two_numbers[] = {dp_read, dp_new_diagnosis};
+static const on_number judgements[] = {dp_judge_parameters, dp_judge_configuration};
+static const on_memory memory_alone[] = {dp_gap,    dp_send,    dp_tick,        dp_take_outputs, dp_hand_over_inputs,
+                                         dp_events, dp_pending, dp_leave_master};
+
+static uint8_t memory[DP_MEMORY_MAX];
+static const uint8_t get_cfg[DP_LENGTH_MAX] = {0x10};
+
+static void expect(const char *what, int64_t answer, int64_t expected)
+{
+    if (answer == expected)
+        return;
+    fprintf(stderr, "%s answered %" PRId64 " and not %" PRId64 "\n", what, answer, expected);
+    exit(EXIT_FAILURE);
+}
+
+static int64_t started(size_t memory_len, uint32_t address, uint32_t len)
+{
+    return start(memory, memory_len, address, 0x80B3, len, len, len, len, len, get_cfg, len);
+}
+
+/* Every call but Start on a memory in which no station was started. */
+static void expect_damaged(void)
+{
+    for (size_t i = 0; i < sizeof memory_alone / sizeof memory_alone[0]; i++)
+        expect("a call without a station", memory_alone[i](memory, sizeof memory), -DP_REFUSED_DAMAGED);
+    for (size_t i = 0; i < 2; i++) {
+        expect("two numbers without a station", two_numbers[i](memory, sizeof memory, 1, 1), -DP_REFUSED_DAMAGED);
+        expect("judging without a station", judgements[i](memory, sizeof memory, DP_GOOD), -DP_REFUSED_DAMAGED);
+    }
+    expect("dp_octet without a station", octet(memory, sizeof memory, 0, 0), -DP_REFUSED_DAMAGED);
+    expect("dp_write without a station", write_octet(memory, sizeof memory, 4, 0, 0), -DP_REFUSED_DAMAGED);
+    expect("dp_acknowledge without a station", acknowledge(memory, sizeof memory, 0), -DP_REFUSED_DAMAGED);
+}
+
+static void expect_start(void)
+{
+    expect("dp_start, memory too short", started(DP_MEMORY_MIN - DP_MEMORY_STEP, 5, 96), -DP_REFUSED_MEMORY_LENGTH);
+    expect("dp_start, odd memory", started(DP_MEMORY_MIN + 4, 5, 96), -DP_REFUSED_MEMORY_LENGTH);
+    expect("dp_start, address", started(DP_MEMORY_MIN, DP_ADDRESS_MAX + 1, 96), -DP_REFUSED_ADDRESS);
+    expect("dp_start, length", started(DP_MEMORY_MAX, 5, DP_LENGTH_MAX + 1), -DP_REFUSED_LENGTH);
+    expect("dp_start, room", started(DP_MEMORY_MIN, 5, 97), -DP_REFUSED_ROOM);
+    expect("dp_start, all lengths 244", started(DP_MEMORY_MAX, DP_ADDRESS_MAX, DP_LENGTH_MAX), 0);
+    expect("dp_start, all lengths 96", started(DP_MEMORY_MIN, 5, 96), 0);
+}
+
+static void expect_fresh(void)
+{
+    uint8_t *m = memory;
+    size_t n = DP_MEMORY_MIN;
+    expect("dp_send", dp_send(m, n), DP_NO_OCTET);
+    expect("dp_pending", dp_pending(m, n), DP_NO_EVENT);
+    expect("dp_judge_parameters", dp_judge_parameters(m, n, DP_GOOD), -DP_REFUSED_JUDGING);
+    expect("dp_read", dp_read(m, n, DP_KIND_DIAGNOSIS, DP_DIAGNOSIS_MIN - 1), -DP_REFUSED_RANGE);
+    expect("dp_read", dp_read(m, n, DP_KIND_PARAMETERS, 0), -DP_REFUSED_ABSENT);
+    expect("dp_write", dp_write(m, n, DP_KIND_INPUTS, 95, 0x21), 0);
+    expect("dp_read", dp_read(m, n, DP_KIND_INPUTS, 95), 0x21);
+    expect("dp_new_diagnosis", dp_new_diagnosis(m, n, DP_DIAGNOSIS_MIN, DP_DIAGNOSIS_EXT | DP_DIAGNOSIS_STAT), 0);
+    expect("dp_events", dp_events(m, n), DP_EVENT_BIT(DP_EVENT_DIAGNOSIS));
+    expect("dp_pending", dp_pending(m, n), DP_EVENT_DIAGNOSIS);
+    expect("dp_acknowledge", dp_acknowledge(m, n, DP_EVENT_BIT(DP_EVENT_DIAGNOSIS)), 0);
+    expect("dp_leave_master", dp_leave_master(m, n), 0);
+    expect("dp_take_outputs", dp_take_outputs(m, n), 2);
+}
+
+int main(void)
+{
+    expect_damaged();
+    expect_start();
+    expect_fresh();
+    return 0;
+}

@@ -1,0 +1,232 @@
+/*
+ * A master that takes the card of card.c through a start-up, some exchanges of data, a diagnosis, a clear, and then
+ * falls silent. It prints each telegram; the vat program prints what it sees. Nothing depends on time or chance.
+ */
+#include "card.h"
+
+#include <stddef.h>
+#include <stdio.h>
+
+enum { MASTER = 2, EXTENSION = 0x80, SSAP = 62 };
+enum { SD1 = 0x10, SD2 = 0x68, ED = 0x16 };
+enum { FC_STATUS = 0x49, FC_REQUEST = 0x5D, FC_NO_ANSWER = 0x46 };
+enum { FC_DIAG_FLAG = 0x0A };
+
+/* Set_Prm with the watchdog on: 3 x 2 ticks. */
+enum { WATCHDOG_FACTOR_1 = 3, WATCHDOG_FACTOR_2 = 2, WATCHDOG_TICKS = WATCHDOG_FACTOR_1 * WATCHDOG_FACTOR_2 };
+
+struct telegram {
+    uint8_t octets[255];
+    size_t count;
+};
+
+static void print_octets(const char *direction, const uint8_t *octets, size_t count)
+{
+    printf("    %s", direction);
+    for (size_t i = 0; i < count; i++)
+        printf(" %02X", octets[i]);
+    puts(count == 0 ? " nothing" : "");
+}
+
+static void append(struct telegram *t, uint8_t octet)
+{
+    t->octets[t->count++] = octet;
+}
+
+/* The check octet is the sum from DA on. */
+static void append_end(struct telegram *t, size_t from)
+{
+    uint8_t sum = 0;
+    for (size_t i = from; i < t->count; i++)
+        sum = (uint8_t)(sum + t->octets[i]);
+    append(t, sum);
+    append(t, ED);
+}
+
+static struct telegram without_data(uint8_t fc)
+{
+    struct telegram t = {{SD1, CARD_ADDRESS, MASTER, fc}, 4};
+    append_end(&t, 1);
+    return t;
+}
+
+static struct telegram with_data(uint8_t da, uint8_t sa, uint8_t fc, const uint8_t *data, size_t count)
+{
+    uint8_t le = (uint8_t)(count + 3);
+    struct telegram t = {{SD2, le, le, SD2, da, sa, fc}, 7};
+    for (size_t i = 0; i < count; i++)
+        append(&t, data[i]);
+    append_end(&t, 4);
+    return t;
+}
+
+/* The reply octet by octet, as long as the card has one. */
+static struct telegram fetch_reply(void)
+{
+    struct telegram reply = {{0}, 0};
+    for (;;) {
+        int octet = card_on_transmitter_free();
+        if (octet == CARD_SILENT || reply.count == sizeof reply.octets)
+            break;
+        append(&reply, (uint8_t)octet);
+    }
+    print_octets("card   >", reply.octets, reply.count);
+    return reply;
+}
+
+/* Some octets of a telegram, as they come one by one. */
+static void put_on_line(const uint8_t *octets, size_t count)
+{
+    print_octets("master >", octets, count);
+    for (size_t i = 0; i < count; i++)
+        card_on_octet(octets[i], 0);
+}
+
+static struct telegram ask(struct telegram t)
+{
+    card_on_gap();
+    put_on_line(t.octets, t.count);
+    return fetch_reply();
+}
+
+/* A service point of the station: bit 7 in both addresses, DSAP and SSAP before the data. */
+static struct telegram ask_point(uint8_t da, uint8_t fc, uint8_t dsap, const uint8_t *data, size_t count)
+{
+    uint8_t all[32] = {dsap, SSAP};
+    for (size_t i = 0; i < count; i++)
+        all[i + 2] = data[i];
+    return ask(with_data(da | EXTENSION, MASTER | EXTENSION, fc, all, count + 2));
+}
+
+static void slave_diag(void)
+{
+    ask_point(CARD_ADDRESS, FC_REQUEST, 60, NULL, 0);
+}
+
+static void set_prm(uint8_t limit)
+{
+    const uint8_t data[] = {0x88, WATCHDOG_FACTOR_1, WATCHDOG_FACTOR_2, 0x0B, CARD_IDENT >> 8, CARD_IDENT & 0xFF, 0x01,
+                            limit};
+    ask_point(CARD_ADDRESS, FC_REQUEST, 61, data, sizeof data);
+}
+
+static void chk_cfg(void)
+{
+    const uint8_t data[] = {0x11, 0x21};
+    ask_point(CARD_ADDRESS, FC_REQUEST, 62, data, sizeof data);
+}
+
+/* To all stations of all groups; nobody answers. */
+static void global_control_clear(void)
+{
+    const uint8_t data[] = {0x02, 0x00};
+    ask_point(127, FC_NO_ANSWER, 58, data, sizeof data);
+}
+
+static struct telegram exchange_telegram(uint8_t valves, uint8_t heating)
+{
+    const uint8_t data[CARD_OUTPUTS] = {valves, heating};
+    return with_data(CARD_ADDRESS, MASTER, FC_REQUEST, data, sizeof data);
+}
+
+/* Answers whether the card has a new diagnosis. */
+static int data_exchange(uint8_t valves, uint8_t heating)
+{
+    struct telegram reply = ask(exchange_telegram(valves, heating));
+    return reply.count > 6 && reply.octets[6] == FC_DIAG_FLAG;
+}
+
+/* The main loop runs when it runs: here while a telegram is half here. */
+static void data_exchange_with_cycle_inside(uint8_t valves, uint8_t heating)
+{
+    struct telegram t = exchange_telegram(valves, heating);
+    size_t half = 8; /* the first output has come, the second not yet */
+    card_on_gap();
+    put_on_line(t.octets, half);
+    vat_cycle();
+    put_on_line(t.octets + half, t.count - half);
+    fetch_reply();
+}
+
+static void title(const char *text)
+{
+    static int number;
+    printf("%d. %s\n", ++number, text);
+}
+
+static void start_up(void)
+{
+    title("The master asks whether the station is there.");
+    ask(without_data(FC_STATUS));
+    vat_cycle();
+    title("Slave_Diag: it waits for parameters and has no master (02 05 00 FF).");
+    slave_diag();
+    title("Set_Prm: a watchdog of 6 ticks, a limit of 1E degrees. The vat program judges.");
+    set_prm(0x1E);
+    vat_cycle();
+    title("Chk_Cfg. The vat program judges, and the exchange of data begins.");
+    chk_cfg();
+    vat_cycle();
+    title("Slave_Diag: the station is ready, the watchdog is on, its master is 2 (00 0C 00 02).");
+    slave_diag();
+}
+
+static void exchange(void)
+{
+    title("Data_Exchange: first valve open, heating 40.");
+    data_exchange(0x01, 0x40);
+    vat_cycle();
+    title("Data_Exchange: both valves open, heating 20. The vat program runs while the telegram is half here.");
+    data_exchange_with_cycle_inside(0x03, 0x20);
+    vat_cycle();
+    title("Data_Exchange: the same. The vat gets too hot, which is a new diagnosis.");
+    data_exchange(0x03, 0x20);
+    vat_cycle();
+}
+
+static void diagnosis(void)
+{
+    title("Data_Exchange: heating off. FC is 0A, so the master fetches the diagnosis: Ext_Diag (08), and 02 20.");
+    if (data_exchange(0x03, 0x00))
+        slave_diag();
+    vat_cycle();
+    title("Data_Exchange: the master has the diagnosis, FC is 08. The vat cools down, which is a new diagnosis too.");
+    data_exchange(0x02, 0x00);
+    vat_cycle();
+    title("Data_Exchange: FC is 0A, and the diagnosis has no Ext_Diag and only the six octets.");
+    if (data_exchange(0x02, 0x00))
+        slave_diag();
+    vat_cycle();
+}
+
+static void clear_and_silence(void)
+{
+    title("Data_Exchange: first valve open, heating 08.");
+    data_exchange(0x01, 0x08);
+    vat_cycle();
+    title("Global_Control: clear. Nobody answers; the station publishes zeros.");
+    global_control_clear();
+    vat_cycle();
+    title("Data_Exchange: first valve open, heating 08.");
+    data_exchange(0x01, 0x08);
+    vat_cycle();
+    title("Silence. The watchdog expires at the sixth tick; the vat program runs after the fifth and after that.");
+    for (int tick = 1; tick <= WATCHDOG_TICKS; tick++) {
+        printf("    tick %d\n", tick);
+        card_on_tick();
+        if (tick >= WATCHDOG_TICKS - 1)
+            vat_cycle();
+    }
+    title("Slave_Diag: the station waits for parameters and has no master (02 05 00 FF).");
+    slave_diag();
+}
+
+int main(void)
+{
+    card_power_up();
+    start_up();
+    exchange();
+    diagnosis();
+    clear_and_silence();
+    return 0;
+}

@@ -1,0 +1,47 @@
+/* Refusals in words, for people. */
+#ifndef REFUSALS_H
+#define REFUSALS_H
+
+#include "dp.h"
+
+#include <inttypes.h>
+#include <stdio.h>
+#include <stdlib.h>
+#include <string.h>
+
+static inline const char *refusal_in_words(int64_t answer)
+{
+    switch (-answer) {
+    case DP_REFUSED_MEMORY_LENGTH:
+        return "the memory is not 1,536 to 4,096 octets long or its length is no multiple of 8";
+    case DP_REFUSED_ADDRESS:
+        return "the station address is above 126";
+    case DP_REFUSED_LENGTH:
+        return "a length or the Get_Cfg slice is outside its range";
+    case DP_REFUSED_ROOM:
+        return "the buffers would end beyond the memory";
+    case DP_REFUSED_DAMAGED:
+        return "the memory is damaged or was never started";
+    case DP_REFUSED_JUDGING:
+        return "no set is open to be judged, or the parameters were not judged good yet";
+    case DP_REFUSED_RANGE:
+        return "a kind, flags, a count, an index or a judgement is out of range";
+    case DP_REFUSED_ABSENT:
+        return "no such octet is shown, or a new diagnosis is delayed";
+    case DP_REFUSED_DELAYED:
+        return "an earlier new diagnosis is still delayed";
+    default:
+        return "a number that this program does not know";
+    }
+}
+
+/* Says which call was refused and why, and ends the program. call: its text, of which the name is printed. */
+static inline void stop_refused(const char *call, int64_t answer)
+{
+    fflush(stdout);
+    fprintf(stderr, "%.*s was refused by %" PRId64 ": %s\n", (int)strcspn(call, "("), call, -answer,
+            refusal_in_words(answer));
+    exit(EXIT_FAILURE);
+}
+
+#endif

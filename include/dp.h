@@ -1,0 +1,212 @@
+/*
+ * The DP slave station as firmware in C calls it. The library is target/staticlib/libcard.a.
+ *
+ * Memory. Every call gets the one memory that the station lives in, as pointer and length: DP_MEMORY_MIN to
+ * DP_MEMORY_MAX octets, a multiple of DP_MEMORY_STEP, of any alignment. The station keeps nothing anywhere else: no
+ * heap, no static data that changes. Two memories are two stations. Pointers must be valid for their length and not
+ * null; the slice for Get_Cfg must not lie in the memory. Nobody but these calls may write to the memory.
+ *
+ * Keeping calls apart. Each call must get the memory as the last one left it. A call reads the state out of the
+ * memory, goes one step and writes it back, and takes no lock of its own. So two calls on the same memory must never
+ * meet: not an interrupt inside a call of the main program, not an interrupt inside a call of another one, not two
+ * processors at once. Mask the interrupts that call the station (or hold one lock) from before a call until after it.
+ * One call is enough: between two calls of the vat program the bus may go on, and outputs that were taken stay as they
+ * are until the next take. The one thing that wants several calls in one piece is reading a set and judging it, see
+ * dp_judge_parameters.
+ *
+ * Answers. Every call answers an int64_t: 0 or a value as told below, or, refused, the number of the refusal negated.
+ * So an answer below 0 is a refusal, and a refused call has changed nothing. If a call could be refused for several
+ * reasons it is refused by the lowest number.
+ */
+#ifndef DP_H
+#define DP_H
+
+#include <stddef.h>
+#include <stdint.h>
+
+#ifdef __cplusplus
+extern "C" {
+#endif
+
+/* Limits. */
+enum {
+    DP_MEMORY_MIN = 1536,  /* least length of the memory */
+    DP_MEMORY_MAX = 4096,  /* greatest length of the memory */
+    DP_MEMORY_STEP = 8,    /* its length is a multiple of this */
+    DP_ADDRESS_MAX = 126,  /* station addresses are 0 to this */
+    DP_LENGTH_MAX = 244,   /* greatest length of outputs, inputs, parameters, configuration, diagnosis, Get_Cfg */
+    DP_PARAMETERS_MIN = 7, /* least length for parameters; for the others it is 1 */
+    DP_DIAGNOSIS_MIN = 6,  /* least length and count of diagnosis; its first index to read and write */
+    DP_NO_OCTET = 256,     /* dp_send: no octet is left */
+    DP_NO_EVENT = 16       /* dp_pending: no event is set */
+};
+
+/* Refusals, by who causes them. A call that is refused answers the number negated: -DP_REFUSED_DAMAGED is -5. */
+enum dp_refusal {
+    /* the starter */
+    DP_REFUSED_MEMORY_LENGTH = 1, /* the memory is too short or too long, or its length is no multiple of 8 */
+    DP_REFUSED_ADDRESS = 2,       /* the address is above 126 */
+    DP_REFUSED_LENGTH = 3,        /* a length, or that of the Get_Cfg slice, is outside its range */
+    DP_REFUSED_ROOM = 4,          /* the buffers would end beyond the memory */
+    /* whoever damaged the memory */
+    DP_REFUSED_DAMAGED = 5, /* the memory holds no station: never started, overwritten, or handed in too short */
+    /* the vat program */
+    DP_REFUSED_JUDGING = 6, /* no set is open, or configuration is judged before good parameters */
+    DP_REFUSED_RANGE = 7,   /* a kind, flags, a count, an index or a judgement is out of range */
+    DP_REFUSED_ABSENT = 8,  /* no set shown, or index not below its count; kind 5 while a diagnosis is delayed */
+    DP_REFUSED_DELAYED = 9  /* new diagnosis while one is delayed */
+};
+
+/* Events: numbers of bits in the event word. The other bits are never set. */
+enum dp_event {
+    DP_EVENT_DATA_EXCH = 1,      /* DATA_EXCH was entered or left */
+    DP_EVENT_WATCHDOG = 3,       /* the watchdog expired */
+    DP_EVENT_CONTROL = 8,        /* Global_Control brought a new control octet */
+    DP_EVENT_CONFIGURATION = 10, /* a configuration set is open; cleared by judging it or when it is dropped */
+    DP_EVENT_PARAMETERS = 11,    /* a parameter set is open; likewise */
+    DP_EVENT_DIAGNOSIS = 12,     /* the diagnosis buffers changed: a new diagnosis is in effect */
+    DP_EVENT_OUTPUTS = 13        /* outputs were published, by Data_Exchange or as zeros by the station */
+};
+
+/* The bit of an event in the event word and in the mask of dp_acknowledge. */
+#define DP_EVENT_BIT(event) ((uint16_t)(1u << (event)))
+
+/* Kinds of octets for dp_read; dp_write takes the last two. */
+enum dp_kind {
+    DP_KIND_OUTPUTS = 1,       /* the outputs that the last take brought */
+    DP_KIND_PARAMETERS = 2,    /* the parameter set that is shown */
+    DP_KIND_CONFIGURATION = 3, /* the configuration set that is shown */
+    DP_KIND_INPUTS = 4,        /* the inputs that are handed over next */
+    DP_KIND_DIAGNOSIS = 5      /* the vat program's diagnosis buffer, from index 6 on */
+};
+
+/* Flags of dp_new_diagnosis, to be added up. */
+enum dp_diagnosis_flag {
+    DP_DIAGNOSIS_EXT = 1,     /* Ext_Diag: the octets from 6 on report a fault */
+    DP_DIAGNOSIS_STAT = 2,    /* Stat_Diag: the master is to go on asking for diagnosis */
+    DP_DIAGNOSIS_OVERFLOW = 4 /* more diagnosis than there is room for */
+};
+
+/* Judgements. */
+enum dp_judgement { DP_BAD = 0, DP_GOOD = 1 };
+
+/*
+ * Start: sets a fresh station up in the memory, whatever was there before. It waits for a gap and then for Set_Prm.
+ * The lengths are what the buffers hold at most; get_cfg is the configuration that Get_Cfg sends, and is copied.
+ * Answers 0. Refused by 1, 2, 3, 4.
+ */
+int64_t dp_start(uint8_t *memory, size_t memory_len, uint32_t address, uint16_t ident, uint32_t output_len,
+                 uint32_t input_len, uint32_t parameter_len, uint32_t configuration_len, uint32_t diagnosis_len,
+                 const uint8_t *get_cfg, size_t get_cfg_len);
+
+/*
+ * An octet came from the line. bad: 0 if it was well received, anything else if the receiver flags it (parity,
+ * framing, overrun, or an octet lost before it). The octet that completes a telegram also draws the reply.
+ * Answers 0. Refused by 5.
+ */
+int64_t dp_octet(uint8_t *memory, size_t memory_len, uint8_t octet, uint8_t bad);
+
+/*
+ * A gap on the line: it was quiet for so long that the next octet may begin a telegram. Each telegram needs one
+ * before it. A reply that is being sent is not touched.
+ * Answers 0. Refused by 5.
+ */
+int64_t dp_gap(uint8_t *memory, size_t memory_len);
+
+/*
+ * The next octet of the reply, for the transmitter.
+ * Answers the octet, 0 to 255, or DP_NO_OCTET when none is left. Refused by 5.
+ */
+int64_t dp_send(uint8_t *memory, size_t memory_len);
+
+/*
+ * A tick, every 10 ms: the watchdog counts down.
+ * Answers 0. Refused by 5.
+ */
+int64_t dp_tick(uint8_t *memory, size_t memory_len);
+
+/*
+ * Take outputs: the newest whole outputs are now the ones to be read, until the next take.
+ * Answers 0 nothing new, and the same outputs stay; 1 new; 2 new, and they are zeros that the station published
+ * itself. Refused by 5.
+ */
+int64_t dp_take_outputs(uint8_t *memory, size_t memory_len);
+
+/*
+ * Reads the octet at an index of a kind (enum dp_kind). The index is from 0 on, for diagnosis from 6 on, and below the
+ * length that dp_start was given. How many octets a set has is told by no call: the first index refused by 8, or by 7
+ * at the set length, is its count.
+ * Answers the octet, 0 to 255. Refused by 5; 7 kind or index; 8 no set is shown, it has fewer octets, or kind 5 while
+ * a new diagnosis is delayed.
+ */
+int64_t dp_read(uint8_t *memory, size_t memory_len, uint32_t kind, uint32_t index);
+
+/*
+ * Writes an octet of the inputs or of the vat program's diagnosis buffer. After dp_hand_over_inputs or
+ * dp_new_diagnosis another buffer stands there, with what was in it at an earlier turn: write all octets each time.
+ * Answers 0. Refused by 5; 7 kind or index; 8 kind 5 while a new diagnosis is delayed.
+ */
+int64_t dp_write(uint8_t *memory, size_t memory_len, uint32_t kind, uint32_t index, uint8_t octet);
+
+/*
+ * Hand over inputs: all that was written goes out together, with the next Data_Exchange.
+ * Answers 0. Refused by 5.
+ */
+int64_t dp_hand_over_inputs(uint8_t *memory, size_t memory_len);
+
+/*
+ * New diagnosis: the vat program's buffer becomes the station's. count: of all octets, the six of the station at the
+ * front among them; flags: enum dp_diagnosis_flag, 0 to 7. The master is told by FC 0A until its Slave_Diag, with
+ * Stat_Diag after it too. While a Slave_Diag reply is being sent all of this is delayed until that has ended.
+ * Answers 0. Refused by 5; 7 count or flags; 9 an earlier one is delayed.
+ */
+int64_t dp_new_diagnosis(uint8_t *memory, size_t memory_len, uint32_t count, uint32_t flags);
+
+/*
+ * Judges the parameter set that is shown (enum dp_judgement). Good parameters are what dp_judge_configuration waits
+ * for; bad ones are a Prm_Fault, and the station waits for Set_Prm again. Reading a set and judging it belong into one
+ * critical section: otherwise it could be dropped and another one shown after it was read, and that one be judged.
+ * Answers 0 the set was judged; 1 it was not, since a newer one waited, which is now shown: judge that one. Refused by
+ * 5; 6 no parameter set is open; 7 judgement.
+ */
+int64_t dp_judge_parameters(uint8_t *memory, size_t memory_len, uint32_t judgement);
+
+/*
+ * Judges the configuration set that is shown, likewise. With a good one the exchange of data begins; a bad one is a
+ * Cfg_Fault.
+ * Answers 0 or 1 as above. Refused by 5; 6 no configuration set is open, or the parameters were not judged good yet;
+ * 7 judgement.
+ */
+int64_t dp_judge_configuration(uint8_t *memory, size_t memory_len, uint32_t judgement);
+
+/*
+ * The event word: bit n is set if event n (enum dp_event) is.
+ * Answers the word, 0 to 65,535. Refused by 5.
+ */
+int64_t dp_events(uint8_t *memory, size_t memory_len);
+
+/*
+ * Acknowledge: clears the events whose bits are set in the mask, never 10 and 11. Acknowledge first and act then: an
+ * event that is raised while you act is then not lost.
+ * Answers 0. Refused by 5.
+ */
+int64_t dp_acknowledge(uint8_t *memory, size_t memory_len, uint16_t mask);
+
+/*
+ * Pending: some event that is set; do not rely on which one if there are several.
+ * Answers its number, 0 to 15, or DP_NO_EVENT. Refused by 5.
+ */
+int64_t dp_pending(uint8_t *memory, size_t memory_len);
+
+/*
+ * Leave master: the station gives up its master, publishes zeros and waits for Set_Prm. While the line is busy this is
+ * put off until it is idle, at most until the next tick.
+ * Answers 0. Refused by 5.
+ */
+int64_t dp_leave_master(uint8_t *memory, size_t memory_len);
+
+#ifdef __cplusplus
+}
+#endif
+
+#endif
