@@ -5,6 +5,7 @@ pub mod SameLine
 pub mod Carries
 pub mod Changes
 pub mod Settles
+mod Idle
 pub mod Steady
 pub mod Matches
 pub mod ReadWrite

@@ -221,10 +221,22 @@ fn after_reply(s: State) -> State
 }
 
 // And then a noted clear where the line is idle.
-pub fn settle(s: State, mem: &mut [u8]) -> State
+fn settle_waiting(s: State, mem: &mut [u8]) -> State
     requires { ⌜ Safe s (now mem) ⌝ }
     ensures { λ r. ⌜ Steps (settle s (now (mem .entry))) r (now (mem .exit)) ⌝ }
 {
     let t = after_reply(s);
     carry_out(t, mem, settled(busy(s), t.control), 0)
+}
+
+// The line settled. Nearly always nothing waits, and the state is left as it is.
+pub fn settle(s: State, mem: &mut [u8]) -> State
+    requires { ⌜ Safe s (now mem) ⌝ }
+    ensures { λ r. ⌜ Steps (settle s (now (mem .entry))) r (now (mem .exit)) ⌝ }
+{
+    let waits = delayed(s.control) | s.control.noted;
+    if !waits {
+        return s;
+    }
+    settle_waiting(s, mem)
 }

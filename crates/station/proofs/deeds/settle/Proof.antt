@@ -1,43 +1,29 @@
+use Rattle.station.proofs.Idle.{unsettled}
+use mathlib.Core.Path.{sym, ap, _∙_}
+use borrow.Author.Tests.{not-true}
+use mathlib.Core.Bool.{_||_}
+use Rattle.rules.specs.Diagnosis.{delayed}
 use borrow.Author.Needs.{needs}
-use Rattle.station.specs.Deeds.{settle}
-use Rattle.station.proofs.Safety.{safe-after-reply}
 use Rattle.station.proofs.deeds.settle.Statement.{statement}
 use Rattle.station.proofs.deeds.settle.Tie as tie
 
-after-reply-requires : tie.Need-after-reply-requires
-after-reply-requires c κs = search needs
+delayed-requires : tie.Need-delayed-requires
+delayed-requires c κs = search needs
 
-busy-requires : tie.Need-busy-requires
-busy-requires c κs = search needs
+returns : tie.Need-returns
+returns c =
+    let s = c .before .before .before .before .args .s in
+    unsettled _ _ (ap (λ t. t || s .control .noted) (sym (c .before .before .delayed .ensures)) ∙ not-true _ (c .if1 .taken))
 
-settled-requires : tie.Need-settled-requires
-settled-requires c κs = search needs
-
-carry-out-requires : tie.Need-carry-out-requires
-carry-out-requires c κs =
-    rw (c .before .before .before .after-reply .ensures)
-    (safe-after-reply _ _ (c .before .before .before .before .before .pre))
+settle-waiting-requires : tie.Need-settle-waiting-requires
+settle-waiting-requires c κs = search needs
 
 same-length : tie.Need-same-length
 same-length c = search needs
 
-returns : tie.Need-returns
-unfolding settle
-returns c =
-    rw (
-      ← c .before .before .before .before .before .before .after-reply .ensures,
-      ← c .before .before .before .before .busy .ensures,
-      ← c .before .before .before .settled .ensures,
-    )
-    (c .before .before .carry-out .ensures)
+returns-2 : tie.Need-returns-2
+returns-2 c = search needs
 
 pub settle-spec : {M : Type 1} → statement M
 settle-spec =
-    tie.close
-    (tie.spec
-    after-reply-requires
-    busy-requires
-    settled-requires
-    carry-out-requires
-    same-length
-    returns)
+    tie.close (tie.spec delayed-requires returns settle-waiting-requires same-length returns-2)
