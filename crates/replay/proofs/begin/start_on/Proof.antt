@@ -1,0 +1,50 @@
+use native.Mathlib.Omega.{arith}
+use lib.ListN.{length-take}
+use borrow.Author.Needs.{needs}
+use Rattle.replay.proofs.begin.start_on.Statement.{statement}
+use Rattle.replay.proofs.begin.start_on.Tie as tie
+
+returns : tie.Need-returns
+returns c = search needs
+
+returns-2 : tie.Need-returns-2
+returns-2 c = search needs
+
+returns-3 : tie.Need-returns-3
+returns-3 c = search needs
+
+slice-relend-prefix-start : tie.Need-slice-relend-prefix-start
+slice-relend-prefix-start c = search needs
+
+slice-aggregate-start : tie.Need-slice-aggregate-start
+slice-aggregate-start c = simp length-take (omega arith)
+
+cast-start : tie.Need-cast-start
+cast-start c = search needs
+
+slice-aggregate-start-2 : tie.Need-slice-aggregate-start-2
+slice-aggregate-start-2 c = simp length-take (omega arith)
+
+start-requires : tie.Need-start-requires
+start-requires c κs = search needs
+
+same-length : tie.Need-same-length
+same-length c = search needs
+
+returns-4 : tie.Need-returns-4
+returns-4 c = search needs
+
+pub start-on-spec : {M : Type 1} → statement M
+start-on-spec =
+    tie.close
+    (tie.spec
+    returns
+    returns-2
+    returns-3
+    slice-relend-prefix-start
+    slice-aggregate-start
+    cast-start
+    slice-aggregate-start-2
+    start-requires
+    same-length
+    returns-4)

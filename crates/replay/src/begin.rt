@@ -1,0 +1,147 @@
+// The line of a Start: its numbers, its slice, and the fresh memory that it begins on.
+use crate::call::Said;
+use crate::text;
+use crate::text::Span;
+use state::answer::Answer;
+use state::start::start;
+
+// A number of the line, and where it ends.
+struct Field {
+    ok: bool,
+    value: u32,
+    end: usize,
+}
+
+// What the line asks for, and where the digits of its slice stand.
+struct Asked {
+    ok: bool,
+    memory: u32,
+    address: u32,
+    ident: u32,
+    outputs: u32,
+    inputs: u32,
+    parameters: u32,
+    configuration: u32,
+    diagnosis: u32,
+    slice: Span,
+}
+
+// What a Start said, and the length of the memory from then on.
+pub struct Begun {
+    pub said: Said,
+    pub len: usize,
+}
+
+fn field_at(source: &[u8], from: usize, end: usize) -> Field {
+    let word = text::word(source, from, end);
+    let number = text::number_of(source, word);
+    Field {
+        ok: number.ok,
+        value: number.value,
+        end: word.to,
+    }
+}
+
+// The line's words, behind its first.
+fn words(source: &[u8], from: usize, end: usize) -> Asked {
+    let memory = field_at(source, from, end);
+    let address = field_at(source, memory.end, end);
+    let ident = field_at(source, address.end, end);
+    let outputs = field_at(source, ident.end, end);
+    let inputs = field_at(source, outputs.end, end);
+    let parameters = field_at(source, inputs.end, end);
+    let configuration = field_at(source, parameters.end, end);
+    let diagnosis = field_at(source, configuration.end, end);
+    let slice = text::word(source, diagnosis.end, end);
+    let rest = text::word(source, slice.to, end);
+    Asked {
+        ok: memory.ok
+            & address.ok
+            & ident.ok
+            & outputs.ok
+            & inputs.ok
+            & parameters.ok
+            & configuration.ok
+            & diagnosis.ok
+            & text::is_empty(rest),
+        memory: memory.value,
+        address: address.value,
+        ident: ident.value,
+        outputs: outputs.value,
+        inputs: inputs.value,
+        parameters: parameters.value,
+        configuration: configuration.value,
+        diagnosis: diagnosis.value,
+        slice: slice,
+    }
+}
+
+// Start on the front of a memory, with the front of the octets as its slice.
+fn start_on(mem: &mut [u8], len: usize, asked: Asked, octets: &[u8], count: u32) -> Said {
+    if 65535 < asked.ident {
+        return Said::Unknown;
+    }
+    let count = count as usize;
+    if octets.len() < count {
+        return Said::Unknown;
+    }
+    if mem.len() < len {
+        return Said::Unknown;
+    }
+    Said::Answered(start(
+        &mut mem[..len],
+        asked.address,
+        asked.ident as u16,
+        asked.outputs,
+        asked.inputs,
+        asked.parameters,
+        asked.configuration,
+        asked.diagnosis,
+        &octets[..count],
+    ))
+}
+
+// The new memory over the old, which is as long.
+fn replace(memory: &mut [u8], by: &[u8]) {
+    if by.len() <= memory.len() {
+        octets::copy(by, memory);
+    }
+}
+
+// Whether it is the answer 0.
+fn accepted(said: Said) -> bool {
+    match said {
+        Said::Answered(answer) => match answer {
+            Answer::Value(n) => n == 0,
+            Answer::Refused(_) => false,
+        },
+        Said::Unknown => false,
+    }
+}
+
+// A Start that is accepted puts a fresh memory in place of the old; any other leaves it.
+pub fn begin(memory: &mut [u8], len: usize, source: &[u8], from: usize, end: usize) -> Begun {
+    let asked = words(source, from, end);
+    let mut octets = [0u8; 256];
+    let count = text::octets(source, asked.slice, &mut octets);
+    if !(asked.ok & count.ok & (asked.memory <= 4096)) {
+        return Begun {
+            said: Said::Unknown,
+            len: len,
+        };
+    }
+    let mut scratch = [0u8; 4096];
+    let fresh = asked.memory as usize;
+    let said = start_on(&mut scratch, fresh, asked, &octets, count.value);
+    if !accepted(said) {
+        return Begun {
+            said: said,
+            len: len,
+        };
+    }
+    replace(memory, &scratch);
+    Begun {
+        said: said,
+        len: fresh,
+    }
+}
