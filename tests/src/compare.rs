@@ -1,0 +1,175 @@
+//! Both implementations side by side: every call goes to both, every answer is compared.
+
+use crate::call::{Call, StartValues};
+use crate::card::{Card, Memory, STATE};
+use crate::ledger::Station;
+use crate::outcome::{Outcome, Tally};
+use crate::random::Random;
+use std::collections::VecDeque;
+use std::fmt;
+
+/// How many calls before a difference are shown.
+const RECENT: usize = 20;
+
+/// One call in this many finds the memory at another place than the call before it.
+const MOVE_EVERY: usize = 50;
+
+#[derive(Clone)]
+pub struct Pair {
+    pub station: Station,
+    pub card: Card,
+    pub tally: Tally,
+    pub random: Random,
+    recent: VecDeque<(usize, Call, i64)>,
+    calls: usize,
+}
+
+/// The first call on which the two do not agree, or that did something forbidden to the memory.
+pub struct Difference {
+    number: usize,
+    call: Call,
+    ledger: i64,
+    library: String,
+    recent: VecDeque<(usize, Call, i64)>,
+}
+
+impl Pair {
+    pub fn new(random: Random) -> Pair {
+        Pair {
+            station: Station::default(),
+            card: Card::new(),
+            tally: Tally::new(),
+            random,
+            recent: VecDeque::new(),
+            calls: 0,
+        }
+    }
+
+    /// A copy that goes its own way, with a table of its own.
+    pub fn branch(&self) -> Pair {
+        Pair {
+            tally: Tally::new(),
+            ..self.clone()
+        }
+    }
+
+    pub fn step(&mut self, call: &Call) -> Result<i64, Box<Difference>> {
+        self.calls += 1;
+        self.maybe_move();
+        let in_use = self.station.ledger.is_some();
+        let (expected, reached) = self.station.answer(call);
+        match self.card.answer(call, &mut self.random) {
+            Ok(answer) if answer == expected => {}
+            Ok(answer) => return Err(self.difference(call, expected, answered(answer))),
+            Err(misdeed) => return Err(self.difference(call, expected, misdeed)),
+        }
+        reached
+            .into_iter()
+            .for_each(|outcome| self.tally.add(outcome));
+        if let (Call::Start(values), 0) = (call, expected) {
+            self.check_started(call, values, in_use)?;
+        }
+        self.remember(call, expected);
+        Ok(expected)
+    }
+
+    pub fn run(&mut self, calls: &[Call]) -> Result<(), Box<Difference>> {
+        calls.iter().try_for_each(|call| self.step(call).map(drop))
+    }
+
+    fn maybe_move(&mut self) {
+        if self.random.below(MOVE_EVERY) == 0 {
+            self.card.move_elsewhere(&mut self.random);
+            self.tally.add(Outcome::Moved);
+        }
+    }
+
+    fn remember(&mut self, call: &Call, answer: i64) {
+        if self.recent.len() == RECENT {
+            self.recent.pop_front();
+        }
+        self.recent.push_back((self.calls, call.clone(), answer));
+    }
+
+    /// There is one image for each state, so Start's does not depend on the octets that were there before; the buffers
+    /// are zeros but for the Get_Cfg slice.
+    fn check_started(
+        &mut self,
+        call: &Call,
+        values: &StartValues,
+        in_use: bool,
+    ) -> Result<(), Box<Difference>> {
+        let end = values.end_of_buffers() as usize;
+        let mut fresh = Memory::new(&vec![0; values.memory], 0);
+        fresh.call(call);
+        if fresh.contents()[..end] != self.card.memory.contents()[..end] {
+            let misdeed = "leaves another memory than on zeros".to_string();
+            return Err(self.difference(call, 0, misdeed));
+        }
+        let buffers = &fresh.contents()[STATE..end];
+        let slice_at = buffers.len() - values.get_cfg.len().div_ceil(8) * 8;
+        let slice_end = slice_at + values.get_cfg.len();
+        let rest_is_zero = buffers[..slice_at].iter().all(|octet| *octet == 0)
+            && buffers[slice_end..].iter().all(|octet| *octet == 0);
+        if !rest_is_zero || buffers[slice_at..slice_end] != values.get_cfg {
+            let misdeed = "leaves buffers that are not zeros and the Get_Cfg slice".to_string();
+            return Err(self.difference(call, 0, misdeed));
+        }
+        self.tally.add(Outcome::StartSameImage);
+        if in_use {
+            self.tally.add(Outcome::StartAgain);
+        }
+        if end < values.memory {
+            self.tally.add(Outcome::StartKeepsRest);
+        }
+        Ok(())
+    }
+
+    fn difference(&self, call: &Call, ledger: i64, library: String) -> Box<Difference> {
+        Box::new(Difference {
+            number: self.calls,
+            call: call.clone(),
+            ledger,
+            library,
+            recent: self.recent.clone(),
+        })
+    }
+
+    /// A difference that another check found after the last call.
+    pub fn found(&self, call: &Call, misdeed: String) -> Box<Difference> {
+        self.difference(call, 0, misdeed)
+    }
+}
+
+/// An answer with a word on what it means if it is a refusal.
+pub fn answered(answer: i64) -> String {
+    format!("answers {answer}{}", meaning(answer))
+}
+
+fn meaning(answer: i64) -> &'static str {
+    match answer {
+        -1 => " (refused: memory length)",
+        -2 => " (refused: address)",
+        -3 => " (refused: a length or the slice)",
+        -4 => " (refused: buffers end beyond the memory)",
+        -5 => " (refused: damaged memory, or no Start yet)",
+        -6 => " (refused: no set to judge)",
+        -7 => " (refused: out of range)",
+        -8 => " (refused: nothing there to read or write now)",
+        -9 => " (refused: a new diagnosis is delayed already)",
+        _ => "",
+    }
+}
+
+impl fmt::Display for Difference {
+    fn fmt(&self, f: &mut fmt::Formatter<'_>) -> fmt::Result {
+        writeln!(f, "call {}: {}", self.number, self.call)?;
+        writeln!(f, "  the second implementation {}", answered(self.ledger))?;
+        writeln!(f, "  the C library {}", self.library)?;
+        writeln!(f, "the calls before it, with the answers of both:")?;
+        for (number, call, answer) in &self.recent {
+            writeln!(f, "  {number:>6}  {call}  ->  {answer}")?;
+        }
+        Ok(())
+    }
+}

@@ -1,0 +1,348 @@
+//! Memories that somebody damaged, and lengths that are not the memory's. The second implementation has no memory, so
+//! these checks hold the C library to document 01 alone: an image that is no state's is refused with 5 by every call
+//! but Start and stays as it is; one that is a state's is never refused with 5 again, whatever is called. In both
+//! cases no octet outside the lent memory is touched and every answer is one that the call can have.
+
+use crate::call::{Call, StartValues};
+use crate::card::{call_library, first_change, is_possible, only_looks, Card, Memory, STATE};
+use crate::draft::{self, Draft};
+use crate::outcome::{Outcome, Tally};
+use crate::random::Random;
+
+/// The longest reply: SD2 with LE 249.
+const LONGEST_REPLY: usize = 249 + 6;
+
+/// Calls on an image that passed for a state, and how many such images are walked on from: one in this many.
+const WALK: usize = 40;
+const WALK_EVERY: usize = 8;
+
+/// Lengths are tried from 0 to here, beyond the longest memory.
+const LONGEST_LENGTH: usize = 4112;
+
+/// All calls but Start.
+fn every_call() -> Vec<Call> {
+    vec![
+        Call::Events,
+        Call::Pending,
+        Call::Send,
+        Call::Gap,
+        Call::Octet {
+            octet: 0x10,
+            bad: false,
+        },
+        Call::Octet {
+            octet: 0x10,
+            bad: true,
+        },
+        Call::Tick,
+        Call::Take,
+        Call::Read { kind: 1, index: 0 },
+        Call::Read { kind: 9, index: 0 },
+        Call::Write {
+            kind: 4,
+            index: 0,
+            octet: 0xA5,
+        },
+        Call::Write {
+            kind: 1,
+            index: 0,
+            octet: 0xA5,
+        },
+        Call::HandOver,
+        Call::NewDiagnosis { count: 6, flags: 5 },
+        Call::NewDiagnosis { count: 5, flags: 8 },
+        Call::JudgeParameters(1),
+        Call::JudgeParameters(2),
+        Call::JudgeConfiguration(0),
+        Call::Acknowledge(0xFFFF),
+        Call::Leave,
+    ]
+}
+
+/// The damage that is tried on one reached state.
+pub struct Trial<'a> {
+    pub card: &'a Card,
+    pub values: &'a StartValues,
+    pub random: &'a mut Random,
+    pub tally: &'a mut Tally,
+}
+
+impl Trial<'_> {
+    /// Each of the 64 state octets in turn, changed to each of its 255 other values or to several of them.
+    pub fn change_every_octet(&mut self, all_values: bool) -> Result<(), String> {
+        let mut memory = self.card.memory.clone();
+        for at in 0..STATE {
+            let good = memory.contents()[at];
+            for value in self.other_values(good, all_values) {
+                memory.contents_mut()[at] = value;
+                let refused = self.judge(&mut memory).map_err(|misdeed| {
+                    format!(
+                        "with state octet {at} changed from {good:02X} to {value:02X} {misdeed}"
+                    )
+                })?;
+                self.tally.add(match refused {
+                    true => Outcome::DamageRefused,
+                    false => Outcome::DamageOtherState,
+                });
+                memory.contents_mut()[at] = good;
+            }
+        }
+        Ok(())
+    }
+
+    fn other_values(&mut self, good: u8, all_values: bool) -> Vec<u8> {
+        let mut values: Vec<u8> = match all_values {
+            true => (0..=255).collect(),
+            false => {
+                let bits = (0..8).map(|bit| good ^ 1 << bit);
+                let nearby = [0, 255, good.wrapping_add(1), good.wrapping_sub(1)];
+                let any = [self.random.octet(), self.random.octet()];
+                bits.chain(nearby).chain(any).collect()
+            }
+        };
+        values.retain(|value| *value != good);
+        values
+    }
+
+    /// Images of chance, and the two that memories have after power comes.
+    pub fn random_images(&mut self, count: usize) -> Result<(), String> {
+        for number in 0..count {
+            let image = match number {
+                0 => vec![0; STATE],
+                1 => vec![0xFF; STATE],
+                _ => self.random.octets(STATE),
+            };
+            let refused = self.judge_image(&image, "random image")?;
+            if refused {
+                self.tally.add(Outcome::RandomRefused);
+            }
+        }
+        Ok(())
+    }
+
+    /// Images made of octets of this state and of another one of the same list.
+    pub fn spliced_images(&mut self, other: &[u8], count: usize) -> Result<(), String> {
+        for _ in 0..count {
+            let from_other = self.random.pick(&[5, 20, 50, 80, 95]);
+            let mut image = self.card.state().to_vec();
+            for (place, octet) in image.iter_mut().zip(other) {
+                if self.random.chance(from_other) {
+                    *place = *octet;
+                }
+            }
+            let refused = self.judge_image(&image, "image spliced of two states")?;
+            self.tally.add(match refused {
+                true => Outcome::SplicedRefused,
+                false => Outcome::SplicedOtherState,
+            });
+        }
+        Ok(())
+    }
+
+    fn judge_image(&mut self, image: &[u8], what: &str) -> Result<bool, String> {
+        let mut memory = self.card.memory.clone();
+        memory.contents_mut()[..STATE].copy_from_slice(image);
+        self.judge(&mut memory)
+            .map_err(|misdeed| format!("with the {what} {image:02X?} {misdeed}"))
+    }
+
+    /// True if the image is refused. The memory is as before when this is over.
+    fn judge(&mut self, memory: &mut Memory) -> Result<bool, String> {
+        if memory.call(&Call::Events) == -5 {
+            refused_by_all(memory)?;
+            return Ok(true);
+        }
+        let mut lent = memory.clone();
+        for call in every_call() {
+            lent.copy_from(memory);
+            let answer = checked_on_state(&mut lent, &call)?;
+            if answer < 0 || only_looks(&call) {
+                unchanged(memory.contents(), lent.contents())?;
+            }
+        }
+        if self.random.below(WALK_EVERY) == 0 {
+            self.walk(memory.clone())?;
+        }
+        Ok(false)
+    }
+
+    /// Goes on from an image that passed for a state; every reply must end.
+    fn walk(&mut self, mut memory: Memory) -> Result<(), String> {
+        for _ in 0..WALK {
+            let call = self.wild_call();
+            checked_on_state(&mut memory, &call)?;
+        }
+        let telegram = self.wild_telegram();
+        for call in telegram {
+            checked_on_state(&mut memory, &call)?;
+        }
+        for _ in 0..LONGEST_REPLY {
+            checked_on_state(&mut memory, &Call::Send)?;
+        }
+        match memory.call(&Call::Send) {
+            256 => Ok(()),
+            answer => Err(format!(
+                "answers {answer} to send after {LONGEST_REPLY} octets, the longest reply"
+            )),
+        }
+    }
+
+    fn wild_call(&mut self) -> Call {
+        let random = &mut *self.random;
+        match random.below(16) {
+            0 | 1 => Call::Send,
+            2 => Call::Gap,
+            3 | 4 => Call::Octet {
+                octet: random.pick(&[0x10, 0x68, 0xA2, 0xDC, 5, 5, 0x16]),
+                bad: random.chance(5),
+            },
+            5 => Call::Tick,
+            6 => Call::Take,
+            7 => Call::Read {
+                kind: random.between(1, 5) as u32,
+                index: random.below(256) as u32,
+            },
+            8 => Call::Write {
+                kind: random.between(4, 5) as u32,
+                index: random.below(256) as u32,
+                octet: random.octet(),
+            },
+            9 => Call::HandOver,
+            10 => Call::NewDiagnosis {
+                count: random.below(256) as u32,
+                flags: random.below(8) as u32,
+            },
+            11 => Call::JudgeParameters(random.below(2) as u32),
+            12 => Call::JudgeConfiguration(random.below(2) as u32),
+            13 => Call::Acknowledge(random.next() as u16),
+            14 => Call::Pending,
+            _ => Call::Leave,
+        }
+    }
+
+    /// A telegram to the station, which may live at another address by now.
+    fn wild_telegram(&mut self) -> Vec<Call> {
+        let station = self.values.address as u8;
+        let master = self.random.pick(&[0, 1, 2, 3, 60, 125, 126]);
+        let outputs = self.random.octets(self.values.outputs as usize);
+        let parameters = draft::good_parameters(self.values.ident, Some((1, 2)), 1);
+        let draft = match self.random.below(5) {
+            0 => Draft::exchange(station, master, outputs),
+            1 => Draft::to_point(station, master, draft::SET_PRM, parameters),
+            2 => Draft::to_point(station, master, draft::SLAVE_DIAG, Vec::new()),
+            3 => Draft::to_point(station, master, draft::GET_CFG, Vec::new()),
+            _ => Draft::to_point(station, master, draft::READ_OUTPUTS, Vec::new()),
+        };
+        let octets = draft.octets().into_iter();
+        let octets = octets.map(|octet| Call::Octet { octet, bad: false });
+        std::iter::once(Call::Gap).chain(octets).collect()
+    }
+
+    /// Every length from 0 to beyond 4,096, with the state as it is. A length is refused exactly if it is out of its
+    /// range, no multiple of 8, or below the end of the buffers; with any other the answer is the usual one.
+    pub fn try_every_length(&mut self) -> Result<(), String> {
+        let mut room: Vec<u8> = self.card.memory.contents().to_vec();
+        room.resize(LONGEST_LENGTH, 0xC3);
+        for length in 0..=LONGEST_LENGTH {
+            let fits = length >= self.values.end_of_buffers() as usize;
+            let allowed = (1536..=4096).contains(&length) && length % 8 == 0;
+            match (allowed, fits) {
+                (true, true) => self.other_length(&room, length),
+                (true, false) => self.refused_length(&mut room, length, Outcome::LengthTooShort),
+                (false, _) => self
+                    .refused_length(&mut room, length, Outcome::LengthRefused)
+                    .and_then(|()| self.refused_start(&mut room, length)),
+            }
+            .map_err(|misdeed| format!("with the length {length} {misdeed}"))?;
+        }
+        Ok(())
+    }
+
+    fn refused_length(
+        &mut self,
+        room: &mut [u8],
+        length: usize,
+        outcome: Outcome,
+    ) -> Result<(), String> {
+        let before = room.to_vec();
+        for call in every_call() {
+            let answer = call_library(&mut room[..length], &call);
+            if answer != -5 {
+                return Err(format!("answers {answer} to {call} instead of -5"));
+            }
+        }
+        unchanged(&before, room)?;
+        self.tally.add(outcome);
+        Ok(())
+    }
+
+    fn refused_start(&mut self, room: &mut [u8], length: usize) -> Result<(), String> {
+        let before = room.to_vec();
+        let call = Call::Start(self.values.clone());
+        let answer = call_library(&mut room[..length], &call);
+        if answer != -1 {
+            return Err(format!("answers {answer} to Start instead of -1"));
+        }
+        unchanged(&before, room)?;
+        self.tally.add(Outcome::LengthStart);
+        Ok(())
+    }
+
+    fn other_length(&mut self, room: &[u8], length: usize) -> Result<(), String> {
+        for call in every_call() {
+            let mut lent = room.to_vec();
+            let mut usual = self.card.memory.clone();
+            let answer = call_library(&mut lent[..length], &call);
+            let expected = usual.call(&call);
+            if answer != expected {
+                return Err(format!(
+                    "answers {answer} to {call}, with the length of Start {expected}"
+                ));
+            }
+            let common = length.min(usual.length());
+            unchanged(&usual.contents()[..common], &lent[..common])?;
+            unchanged(&room[common..], &lent[common..])?;
+        }
+        self.tally.add(Outcome::LengthOther);
+        Ok(())
+    }
+}
+
+fn refused_by_all(memory: &mut Memory) -> Result<(), String> {
+    let before = memory.contents().to_vec();
+    for call in every_call() {
+        let answer = memory.call(&call);
+        if answer != -5 {
+            return Err(format!(
+                "refuses events with 5 and answers {answer} to {call}"
+            ));
+        }
+    }
+    unchanged(&before, memory.contents())?;
+    guards(memory)
+}
+
+fn checked_on_state(memory: &mut Memory, call: &Call) -> Result<i64, String> {
+    let answer = memory.call(call);
+    if answer == -5 || !is_possible(call, answer) {
+        return Err(format!(
+            "takes it for a state and then answers {answer} to {call}"
+        ));
+    }
+    guards(memory)?;
+    Ok(answer)
+}
+
+fn unchanged(before: &[u8], now: &[u8]) -> Result<(), String> {
+    match before == now {
+        true => Ok(()),
+        false => Err(format!("changed the memory{}", first_change(before, now))),
+    }
+}
+
+fn guards(memory: &Memory) -> Result<(), String> {
+    match memory.guards_are_whole() {
+        true => Ok(()),
+        false => Err("changed octets outside the lent memory".into()),
+    }
+}

@@ -1,0 +1,1412 @@
+//! Lists of calls that reach deep, made from a seed. The second implementation runs along and its state steers: most
+//! telegrams make sense in the phase the station is in, and the scenarios walk straight to the places that chance
+//! alone would hardly find. The rest of the list is disorder on purpose.
+
+use crate::call::{Call, StartValues};
+use crate::draft::{self, Draft};
+use crate::ledger::{Ledger, Phase, Station, DIAGNOSIS_HEAD};
+use crate::random::Random;
+use crate::telegram::{self, Form, EXTENSION};
+
+/// The list with this number of this seed: the same calls whenever it is made.
+pub fn list(seed: u64, number: u64, length: usize) -> Vec<Call> {
+    let mut random = Random::for_list(seed, number);
+    let habits = Habits::choose(&mut random);
+    let mut generator = Generator {
+        random,
+        habits,
+        station: Station::default(),
+        calls: Vec::with_capacity(length),
+        length,
+    };
+    generator.opening();
+    while !generator.is_full() {
+        generator.episode();
+    }
+    generator.calls
+}
+
+/// What makes one list unlike another.
+struct Habits {
+    /// How often, in 1,000 places inside telegrams and replies, other calls come between.
+    interruptions: usize,
+    /// How many of 100 telegrams are damaged on the way.
+    damage: usize,
+    masters: Vec<u8>,
+}
+
+impl Habits {
+    fn choose(random: &mut Random) -> Habits {
+        Habits {
+            interruptions: random.pick(&[0, 5, 20, 60, 150]),
+            damage: random.pick(&[0, 5, 15]),
+            masters: vec![
+                random.pick(&[0, 1, 2]),
+                random.pick(&[3, 60, 125]),
+                random.pick(&[126, 2, 5]),
+            ],
+        }
+    }
+}
+
+/// The ways a telegram is spoiled between master and station.
+#[derive(Clone, Copy)]
+enum Spoil {
+    OneOctet,
+    OneBit,
+    OneOctetWithGoodCheckSum,
+    MarkInOneAddress,
+    CutShort,
+    TooLong,
+    Lost,
+    Doubled,
+    FlaggedBad,
+    GapInside,
+    SecondLength,
+    Length,
+    ShortestLengthExtended,
+}
+
+const SPOILS: [Spoil; 13] = [
+    Spoil::OneOctet,
+    Spoil::OneBit,
+    Spoil::OneOctetWithGoodCheckSum,
+    Spoil::MarkInOneAddress,
+    Spoil::CutShort,
+    Spoil::TooLong,
+    Spoil::Lost,
+    Spoil::Doubled,
+    Spoil::FlaggedBad,
+    Spoil::GapInside,
+    Spoil::SecondLength,
+    Spoil::Length,
+    Spoil::ShortestLengthExtended,
+];
+
+struct Generator {
+    random: Random,
+    habits: Habits,
+    station: Station,
+    calls: Vec<Call>,
+    length: usize,
+}
+
+/// Calls and what they lead to.
+impl Generator {
+    fn is_full(&self) -> bool {
+        self.calls.len() >= self.length
+    }
+
+    /// Puts a call on the list. A full list takes no more, so that a scenario may simply go on to its end.
+    fn call(&mut self, call: Call) {
+        if !self.is_full() {
+            self.station.answer(&call);
+            self.calls.push(call);
+        }
+    }
+
+    fn ledger(&self) -> &Ledger {
+        self.station
+            .ledger
+            .as_ref()
+            .expect("the opening ends with a Start that answers 0")
+    }
+
+    fn address(&self) -> u8 {
+        self.ledger().values.address as u8
+    }
+
+    fn any_master(&mut self) -> u8 {
+        let masters = self.habits.masters.clone();
+        self.random.pick(&masters)
+    }
+
+    /// Mostly the owner, if there is one.
+    fn likely_master(&mut self) -> u8 {
+        let owner = self.ledger().owner;
+        match owner {
+            Some(owner) if self.random.chance(85) => owner,
+            _ => self.any_master(),
+        }
+    }
+
+    fn owner_or_any(&mut self) -> u8 {
+        match self.ledger().owner {
+            Some(owner) => owner,
+            None => self.any_master(),
+        }
+    }
+
+    fn other_master(&mut self) -> u8 {
+        let owner = self.ledger().owner;
+        (0..126)
+            .map(|_| self.random.below(127) as u8)
+            .find(|master| Some(*master) != owner)
+            .unwrap_or(0)
+    }
+}
+
+/// Starts.
+impl Generator {
+    fn opening(&mut self) {
+        if self.random.chance(25) {
+            self.calls_before_start();
+        }
+        let values = self.good_start();
+        if self.random.chance(40) {
+            self.refused_start(&values);
+        }
+        self.length = self.length.max(self.calls.len() + 1);
+        self.call(Call::Start(values));
+    }
+
+    fn calls_before_start(&mut self) {
+        let calls = [
+            Call::Gap,
+            Call::Octet {
+                octet: telegram::SD1,
+                bad: false,
+            },
+            Call::Send,
+            Call::Tick,
+            Call::Take,
+            Call::Read { kind: 1, index: 0 },
+            Call::Write {
+                kind: 4,
+                index: 0,
+                octet: 7,
+            },
+            Call::HandOver,
+            Call::NewDiagnosis { count: 6, flags: 0 },
+            Call::JudgeParameters(1),
+            Call::JudgeConfiguration(2),
+            Call::Events,
+            Call::Acknowledge(1),
+            Call::Pending,
+            Call::Leave,
+        ];
+        calls.into_iter().for_each(|call| self.call(call));
+    }
+
+    fn good_start(&mut self) -> StartValues {
+        let [outputs, inputs, parameters, configuration, diagnosis, slice] = self.good_lengths();
+        let mut values = StartValues {
+            memory: 0,
+            address: self.random.pick(&[5, 5, 0, 1, 2, 60, 125, 126]),
+            ident: self.random.pick(&[0x80B3, 0x0000, 0xFFFF, 0x1234]),
+            outputs,
+            inputs,
+            parameters,
+            configuration,
+            diagnosis,
+            get_cfg: self.random.octets(slice as usize),
+        };
+        let least = (values.end_of_buffers() as usize).max(1536);
+        values.memory = match self.random.below(4) {
+            0 | 1 => least,
+            2 => (least + 8 * self.random.below(20)).min(4096),
+            _ => 4096,
+        };
+        values
+    }
+
+    /// Outputs, inputs, parameters, configuration, diagnosis, Get_Cfg slice. Short ones let a list go far, long ones
+    /// reach the limits; 8 outputs are what an SD3 carries.
+    fn good_lengths(&mut self) -> [u32; 6] {
+        let random = &mut self.random;
+        match random.weighted(&[30, 35, 12, 4, 4, 8, 4]) {
+            0 => [1, 1, 7, 1, 6, 1],
+            1 => [
+                random.between(1, 9) as u32,
+                random.between(1, 9) as u32,
+                random.between(7, 12) as u32,
+                random.between(1, 9) as u32,
+                random.between(6, 12) as u32,
+                random.between(1, 9) as u32,
+            ],
+            2 => [8, 3, 10, 7, 9, 2],
+            3 => [96; 6],
+            4 => [244; 6],
+            5 => [
+                random.between(1, 244) as u32,
+                random.between(1, 244) as u32,
+                random.between(7, 244) as u32,
+                random.between(1, 244) as u32,
+                random.between(6, 244) as u32,
+                random.between(1, 244) as u32,
+            ],
+            _ => [
+                random.pick(&[1, 244]),
+                random.pick(&[1, 244]),
+                random.pick(&[7, 244]),
+                random.pick(&[1, 244]),
+                random.pick(&[6, 244]),
+                random.pick(&[1, 244]),
+            ],
+        }
+    }
+
+    /// Start with one or two values spoiled; the memory in use must not notice.
+    fn refused_start(&mut self, good: &StartValues) {
+        let mut values = good.clone();
+        for _ in 0..self.random.pick(&[1, 1, 2]) {
+            self.spoil_start(&mut values);
+        }
+        self.call(Call::Start(values));
+    }
+
+    fn spoil_start(&mut self, values: &mut StartValues) {
+        let random = &mut self.random;
+        let too_long = random.pick(&[245, 246, 255, 256, 257, 500, u32::MAX - 7, u32::MAX]);
+        let below = |least: u32, zero: bool| if zero { 0 } else { least - 1 };
+        let short = random.chance(50);
+        let zero = random.chance(50);
+        let bad = |least: u32| {
+            if short {
+                below(least, zero)
+            } else {
+                too_long
+            }
+        };
+        match random.below(9) {
+            0 => values.memory = random.pick(&[0, 8, 64, 1528, 1535, 1537, 2001, 4095, 4097, 4104]),
+            1 => values.address = random.pick(&[127, 128, 255, 256, 261, u32::MAX]),
+            2 => values.outputs = bad(1),
+            3 => values.inputs = bad(1),
+            4 => values.parameters = bad(7),
+            5 => values.configuration = bad(1),
+            6 => values.diagnosis = bad(6),
+            7 => values.get_cfg = vec![7; random.pick(&[0, 245, 256, 300])],
+            _ => {
+                let long = [244; 4];
+                [
+                    values.outputs,
+                    values.inputs,
+                    values.parameters,
+                    values.configuration,
+                ] = long;
+                values.memory = (values.end_of_buffers() as usize - 8).min(4096);
+            }
+        }
+    }
+
+    /// A Start in the middle of everything, on the memory in use or on another one.
+    fn restart(&mut self) {
+        let mut values = self.good_start();
+        if self.random.chance(50) {
+            let memory = self.ledger().values.memory;
+            if values.end_of_buffers() <= memory as u64 {
+                values.memory = memory;
+            }
+        }
+        self.call(Call::Start(values));
+    }
+}
+
+/// Episodes: the pieces a list is made of.
+impl Generator {
+    fn episode(&mut self) {
+        let weights = [34, 9, 7, 16, 6, 6, 3, 19];
+        match self.random.weighted(&weights) {
+            0 => self.sensible_telegram(),
+            1 => self.spoiled_telegram(),
+            2 => self.odd_telegram(),
+            3 => self.user_work(),
+            4 => self.ticks(),
+            5 => self.out_of_range(),
+            6 => self.noise(),
+            _ => self.scenario(),
+        }
+    }
+
+    fn scenario(&mut self) {
+        match self
+            .random
+            .weighted(&[10, 14, 22, 10, 10, 8, 10, 10, 6, 1, 6])
+        {
+            0 => self.reach_exchange(),
+            1 => self.delayed_diagnosis(),
+            2 => self.clear_on_a_busy_line(),
+            3 => self.parameters_that_wait(),
+            4 => self.configurations_that_wait(),
+            5 => self.outputs_taken_under_their_reply(),
+            6 => self.bad_judgement_on_a_busy_line(),
+            7 => self.diagnosis_seen_by_all(),
+            8 => self.owner_changes(),
+            9 => self.restart(),
+            _ => self.controls(),
+        }
+    }
+
+    fn sensible_telegram(&mut self) {
+        let draft = self.sensible_draft();
+        if self.random.chance(self.habits.damage) {
+            self.put_spoiled(&draft.octets());
+        } else {
+            self.put(&draft.octets());
+        }
+        self.hear_reply();
+        if self.random.chance(5) {
+            self.status_without_a_gap();
+        }
+    }
+
+    fn spoiled_telegram(&mut self) {
+        let draft = self.sensible_draft();
+        self.put_spoiled(&draft.octets());
+        if self.random.chance(20) {
+            self.status_without_a_gap();
+        }
+        self.hear_reply();
+    }
+
+    /// A whole telegram that is heard only if octets are not ignored here.
+    fn status_without_a_gap(&mut self) {
+        let draft = Draft::status(self.address(), 1);
+        self.put_part(&draft.octets());
+        self.call(Call::Send);
+    }
+
+    fn odd_telegram(&mut self) {
+        let draft = self.odd_draft();
+        self.put(&draft.octets());
+        self.hear_reply();
+    }
+
+    /// The vat program at work: what it would do in this state, now and then out of order.
+    fn user_work(&mut self) {
+        for _ in 0..self.random.between(1, 5) {
+            let call = self.useful_call();
+            self.call(call);
+        }
+    }
+
+    /// Around the moment at which the watchdog expires, if it is near.
+    fn ticks(&mut self) {
+        let count = match &self.ledger().watchdog {
+            Some(watchdog) if watchdog.left <= 40 => {
+                (watchdog.left as usize + self.random.below(3)).saturating_sub(1)
+            }
+            _ => self.random.between(1, 3),
+        };
+        for _ in 0..count {
+            self.call(Call::Tick);
+        }
+    }
+
+    /// Octets that no master sends.
+    fn noise(&mut self) {
+        let starts = [
+            telegram::SD1,
+            telegram::SD2,
+            telegram::SD3,
+            telegram::SD4,
+            0xE5,
+            0x16,
+        ];
+        if self.random.chance(80) {
+            self.call(Call::Gap);
+        }
+        for _ in 0..self.random.between(1, 6) {
+            let octet = match self.random.chance(50) {
+                true => self.random.pick(&starts),
+                false => self.random.octet(),
+            };
+            let bad = self.random.chance(15);
+            self.call(Call::Octet { octet, bad });
+        }
+    }
+}
+
+/// The bus: telegrams and replies, with other calls between their octets.
+impl Generator {
+    fn put(&mut self, octets: &[u8]) {
+        self.call(Call::Gap);
+        for octet in octets {
+            self.interrupt();
+            self.call(Call::Octet {
+                octet: *octet,
+                bad: false,
+            });
+        }
+    }
+
+    /// The same without interruptions, where a scenario needs the telegram to arrive.
+    fn put_quietly(&mut self, draft: &Draft) {
+        self.call(Call::Gap);
+        self.put_part(&draft.octets());
+    }
+
+    fn put_part(&mut self, octets: &[u8]) {
+        for octet in octets {
+            self.call(Call::Octet {
+                octet: *octet,
+                bad: false,
+            });
+        }
+    }
+
+    fn interrupt(&mut self) {
+        if self.random.below(1000) < self.habits.interruptions {
+            for _ in 0..self.random.between(1, 2) {
+                let call = self.any_call();
+                self.call(call);
+            }
+        }
+    }
+
+    fn hear_reply(&mut self) {
+        match self.random.weighted(&[60, 15, 15, 10]) {
+            0 => {
+                self.hear(usize::MAX);
+                self.call(Call::Send);
+            }
+            1 => self.hear(usize::MAX),
+            2 => {
+                let part = self.random.below(self.ledger().reply.left.len() + 1);
+                self.hear(part);
+            }
+            _ => {}
+        }
+    }
+
+    fn hear(&mut self, count: usize) {
+        for _ in 0..count {
+            if !self.ledger().reply_is_unfinished() || self.is_full() {
+                return;
+            }
+            self.interrupt();
+            self.call(Call::Send);
+        }
+    }
+
+    fn hear_quietly(&mut self) {
+        while self.ledger().reply_is_unfinished() && !self.is_full() {
+            self.call(Call::Send);
+        }
+    }
+
+    /// Ends whatever is on the line, and with it what is noted or delayed.
+    fn settle(&mut self) {
+        self.call(Call::Gap);
+        self.hear_quietly();
+    }
+
+    fn put_spoiled(&mut self, octets: &[u8]) {
+        let spoil = self.random.pick(&SPOILS);
+        let at = self.random.below(octets.len());
+        let mut spoiled = octets.to_vec();
+        match spoil {
+            Spoil::FlaggedBad | Spoil::GapInside => return self.put_disturbed(octets, at, spoil),
+            Spoil::OneOctet => spoiled[at] = self.random.octet(),
+            Spoil::OneBit => spoiled[at] ^= 1 << self.random.below(8),
+            Spoil::OneOctetWithGoodCheckSum => self.change_with_good_check_sum(&mut spoiled),
+            Spoil::MarkInOneAddress => self.mark_one_address(&mut spoiled),
+            Spoil::CutShort => spoiled.truncate(at),
+            Spoil::TooLong => spoiled.extend([octets[0], octets[octets.len() - 1]]),
+            Spoil::Lost => drop(spoiled.remove(at)),
+            Spoil::Doubled => spoiled.insert(at, octets[at]),
+            Spoil::SecondLength if octets[0] == telegram::SD2 => {
+                spoiled[2] = spoiled[2].wrapping_add(self.random.pick(&[1, 255, 128]))
+            }
+            Spoil::Length if octets[0] == telegram::SD2 => {
+                let le = self.random.pick(&[0, 3, 4, 249, 250, 255]);
+                spoiled[1..3].fill(le);
+            }
+            Spoil::ShortestLengthExtended => {
+                spoiled = vec![telegram::SD2, 4, 4, telegram::SD2];
+                spoiled.push(self.address() | EXTENSION);
+            }
+            Spoil::SecondLength | Spoil::Length => spoiled[0] ^= 0x01,
+        }
+        self.put(&spoiled);
+    }
+
+    fn put_disturbed(&mut self, octets: &[u8], at: usize, spoil: Spoil) {
+        self.call(Call::Gap);
+        for (place, octet) in octets.iter().enumerate() {
+            if place == at && matches!(spoil, Spoil::GapInside) {
+                self.call(Call::Gap);
+            }
+            let bad = place == at && matches!(spoil, Spoil::FlaggedBad);
+            self.call(Call::Octet { octet: *octet, bad });
+        }
+    }
+
+    /// A change that the check sum does not betray.
+    fn change_with_good_check_sum(&mut self, octets: &mut [u8]) {
+        let body_at = if octets[0] == telegram::SD2 { 4 } else { 1 };
+        if octets[0] == telegram::SD4 || octets.len() < body_at + 5 {
+            return;
+        }
+        let fcs_at = octets.len() - 2;
+        let at = self.random.between(body_at, fcs_at - 1);
+        octets[at] ^= 1 << self.random.below(8);
+        octets[fcs_at] = telegram::check_sum(&octets[body_at..fcs_at]);
+    }
+
+    fn mark_one_address(&mut self, octets: &mut [u8]) {
+        let body_at = if octets[0] == telegram::SD2 { 4 } else { 1 };
+        octets[body_at + self.random.below(2)] ^= EXTENSION;
+    }
+}
+
+/// Telegrams that make sense now.
+impl Generator {
+    fn sensible_draft(&mut self) -> Draft {
+        let phase = self.ledger().phase;
+        // Set_Prm, Chk_Cfg, Data_Exchange, Slave_Diag, Get_Cfg, Read_Inputs, Read_Outputs, Global_Control, status
+        let weights = match phase {
+            Phase::WaitPrm => [45, 6, 6, 12, 5, 3, 3, 3, 4],
+            Phase::WaitCfg => [14, 40, 8, 12, 4, 3, 3, 4, 4],
+            Phase::DataExch => [5, 5, 45, 12, 4, 8, 8, 12, 4],
+        };
+        let mut draft = match self.random.weighted(&weights) {
+            0 => self.set_prm(),
+            1 => self.chk_cfg(),
+            2 => self.data_exchange(),
+            3 => self.without_data(draft::SLAVE_DIAG),
+            4 => self.without_data(draft::GET_CFG),
+            5 => self.without_data(draft::READ_INPUTS),
+            6 => self.without_data(draft::READ_OUTPUTS),
+            7 => self.global_control(),
+            _ => {
+                let master = self.likely_master();
+                Draft::status(self.address(), master)
+            }
+        };
+        self.vary_control(&mut draft);
+        draft
+    }
+
+    /// Bits 5 and 4 are ignored, and 12 goes for 13, 4 for 6.
+    fn vary_control(&mut self, draft: &mut Draft) {
+        draft.control ^= self.random.pick(&[0, 0, 0x10, 0x20, 0x30]);
+        draft.control = match (draft.control & 0x0F, self.random.chance(30)) {
+            (13, true) => draft.control & 0xF0 | 12,
+            (6, true) => draft.control & 0xF0 | 4,
+            _ => draft.control,
+        };
+    }
+
+    fn without_data(&mut self, point: u8) -> Draft {
+        let master = match self.random.chance(70) {
+            true => self.likely_master(),
+            false => self.any_master(),
+        };
+        Draft::to_point(self.address(), master, point, Vec::new())
+    }
+
+    fn good_set_prm(&mut self, watchdog: Option<(u8, u8)>) -> Draft {
+        let group = self.random.pick(&[0, 1, 2, 0x80, 0xFF, 0x55]);
+        let mut data = draft::good_parameters(self.ledger().values.ident, watchdog, group);
+        data[0] |= self.random.below(8) as u8;
+        data[3] = self.random.octet();
+        let extra = self.random_extra(data.len(), self.ledger().values.parameters as usize);
+        data.extend(extra);
+        let master = self.owner_or_any();
+        Draft::to_point(self.address(), master, draft::SET_PRM, data)
+    }
+
+    /// More octets, up to the limit; mostly few, for long telegrams use up the list.
+    fn random_extra(&mut self, have: usize, limit: usize) -> Vec<u8> {
+        let room = limit.saturating_sub(have);
+        let count = match self.random.below(10) {
+            0..=2 => 0,
+            3 => room,
+            _ => self.random.below(room.min(5) + 1),
+        };
+        self.random.octets(count)
+    }
+
+    fn any_watchdog(&mut self) -> Option<(u8, u8)> {
+        match self.random.below(10) {
+            0..=2 => None,
+            3..=6 => Some(self.random.pick(&[(1, 2), (2, 1), (2, 2), (1, 3), (3, 2)])),
+            7 => Some((255, 255)),
+            _ => Some((
+                self.random.between(2, 255) as u8,
+                self.random.between(1, 3) as u8,
+            )),
+        }
+    }
+
+    fn set_prm(&mut self) -> Draft {
+        let watchdog = self.any_watchdog();
+        let mut draft = self.good_set_prm(watchdog);
+        draft.source = self.likely_master();
+        if self.random.chance(45) {
+            self.spoil_parameters(&mut draft.data);
+        }
+        draft
+    }
+
+    fn spoil_parameters(&mut self, data: &mut Vec<u8>) {
+        let longest = self.ledger().values.parameters as usize;
+        match self.random.below(13) {
+            0 => data.truncate(self.random.below(7)),
+            1 => data.resize(longest + 1 + self.random.below(3), 0x55),
+            2 | 3 => data[0] |= 0x40,
+            4 => data[0] &= 0x7F,
+            5 => data[0] |= 0x20,
+            6 => data[0] |= 0x10,
+            7 => data[4] ^= 1 << self.random.below(8),
+            8 => data[5] ^= 1 << self.random.below(8),
+            9 => (data[0], data[1]) = (data[0] | 0x08, 0),
+            10 => (data[0], data[2]) = (data[0] | 0x08, 0),
+            11 => (data[0], data[1], data[2]) = (data[0] | 0x08, 1, 1),
+            _ => (data[0], data[1], data[2]) = (data[0] & !0x08, 1, 1),
+        }
+    }
+
+    fn good_chk_cfg(&mut self) -> Draft {
+        let mut data = self.random.octets(1);
+        let extra = self.random_extra(1, self.ledger().values.configuration as usize);
+        data.extend(extra);
+        let master = self.owner_or_any();
+        Draft::to_point(self.address(), master, draft::CHK_CFG, data)
+    }
+
+    fn chk_cfg(&mut self) -> Draft {
+        let longest = self.ledger().values.configuration as usize;
+        let mut draft = self.good_chk_cfg();
+        draft.source = self.likely_master();
+        match self.random.below(20) {
+            0 => draft.data.clear(),
+            1 => draft.data.resize(longest + 1, 0x33),
+            2..=4 => draft.form = Form::Sd3,
+            _ => {}
+        }
+        draft
+    }
+
+    fn good_exchange(&mut self) -> Draft {
+        let data = self.random.octets(self.ledger().values.outputs as usize);
+        let master = self.owner_or_any();
+        Draft::exchange(self.address(), master, data)
+    }
+
+    fn data_exchange(&mut self) -> Draft {
+        let mut draft = self.good_exchange();
+        draft.source = self.likely_master();
+        if draft.data.len() == 8 && self.random.chance(40) {
+            draft.form = Form::Sd3;
+        }
+        match self.random.below(30) {
+            0 => drop(draft.data.pop()),
+            1 => draft.data.push(9),
+            2 => draft.form = Form::Sd1,
+            _ => {}
+        }
+        if draft.data.is_empty() {
+            draft.form = Form::Sd1;
+        }
+        draft
+    }
+
+    fn global_control(&mut self) -> Draft {
+        let control = match self.random.chance(30) {
+            true => self.ledger().stored_control,
+            false => self.random.pick(&[0, 2, 8, 0x20, 0x22, 0xFF]),
+        };
+        let group = match self.random.below(4) {
+            0 => 0,
+            1 => self.ledger().group,
+            2 => !self.ledger().group,
+            _ => self.random.octet(),
+        };
+        let master = self.likely_master();
+        let destination = self.random.pick(&[127, self.address()]);
+        let mut draft = Draft::global_control(destination, master, control, group);
+        match self.random.below(12) {
+            0 => drop(draft.data.pop()),
+            1 => draft.data.push(0),
+            _ => {}
+        }
+        draft
+    }
+
+    /// A telegram that is well formed but strange in one or more of its parts.
+    fn odd_draft(&mut self) -> Draft {
+        let mut draft = self.sensible_draft();
+        for _ in 0..self.random.between(1, 2) {
+            self.make_odd(&mut draft);
+        }
+        // SD2 has at least one data octet.
+        if draft.form == Form::Sd2 && draft.points.is_none() && draft.data.is_empty() {
+            draft.data.push(0);
+        }
+        draft
+    }
+
+    fn make_odd(&mut self, draft: &mut Draft) {
+        let random = &mut self.random;
+        let points = [0, 55, 56, 57, 58, 59, 60, 61, 62, 63, 0xBD, 255];
+        match random.below(11) {
+            0 => draft.destination = random.pick(&[127, 0, 4, 126]),
+            1 => draft.source = random.pick(&[127, 126, draft.destination & 0x7F]),
+            2 => draft.control ^= random.pick(&[0x80, 0x40, 0xC0]),
+            3 => draft.control = draft.control & 0xF0 | random.below(16) as u8,
+            4 => draft.control = random.pick(&[0x43, 0x45, 0x73, 0x75]),
+            5 => draft.control = random.pick(&[0x49, 0x79, 0x4C, 0x5C]),
+            6 => draft.points = Some((random.pick(&points), draft::MASTER_POINT)),
+            7 => draft.points = draft.points.map(|(dsap, _)| (dsap, random.pick(&points))),
+            8 => draft.form = random.pick(&[Form::Sd1, Form::Sd3, Form::Sd4]),
+            9 => draft.data.push(random.octet()),
+            _ => {
+                let count = random.pick(&[0, 1, 2, 7, 8, 9, 241, 243, 244]);
+                draft.data = random.octets(count);
+            }
+        }
+    }
+}
+
+/// Calls of the vat program.
+impl Generator {
+    fn any_call(&mut self) -> Call {
+        let weights = [8, 5, 2, 30, 3, 2, 2, 1];
+        match self.random.weighted(&weights) {
+            0 => Call::Send,
+            1 => Call::Tick,
+            2 => Call::Gap,
+            3 => self.useful_call(),
+            4 => self.call_out_of_range(),
+            5 => Call::Leave,
+            6 => Call::Octet {
+                octet: self.random.octet(),
+                bad: self.random.chance(50),
+            },
+            _ => self.refused_start_call(),
+        }
+    }
+
+    fn refused_start_call(&mut self) -> Call {
+        let mut values = self.ledger().values.clone();
+        values.address = self.random.pick(&[127, 300]);
+        Call::Start(values)
+    }
+
+    fn useful_call(&mut self) -> Call {
+        let judging = self.ledger().parameters.shown.is_some() as usize * 12;
+        let judging_cfg = self.ledger().configuration.shown.is_some() as usize * 12;
+        let weights = [
+            10,
+            14,
+            10,
+            6,
+            6,
+            judging + 1,
+            judging_cfg + 1,
+            5,
+            5,
+            5,
+            1,
+            6,
+        ];
+        match self.random.weighted(&weights) {
+            0 => Call::Take,
+            1 => self.some_read(),
+            2 => self.some_write(),
+            3 => Call::HandOver,
+            4 => self.some_diagnosis(),
+            5 => Call::JudgeParameters(self.judgement()),
+            6 => Call::JudgeConfiguration(self.judgement()),
+            7 => Call::Events,
+            8 => Call::Acknowledge(self.mask()),
+            9 => Call::Pending,
+            10 => Call::Leave,
+            _ => self.read_of_a_set(),
+        }
+    }
+
+    fn judgement(&mut self) -> u32 {
+        match self.random.below(20) {
+            0..=15 => 1,
+            16..=18 => 0,
+            _ => self.random.pick(&[2, 255, 256, 257, u32::MAX]),
+        }
+    }
+
+    fn mask(&mut self) -> u16 {
+        match self.random.below(4) {
+            0 => 0xFFFF,
+            1 => 1 << self.random.below(16),
+            2 => self.ledger().events,
+            _ => self.random.next() as u16,
+        }
+    }
+
+    fn some_diagnosis(&mut self) -> Call {
+        let longest = self.ledger().values.diagnosis;
+        let count = match self.random.below(4) {
+            0 => DIAGNOSIS_HEAD,
+            1 => longest,
+            _ => self
+                .random
+                .between(DIAGNOSIS_HEAD as usize, longest.min(16) as usize) as u32,
+        };
+        Call::NewDiagnosis {
+            count,
+            flags: self.random.below(8) as u32,
+        }
+    }
+
+    fn some_index(&mut self, kind: u32) -> u32 {
+        let length = self.ledger().set_length(kind).unwrap_or(1);
+        let first = if kind == 5 { DIAGNOSIS_HEAD } else { 0 };
+        match self.random.below(12) {
+            0 => length - 1,
+            1 => first,
+            2 => length,
+            _ => first + self.random.below(length.saturating_sub(first) as usize) as u32,
+        }
+    }
+
+    fn some_read(&mut self) -> Call {
+        let kind = self.random.between(1, 5) as u32;
+        Call::Read {
+            kind,
+            index: self.some_index(kind),
+        }
+    }
+
+    fn some_write(&mut self) -> Call {
+        let kind = self.random.between(4, 5) as u32;
+        Call::Write {
+            kind,
+            index: self.some_index(kind),
+            octet: self.random.octet(),
+        }
+    }
+
+    /// Around the end of a set that is shown: 8 is told from 7 there.
+    fn read_of_a_set(&mut self) -> Call {
+        let kind = self.random.between(2, 3) as u32;
+        let sets = match kind {
+            2 => &self.ledger().parameters,
+            _ => &self.ledger().configuration,
+        };
+        let count = sets.shown.as_ref().map_or(0, Vec::len) as u32;
+        let nearby = self.random.below(3) as u32;
+        Call::Read {
+            kind,
+            index: (count + nearby).saturating_sub(1),
+        }
+    }
+
+    fn out_of_range(&mut self) {
+        for _ in 0..self.random.between(1, 3) {
+            let call = self.call_out_of_range();
+            self.call(call);
+        }
+        if self.random.chance(10) {
+            let values = self.ledger().values.clone();
+            self.refused_start(&values);
+        }
+    }
+
+    fn call_out_of_range(&mut self) -> Call {
+        let kind = self.random.between(1, 5) as u32;
+        let beyond = self.ledger().set_length(kind).unwrap_or(0);
+        let bad_kind = self.random.pick(&[0, 6, 7, 255, 256, 257, 260, u32::MAX]);
+        let bad_index = self
+            .random
+            .pick(&[beyond, beyond + 1, 256, 65536, u32::MAX]);
+        let longest = self.ledger().values.diagnosis;
+        let octet = self.random.octet();
+        match self.random.below(11) {
+            0 => Call::Read {
+                kind: bad_kind,
+                index: 0,
+            },
+            1 => Call::Write {
+                kind: bad_kind,
+                index: 0,
+                octet,
+            },
+            2 => Call::Write {
+                kind: self.random.between(1, 3) as u32,
+                index: 0,
+                octet,
+            },
+            3 => Call::Read {
+                kind,
+                index: bad_index,
+            },
+            4 => Call::Write {
+                kind,
+                index: bad_index,
+                octet,
+            },
+            5 => Call::Read {
+                kind: 5,
+                index: self.random.below(6) as u32,
+            },
+            6 => Call::Write {
+                kind: 5,
+                index: self.random.below(6) as u32,
+                octet,
+            },
+            7 => Call::NewDiagnosis {
+                count: self
+                    .random
+                    .pick(&[0, 5, longest + 1, 256 + 6, 245, u32::MAX]),
+                flags: 0,
+            },
+            8 => Call::NewDiagnosis {
+                count: DIAGNOSIS_HEAD,
+                flags: self.random.pick(&[8, 15, 255, 256, 257, u32::MAX]),
+            },
+            9 => Call::JudgeParameters(self.random.pick(&[2, 255, 256, 257, u32::MAX])),
+            _ => Call::JudgeConfiguration(self.random.pick(&[2, 255, 256, 257, u32::MAX])),
+        }
+    }
+}
+
+/// Scenarios: straight ways to places that chance alone would hardly find.
+impl Generator {
+    fn short_watchdog(&mut self) -> Option<(u8, u8)> {
+        Some(self.random.pick(&[(1, 2), (2, 1), (3, 1), (2, 2)]))
+    }
+
+    fn parametrise(&mut self, watchdog: Option<(u8, u8)>) {
+        self.settle();
+        let draft = self.good_set_prm(watchdog);
+        self.put_quietly(&draft);
+        self.hear_quietly();
+    }
+
+    fn judge_parameters_good(&mut self) {
+        while self.ledger().parameters.shown.is_some() && !self.is_full() {
+            self.call(Call::JudgeParameters(1));
+        }
+    }
+
+    fn judge_configuration_good(&mut self) {
+        while self.ledger().configuration.shown.is_some() && !self.is_full() {
+            self.call(Call::JudgeConfiguration(1));
+        }
+    }
+
+    fn reach_exchange_with(&mut self, watchdog: Option<(u8, u8)>) {
+        self.parametrise(watchdog);
+        self.judge_parameters_good();
+        let draft = self.good_chk_cfg();
+        self.put_quietly(&draft);
+        self.hear_quietly();
+        self.judge_configuration_good();
+    }
+
+    fn reach_exchange(&mut self) {
+        let watchdog = self.any_watchdog();
+        self.reach_exchange_with(watchdog);
+        if self.random.chance(70) {
+            let draft = self.good_exchange();
+            self.put_quietly(&draft);
+            self.hear_reply();
+        }
+    }
+
+    fn diagnosis_request(&mut self) -> Draft {
+        let master = match self.random.chance(60) {
+            true => self.owner_or_any(),
+            false => self.other_master(),
+        };
+        Draft::to_point(self.address(), master, draft::SLAVE_DIAG, Vec::new())
+    }
+
+    fn hear_a_part(&mut self) {
+        let left = self.ledger().reply.left.len();
+        let part = self.random.below(left.max(1));
+        for _ in 0..part {
+            self.call(Call::Send);
+        }
+    }
+
+    fn delayed_diagnosis(&mut self) {
+        self.settle();
+        if self.random.chance(40) {
+            let watchdog = self.any_watchdog();
+            self.reach_exchange_with(watchdog);
+        }
+        let request = self.diagnosis_request();
+        self.put_quietly(&request);
+        self.hear_a_part();
+        let write = self.some_write();
+        self.call(write);
+        let diagnosis = self.some_diagnosis();
+        self.call(diagnosis);
+        self.refused_while_delayed();
+        self.end_delayed_reply();
+        self.call(Call::Events);
+        let request = self.diagnosis_request();
+        self.put_quietly(&request);
+        self.hear_quietly();
+    }
+
+    fn refused_while_delayed(&mut self) {
+        let longest = self.ledger().values.diagnosis;
+        let calls = [
+            self.some_diagnosis(),
+            Call::Read {
+                kind: 5,
+                index: longest - 1,
+            },
+            Call::Write {
+                kind: 5,
+                index: longest - 1,
+                octet: 1,
+            },
+            Call::Events,
+        ];
+        for call in calls {
+            if self.random.chance(40) {
+                self.call(call);
+            }
+        }
+    }
+
+    fn end_delayed_reply(&mut self) {
+        match self.random.below(7) {
+            0 => self.hear_quietly(),
+            1 => {
+                let draft = self.sensible_draft();
+                self.put_quietly(&draft);
+            }
+            2 => {
+                self.call(Call::Leave);
+                self.call(Call::Tick);
+            }
+            3 => {
+                self.call(Call::Leave);
+                self.hear_quietly();
+            }
+            4 => {
+                self.call(Call::Gap);
+                let octet = self.random.octet();
+                self.call(Call::Octet { octet, bad: true });
+                self.hear_quietly();
+            }
+            5 => {
+                self.call(Call::Leave);
+                self.call(Call::Gap);
+                self.put_part(&[telegram::SD2]);
+                match self.random.chance(50) {
+                    true => self.call(Call::Gap),
+                    false => self.call(Call::Tick),
+                }
+            }
+            _ => {
+                self.call(Call::Gap);
+                let octet = self.random.pick(&[0xE5, 0x16, 0x00]);
+                self.put_part(&[octet]);
+                self.hear_quietly();
+            }
+        }
+    }
+
+    fn clear_on_a_busy_line(&mut self) {
+        let watchdog = self.short_watchdog();
+        self.reach_exchange_with(watchdog);
+        let telegram = self.random.chance(50);
+        let rest = match telegram {
+            true => self.begin_a_telegram(),
+            false => {
+                self.begin_a_reply();
+                Vec::new()
+            }
+        };
+        self.ask_for_a_clear();
+        for _ in 0..self.random.below(3) {
+            let call = self.useful_call();
+            self.call(call);
+        }
+        match telegram {
+            true => self.end_begun_telegram(&rest),
+            false => self.end_begun_reply(),
+        }
+        self.call(Call::Events);
+        self.call(Call::Take);
+        self.hear_reply();
+    }
+
+    /// The first octets of a telegram; answers the ones that are still to come.
+    fn begin_a_telegram(&mut self) -> Vec<u8> {
+        let draft = match self.random.below(5) {
+            0 => self.global_control(),
+            1 => self.good_set_prm(Some((9, 9))),
+            2 => Draft::status(self.address() ^ 1, 3),
+            3 => self.good_exchange(),
+            _ => self.sensible_draft(),
+        };
+        let octets = draft.octets();
+        let part = self.random.between(1, octets.len() - 1);
+        self.call(Call::Gap);
+        self.put_part(&octets[..part]);
+        octets[part..].to_vec()
+    }
+
+    fn begin_a_reply(&mut self) {
+        let draft = match self.random.below(4) {
+            0 => self.diagnosis_request(),
+            1 => self.without_data(draft::READ_OUTPUTS),
+            2 => self.without_data(draft::READ_INPUTS),
+            _ => self.good_exchange(),
+        };
+        self.put_quietly(&draft);
+        self.hear_a_part();
+        if self.random.chance(30) {
+            let diagnosis = self.some_diagnosis();
+            self.call(diagnosis);
+        }
+    }
+
+    fn ask_for_a_clear(&mut self) {
+        let ticks = self
+            .ledger()
+            .watchdog
+            .as_ref()
+            .map_or(0, |watchdog| watchdog.left);
+        if ticks > 0 && ticks < 10 && self.random.chance(50) {
+            for _ in 0..ticks {
+                self.call(Call::Tick);
+            }
+        } else {
+            self.call(Call::Leave);
+        }
+        if self.random.chance(15) {
+            self.call(Call::Leave);
+        }
+    }
+
+    fn end_begun_telegram(&mut self, rest: &[u8]) {
+        match self.random.below(6) {
+            0 | 1 => {
+                self.put_part(rest);
+                match self.random.chance(30) {
+                    true => self.call(Call::Tick),
+                    false => self.hear_reply(),
+                }
+            }
+            2 => {
+                self.call(Call::Tick);
+                self.status_without_a_gap();
+            }
+            3 => {
+                self.call(Call::Gap);
+                self.status_without_a_gap();
+            }
+            4 => {
+                let octet = rest[0];
+                self.call(Call::Octet { octet, bad: true });
+                self.status_without_a_gap();
+            }
+            _ => {
+                let octet = rest[0] ^ self.random.pick(&[0x80, 0x01, 0xFF]);
+                self.call(Call::Octet { octet, bad: false });
+                self.put_part(&rest[1..]);
+            }
+        }
+    }
+
+    fn end_begun_reply(&mut self) {
+        match self.random.below(6) {
+            0 => self.hear_quietly(),
+            1 => {
+                self.call(Call::Tick);
+                self.status_without_a_gap();
+            }
+            2 => {
+                self.call(Call::Gap);
+                self.call(Call::Tick);
+                let draft = self.sensible_draft();
+                self.put_part(&draft.octets());
+            }
+            3 | 4 => {
+                let draft = match self.random.chance(40) {
+                    true => self.good_set_prm(Some((2, 2))),
+                    false => self.sensible_draft(),
+                };
+                self.put_quietly(&draft);
+                self.hear_reply();
+            }
+            _ => {
+                self.call(Call::Gap);
+                self.put_part(&[telegram::SD1]);
+                match self.random.chance(50) {
+                    true => self.call(Call::Tick),
+                    false => self.call(Call::Gap),
+                }
+            }
+        }
+    }
+
+    fn look_at_set(&mut self, kind: u32) {
+        for _ in 0..self.random.below(3) {
+            let call = match self.random.chance(50) {
+                true => self.read_of_a_set(),
+                false => Call::Read {
+                    kind,
+                    index: self.some_index(kind),
+                },
+            };
+            self.call(call);
+        }
+    }
+
+    /// Several Set_Prm before a judgement; one that is spoiled must not touch those before it.
+    fn parameters_that_wait(&mut self) {
+        self.settle();
+        for _ in 0..self.random.between(2, 4) {
+            let watchdog = self.any_watchdog();
+            let draft = self.good_set_prm(watchdog);
+            match self.random.chance(25) {
+                true => self.put_spoiled(&draft.octets()),
+                false => self.put_quietly(&draft),
+            }
+            self.hear_quietly();
+            self.look_at_set(2);
+        }
+        while self.ledger().parameters.shown.is_some() && !self.is_full() {
+            self.look_at_set(2);
+            let judgement = self.judgement();
+            self.call(Call::JudgeParameters(judgement));
+        }
+    }
+
+    fn configurations_that_wait(&mut self) {
+        self.parametrise(None);
+        if self.random.chance(85) {
+            self.judge_parameters_good();
+        }
+        for _ in 0..self.random.between(2, 4) {
+            let draft = self.good_chk_cfg();
+            match self.random.chance(25) {
+                true => self.put_spoiled(&draft.octets()),
+                false => self.put_quietly(&draft),
+            }
+            self.hear_quietly();
+            self.look_at_set(3);
+        }
+        for _ in 0..4 {
+            self.look_at_set(3);
+            let judgement = self.random.pick(&[1, 1, 0]);
+            self.call(Call::JudgeConfiguration(judgement));
+        }
+    }
+
+    fn outputs_taken_under_their_reply(&mut self) {
+        let watchdog = self.any_watchdog();
+        self.reach_exchange_with(watchdog);
+        for _ in 0..2 {
+            let draft = self.good_exchange();
+            self.put_quietly(&draft);
+            self.hear_quietly();
+            if self.random.chance(60) {
+                self.call(Call::Take);
+            }
+        }
+        let draft = self.good_exchange();
+        self.put_quietly(&draft);
+        let master = self.any_master();
+        let request = Draft::to_point(self.address(), master, draft::READ_OUTPUTS, Vec::new());
+        self.put_quietly(&request);
+        self.hear_a_part();
+        self.call(Call::Take);
+        if self.random.chance(40) {
+            self.call(Call::Leave);
+        }
+        self.hear_quietly();
+        self.call(Call::Take);
+        self.call(Call::Read { kind: 1, index: 0 });
+    }
+
+    fn bad_judgement_on_a_busy_line(&mut self) {
+        let watchdog = self.any_watchdog();
+        self.parametrise(watchdog);
+        let configuration = self.random.chance(50);
+        if configuration {
+            self.judge_parameters_good();
+            let draft = self.good_chk_cfg();
+            self.put_quietly(&draft);
+            self.hear_quietly();
+        }
+        match self.random.chance(50) {
+            true => {
+                let request = self.diagnosis_request();
+                self.put_quietly(&request);
+                self.hear_a_part();
+            }
+            false => drop(self.begin_a_telegram()),
+        }
+        if self.random.chance(30) {
+            self.call(Call::Leave);
+        }
+        self.call(match configuration {
+            true => Call::JudgeConfiguration(0),
+            false => Call::JudgeParameters(0),
+        });
+        self.hear_quietly();
+        let request = self.diagnosis_request();
+        self.put_quietly(&request);
+        self.hear_reply();
+    }
+
+    /// A new diagnosis, seen by the owner and by others, and its flag in Data_Exchange.
+    fn diagnosis_seen_by_all(&mut self) {
+        if self.ledger().phase != Phase::DataExch {
+            let watchdog = self.any_watchdog();
+            self.reach_exchange_with(watchdog);
+        }
+        self.settle();
+        for _ in 0..self.random.between(1, 4) {
+            let write = self.some_write();
+            self.call(write);
+        }
+        let diagnosis = self.some_diagnosis();
+        self.call(diagnosis);
+        for _ in 0..self.random.between(2, 4) {
+            let draft = match self.random.chance(40) {
+                true => self.good_exchange(),
+                false => self.diagnosis_request(),
+            };
+            self.put_quietly(&draft);
+            self.hear_reply();
+        }
+    }
+
+    /// One master gives the station up, another takes it.
+    fn owner_changes(&mut self) {
+        self.reach_exchange_with(None);
+        if self.random.chance(50) {
+            self.call(Call::Leave);
+        } else {
+            let mut draft = self.good_set_prm(None);
+            draft.data[0] |= 0x40;
+            self.put_quietly(&draft);
+            self.hear_quietly();
+        }
+        let mut draft = self.good_set_prm(None);
+        draft.source = self.other_master();
+        self.put_quietly(&draft);
+        self.hear_quietly();
+    }
+
+    fn controls(&mut self) {
+        if self.ledger().phase != Phase::DataExch {
+            self.reach_exchange_with(None);
+        }
+        for _ in 0..self.random.between(2, 5) {
+            let draft = self.global_control();
+            self.put_quietly(&draft);
+            self.call(Call::Events);
+            if self.random.chance(40) {
+                self.call(Call::Take);
+            }
+            if self.random.chance(40) {
+                let mask = self.mask();
+                self.call(Call::Acknowledge(mask));
+            }
+        }
+    }
+}

@@ -1,0 +1,566 @@
+//! What need not be left to chance. From a handful of reached states every telegram of a small collection is tried with
+//! each octet changed to each value, with each other call at each place inside it and inside its reply, and the
+//! octets that decide what a telegram is are run through all their values with a check sum that is right.
+
+use crate::call::{Call, StartValues};
+use crate::compare::{Difference, Pair};
+use crate::draft::{self, Draft};
+use crate::random::Random;
+use crate::telegram::{self, Form};
+use std::sync::atomic::{AtomicU64, AtomicUsize, Ordering};
+use std::sync::Mutex;
+
+const STATION: u8 = 5;
+const IDENT: u16 = 0x80B3;
+const MASTER: u8 = 2;
+const OTHER_MASTER: u8 = 3;
+const GROUP: u8 = 0x0F;
+
+type Compared = Result<(), Box<Difference>>;
+type Test<'a> = dyn Fn(&mut Walker) -> Compared + Send + Sync + 'a;
+
+/// A reached state with a name for reports.
+struct Base {
+    name: &'static str,
+    pair: Pair,
+}
+
+/// One of the tests: its name and what it does from a state.
+struct Task<'a> {
+    name: String,
+    base: &'a Base,
+    run: Box<Test<'a>>,
+}
+
+/// Runs variants from a base, each on a copy of its own, and counts the calls.
+struct Walker<'a> {
+    base: &'a Pair,
+    calls: u64,
+}
+
+impl Walker<'_> {
+    /// The calls, and then enough others to see what state they led to.
+    fn variant(&mut self, calls: &[Call]) -> Compared {
+        let mut pair = self.base.branch();
+        self.run(&mut pair, calls)?;
+        self.hear(&mut pair)?;
+        self.run(&mut pair, &look_around())?;
+        self.hear(&mut pair)
+    }
+
+    fn run(&mut self, pair: &mut Pair, calls: &[Call]) -> Compared {
+        self.calls += calls.len() as u64;
+        pair.run(calls)
+    }
+
+    fn hear(&mut self, pair: &mut Pair) -> Compared {
+        loop {
+            self.calls += 1;
+            if pair.step(&Call::Send)? == 256 {
+                return Ok(());
+            }
+        }
+    }
+}
+
+/// Calls whose answers together tell the state: events, outputs, sets, inputs, and a Slave_Diag by another master.
+fn look_around() -> Vec<Call> {
+    let mut calls = vec![
+        Call::Events,
+        Call::Pending,
+        Call::Read { kind: 1, index: 0 },
+        Call::Read { kind: 2, index: 6 },
+        Call::Read { kind: 3, index: 0 },
+        Call::Read { kind: 4, index: 0 },
+        Call::Read { kind: 5, index: 6 },
+        Call::Take,
+        Call::Read { kind: 1, index: 0 },
+    ];
+    let diagnosis = Draft::to_point(STATION, OTHER_MASTER, draft::SLAVE_DIAG, vec![]);
+    calls.extend(telegram_calls(&diagnosis.octets()));
+    calls
+}
+
+fn octet(octet: u8) -> Call {
+    Call::Octet { octet, bad: false }
+}
+
+fn octet_calls(octets: &[u8]) -> Vec<Call> {
+    octets.iter().map(|value| octet(*value)).collect()
+}
+
+fn telegram_calls(octets: &[u8]) -> Vec<Call> {
+    [vec![Call::Gap], octet_calls(octets)].concat()
+}
+
+fn sends(count: usize) -> Vec<Call> {
+    vec![Call::Send; count]
+}
+
+fn start() -> Call {
+    Call::Start(StartValues {
+        memory: 1536,
+        address: STATION.into(),
+        ident: IDENT,
+        outputs: 2,
+        inputs: 3,
+        parameters: 9,
+        configuration: 4,
+        diagnosis: 9,
+        get_cfg: vec![0x21, 0x12],
+    })
+}
+
+fn request(point: u8, data: &[u8]) -> Vec<u8> {
+    Draft::to_point(STATION, MASTER, point, data.to_vec()).octets()
+}
+
+fn good_parameters(watchdog: Option<(u8, u8)>) -> Vec<u8> {
+    draft::good_parameters(IDENT, watchdog, GROUP)
+}
+
+fn exchange(data: &[u8]) -> Vec<u8> {
+    Draft::exchange(STATION, MASTER, data.to_vec()).octets()
+}
+
+/// The telegrams that are tried in every state.
+fn telegrams() -> Vec<(&'static str, Vec<u8>)> {
+    let unlock = [&[0xC0], &good_parameters(None)[1..]].concat();
+    let control = |station| Draft::global_control(station, MASTER, 0x02, 0x01).octets();
+    let sd3 = |control, data: &[u8]| telegram::sd3(STATION, MASTER, control, data);
+    vec![
+        ("status", Draft::status(STATION, MASTER).octets()),
+        (
+            "Set_Prm",
+            request(draft::SET_PRM, &good_parameters(Some((1, 3)))),
+        ),
+        (
+            "Set_Prm without a watchdog",
+            request(draft::SET_PRM, &good_parameters(None)),
+        ),
+        ("Set_Prm that unlocks", request(draft::SET_PRM, &unlock)),
+        ("Chk_Cfg", request(draft::CHK_CFG, &[0x21, 0x12])),
+        ("Data_Exchange", exchange(&[0x7A, 0x7B])),
+        ("Data_Exchange with one octet", exchange(&[0x7A])),
+        ("Data_Exchange by SD3", sd3(0x5D, &[1; 8])),
+        (
+            "Data_Exchange by SD1",
+            telegram::sd1(STATION, MASTER, draft::REQUEST),
+        ),
+        ("Slave_Diag", request(draft::SLAVE_DIAG, &[])),
+        ("Get_Cfg", request(draft::GET_CFG, &[])),
+        ("Read_Inputs", request(draft::READ_INPUTS, &[])),
+        ("Read_Outputs", request(draft::READ_OUTPUTS, &[])),
+        ("Global_Control", control(STATION)),
+        ("Global_Control to 127", control(127)),
+        ("SD4", telegram::sd4(STATION, MASTER)),
+    ]
+}
+
+/// Calls that are put in at every place.
+fn other_calls() -> Vec<Call> {
+    vec![
+        Call::Gap,
+        Call::Octet {
+            octet: 0x10,
+            bad: true,
+        },
+        Call::Send,
+        Call::Tick,
+        Call::Leave,
+        Call::Take,
+        Call::HandOver,
+        Call::NewDiagnosis { count: 8, flags: 3 },
+        Call::JudgeParameters(0),
+        Call::JudgeParameters(1),
+        Call::JudgeConfiguration(0),
+        Call::JudgeConfiguration(1),
+        Call::Acknowledge(0xFFFF),
+        Call::Write {
+            kind: 4,
+            index: 0,
+            octet: 0x99,
+        },
+        Call::Write {
+            kind: 5,
+            index: 6,
+            octet: 0x88,
+        },
+    ]
+}
+
+/// The states from which everything is tried, each reached by a list of its own.
+fn bases() -> Result<Vec<Base>, String> {
+    let mut bases = Vec::new();
+    for (name, calls) in ways() {
+        let mut pair = Pair::new(Random::new(bases.len() as u64));
+        pair.run(&calls)
+            .map_err(|difference| format!("DIFFERENCE on the way to '{name}', {difference}"))?;
+        bases.push(Base { name, pair });
+    }
+    Ok(bases)
+}
+
+fn ways() -> Vec<(&'static str, Vec<Call>)> {
+    let fresh = vec![start()];
+    let parametrised = |watchdog| {
+        let telegram = request(draft::SET_PRM, &good_parameters(watchdog));
+        [fresh.clone(), telegram_calls(&telegram), sends(1)].concat()
+    };
+    let waiting = [
+        parametrised(None),
+        telegram_calls(&request(draft::SET_PRM, &good_parameters(Some((2, 2))))),
+        sends(1),
+    ]
+    .concat();
+    let checked = |watchdog| {
+        let telegram = request(draft::CHK_CFG, &[0x33]);
+        let judged = vec![Call::JudgeParameters(1)];
+        [
+            parametrised(watchdog),
+            judged,
+            telegram_calls(&telegram),
+            sends(1),
+        ]
+        .concat()
+    };
+    let checked_twice = [
+        checked(Some((1, 2))),
+        telegram_calls(&request(draft::CHK_CFG, &[0x44, 0x55])),
+        sends(1),
+    ]
+    .concat();
+    let exchanging = |watchdog| [checked(watchdog), vec![Call::JudgeConfiguration(1)]].concat();
+    let busy = [
+        exchanging(Some((1, 2))),
+        telegram_calls(&exchange(&[0x11, 0x12])),
+        vec![Call::Take, Call::HandOver],
+        vec![Call::NewDiagnosis { count: 9, flags: 7 }],
+        telegram_calls(&exchange(&[0x13, 0x14])),
+    ]
+    .concat();
+    let delayed = [
+        exchanging(Some((3, 1))),
+        telegram_calls(&request(draft::SLAVE_DIAG, &[])),
+        sends(4),
+        vec![Call::NewDiagnosis { count: 7, flags: 1 }],
+    ]
+    .concat();
+    let noted = [delayed.clone(), vec![Call::Gap, Call::Leave]].concat();
+    let outputs_on_the_way = [
+        exchanging(None),
+        telegram_calls(&exchange(&[0x11, 0x12])),
+        vec![Call::Take],
+        telegram_calls(&exchange(&[0x13, 0x14])),
+        telegram_calls(&request(draft::READ_OUTPUTS, &[])),
+        sends(5),
+    ]
+    .concat();
+    vec![
+        ("fresh", fresh.clone()),
+        ("parameters shown", parametrised(Some((1, 2)))),
+        ("parameters waiting", waiting),
+        ("configuration shown", checked(Some((1, 2)))),
+        ("configuration waiting", checked_twice),
+        ("exchange", exchanging(Some((1, 2)))),
+        ("exchange with new inputs, outputs and diagnosis", busy),
+        ("diagnosis delayed", delayed),
+        ("diagnosis delayed and clear noted", noted),
+        ("Read_Outputs reply under way", outputs_on_the_way),
+    ]
+}
+
+/// Runs everything; answers the number of calls compared.
+pub fn run(threads: usize) -> Result<u64, String> {
+    let bases = bases()?;
+    let tasks = tasks(&bases);
+    let next = AtomicUsize::new(0);
+    let failures: Mutex<Vec<(usize, String)>> = Mutex::new(Vec::new());
+    let compared = AtomicU64::new(0);
+    let work = || loop {
+        let number = next.fetch_add(1, Ordering::SeqCst);
+        let Some(task) = tasks.get(number) else {
+            return;
+        };
+        match run_task(task) {
+            Ok(calls) => drop(compared.fetch_add(calls, Ordering::SeqCst)),
+            Err(report) => {
+                next.store(tasks.len(), Ordering::SeqCst);
+                failures.lock().unwrap().push((number, report));
+            }
+        }
+    };
+    std::thread::scope(|scope| {
+        for _ in 0..threads {
+            scope.spawn(work);
+        }
+    });
+    match failures.into_inner().unwrap().into_iter().min() {
+        Some((_, report)) => Err(report),
+        None => Ok(compared.into_inner()),
+    }
+}
+
+fn run_task(task: &Task) -> Result<u64, String> {
+    let mut walker = Walker {
+        base: &task.base.pair,
+        calls: 0,
+    };
+    (task.run)(&mut walker).map_err(|difference| {
+        format!(
+            "DIFFERENCE from the state '{}', test '{}', {difference}",
+            task.base.name, task.name
+        )
+    })?;
+    Ok(walker.calls)
+}
+
+fn tasks(bases: &[Base]) -> Vec<Task<'_>> {
+    let mut tasks = Vec::new();
+    for base in bases {
+        for (name, octets) in telegrams() {
+            let (twice, thrice, fourth) = (octets.clone(), octets.clone(), octets.clone());
+            push(&mut tasks, base, format!("{name}, one octet changed"), {
+                move |walker| change_each_octet(walker, &octets)
+            });
+            push(&mut tasks, base, format!("{name}, changed, good FCS"), {
+                move |walker| change_with_good_check_sum(walker, &twice)
+            });
+            push(&mut tasks, base, format!("{name}, calls inside"), {
+                move |walker| calls_inside(walker, &thrice)
+            });
+            push(&mut tasks, base, format!("{name}, calls in the reply"), {
+                move |walker| calls_in_the_reply(walker, &fourth)
+            });
+        }
+        push(&mut tasks, base, "every FC".into(), every_control);
+        push(&mut tasks, base, "every point".into(), every_point);
+        push(&mut tasks, base, "every count of data".into(), every_count);
+        push(
+            &mut tasks,
+            base,
+            "every octet 0 of Set_Prm".into(),
+            every_first_parameter,
+        );
+        push(
+            &mut tasks,
+            base,
+            "every Global_Control".into(),
+            every_global_control,
+        );
+    }
+    let fresh = &bases[0];
+    push(&mut tasks, fresh, "every pair of LE".into(), every_lengths);
+    push(
+        &mut tasks,
+        fresh,
+        "shortest and longest watchdogs".into(),
+        watchdogs,
+    );
+    push(
+        &mut tasks,
+        fresh,
+        "every pair of addresses".into(),
+        every_addresses,
+    );
+    tasks
+}
+
+fn push<'a>(
+    tasks: &mut Vec<Task<'a>>,
+    base: &'a Base,
+    name: String,
+    run: impl Fn(&mut Walker) -> Compared + Send + Sync + 'a,
+) {
+    tasks.push(Task {
+        name,
+        base,
+        run: Box::new(run),
+    });
+}
+
+fn change_each_octet(walker: &mut Walker, octets: &[u8]) -> Compared {
+    for at in 0..octets.len() {
+        for value in 0..=255 {
+            let mut changed = octets.to_vec();
+            changed[at] = value;
+            walker.variant(&telegram_calls(&changed))?;
+        }
+    }
+    Ok(())
+}
+
+fn change_with_good_check_sum(walker: &mut Walker, octets: &[u8]) -> Compared {
+    let body_at = if octets[0] == telegram::SD2 { 4 } else { 1 };
+    let fcs_at = octets.len() - 2;
+    for at in body_at..fcs_at {
+        for value in 0..=255 {
+            let mut changed = octets.to_vec();
+            changed[at] = value;
+            changed[fcs_at] = telegram::check_sum(&changed[body_at..fcs_at]);
+            walker.variant(&telegram_calls(&changed))?;
+        }
+    }
+    Ok(())
+}
+
+/// One or two other calls at each place inside the telegram.
+fn calls_inside(walker: &mut Walker, octets: &[u8]) -> Compared {
+    let calls = telegram_calls(octets);
+    for at in 0..=calls.len() {
+        put_in(walker, &calls, at)?;
+    }
+    Ok(())
+}
+
+fn calls_in_the_reply(walker: &mut Walker, octets: &[u8]) -> Compared {
+    let mut pair = walker.base.branch();
+    let calls = telegram_calls(octets);
+    pair.run(&calls)?;
+    let left = match &pair.station.ledger {
+        Some(ledger) => ledger.reply.left.len(),
+        None => 0,
+    };
+    let all = [calls.clone(), sends(left)].concat();
+    for at in calls.len()..=all.len() {
+        put_in(walker, &all, at)?;
+    }
+    Ok(())
+}
+
+fn put_in(walker: &mut Walker, calls: &[Call], at: usize) -> Compared {
+    let (before, behind) = calls.split_at(at);
+    for first in other_calls() {
+        walker.variant(&[before, std::slice::from_ref(&first), behind].concat())?;
+        for second in other_calls() {
+            walker.variant(&[before, &[first.clone(), second], behind].concat())?;
+        }
+    }
+    Ok(())
+}
+
+/// Every FC in every form, with an extension and without.
+fn every_control(walker: &mut Walker) -> Compared {
+    let drafts = [
+        Draft::status(STATION, MASTER),
+        Draft::exchange(STATION, MASTER, vec![1, 2]),
+        Draft::to_point(STATION, MASTER, draft::SLAVE_DIAG, vec![]),
+        Draft::global_control(STATION, MASTER, 0x02, 0),
+        Draft::global_control(127, MASTER, 0x02, 0),
+        Draft {
+            form: Form::Sd3,
+            ..Draft::exchange(STATION, OTHER_MASTER, vec![3])
+        },
+    ];
+    for draft in drafts {
+        for control in 0..=255 {
+            let draft = Draft {
+                control,
+                ..draft.clone()
+            };
+            walker.variant(&telegram_calls(&draft.octets()))?;
+        }
+    }
+    Ok(())
+}
+
+fn every_point(walker: &mut Walker) -> Compared {
+    for point in 0..=255 {
+        for other in [0, 61, 62, 63, 0xBE] {
+            for data in [vec![], vec![0x21], good_parameters(None)] {
+                let mut draft = Draft::to_point(STATION, MASTER, 0, data);
+                draft.points = Some((point, other));
+                walker.variant(&telegram_calls(&draft.octets()))?;
+            }
+        }
+    }
+    for other in 0..=255 {
+        for point in 56..=62 {
+            let mut draft = Draft::to_point(STATION, MASTER, 0, vec![]);
+            draft.points = Some((point, other));
+            walker.variant(&telegram_calls(&draft.octets()))?;
+        }
+    }
+    Ok(())
+}
+
+fn every_count(walker: &mut Walker) -> Compared {
+    let parameters = good_parameters(Some((4, 4)));
+    for count in 0..=244 {
+        for point in 56..=62 {
+            let mut data = parameters.clone();
+            data.resize(count, 0x3C);
+            walker.variant(&telegram_calls(&request(point, &data)))?;
+        }
+    }
+    for count in 1..=246 {
+        walker.variant(&telegram_calls(&exchange(&vec![0x5E; count])))?;
+    }
+    Ok(())
+}
+
+fn every_first_parameter(walker: &mut Walker) -> Compared {
+    let factors = [(0, 0), (0, 1), (1, 0), (1, 1), (1, 2), (2, 1), (255, 255)];
+    for first in 0..=255 {
+        for (one, two) in factors {
+            for spoil in [0, 1] {
+                let mut data = good_parameters(Some((one, two)));
+                data[0] = first;
+                data[5] ^= spoil;
+                walker.variant(&telegram_calls(&request(draft::SET_PRM, &data)))?;
+            }
+        }
+    }
+    Ok(())
+}
+
+fn every_global_control(walker: &mut Walker) -> Compared {
+    for control in 0..=255 {
+        for group in [0, 0x01, 0x10, 0xF0, 0xFF] {
+            let octets = Draft::global_control(127, MASTER, control, group).octets();
+            let twice = [telegram_calls(&octets), vec![Call::Events, Call::Take]].concat();
+            walker.variant(&[twice.clone(), twice].concat())?;
+        }
+    }
+    Ok(())
+}
+
+fn every_lengths(walker: &mut Walker) -> Compared {
+    for first in 0..=255 {
+        for second in 0..=255 {
+            let calls = telegram_calls(&[telegram::SD2, first, second, telegram::SD2]);
+            walker.variant(&calls)?;
+        }
+    }
+    Ok(())
+}
+
+fn every_addresses(walker: &mut Walker) -> Compared {
+    for destination in 0..=255 {
+        for source in 0..=255 {
+            let octets = telegram::sd1(destination, source, draft::STATUS);
+            walker.variant(&telegram_calls(&octets))?;
+        }
+    }
+    for source in 0..=255 {
+        for destination in [STATION | 0x80, 0xFF, 0x86] {
+            let data = [&[draft::SLAVE_DIAG, draft::MASTER_POINT][..], &[]].concat();
+            let octets = telegram::sd2(destination, source, draft::REQUEST, &data);
+            walker.variant(&telegram_calls(&octets))?;
+        }
+    }
+    Ok(())
+}
+
+/// The watchdog expires with its last tick and not before, from 1 x 2 to 255 x 255 ticks.
+fn watchdogs(walker: &mut Walker) -> Compared {
+    for (one, two) in [(1, 2), (2, 1), (1, 255), (16, 16), (255, 255)] {
+        let telegram = request(draft::SET_PRM, &good_parameters(Some((one, two))));
+        let ticks = vec![Call::Tick; usize::from(one) * usize::from(two) - 1];
+        let all_but_one = [telegram_calls(&telegram), sends(1), ticks].concat();
+        walker.variant(&all_but_one)?;
+        walker.variant(&[all_but_one.clone(), vec![Call::Events, Call::Tick]].concat())?;
+        walker.variant(&[all_but_one, vec![Call::Tick, Call::Tick]].concat())?;
+    }
+    Ok(())
+}
