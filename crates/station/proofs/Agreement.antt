@@ -36,17 +36,17 @@ use Rattle.station.proofs.Calling.{called-whole}
 use Rattle.station.proofs.Lengths.{step-length}
 
 -- the memory m holds the state s, which the ledger l is about
-record On (m : List ℕ) (s : State) (l : Ledger) : Type 0 where
-  holds : Holds m s
-  related : Related s m l
-  fit : Fit l
+pub record On (m : List ℕ) (s : State) (l : Ledger) : Type 0 where
+  pub holds : Holds m s
+  pub related : Related s m l
+  pub fit : Fit l
 
 -- what a call over the memory does
-record Does (m : List ℕ) (l : Ledger) (c : Call) : Type 0 where
-  memory-after : List ℕ
-  state-after : State
-  tells : called m c ≡ record { answer = ledger.step l c .answer; memory = memory-after }
-  again : On memory-after state-after (ledger.step l c .ledger)
+pub record Does (m : List ℕ) (l : Ledger) (c : Call) : Type 0 where
+  pub memory-after : List ℕ
+  pub state-after : State
+  pub tells : called m c ≡ record { answer = ledger.step l c .answer; memory = memory-after }
+  pub again : On memory-after state-after (ledger.step l c .ledger)
 
 fit-ranges : {l : Ledger} → Fit l → Ranges (l .setup)
 fit-ranges f = record {
@@ -82,7 +82,7 @@ module _ (m : List ℕ) (s : State) (l : Ledger) (o : On m s l) (c : Call) where
         fit = after-fit;
       }
 
-  does : Does m l c
+  pub does : Does m l c
   unfolding t
   does = record {
     memory-after = kept (t .state) (t .memory);
@@ -115,7 +115,7 @@ module _ (m : List ℕ) (s : Setup) (slice : List ℕ) (long : s .«get_cfg_len�
       }
 
   -- a freshly started station
-  begins-on : On (memoryOf m s slice) (initialState s) (fresh s slice)
+  pub begins-on : On (memoryOf m s slice) (initialState s) (fresh s slice)
   begins-on = record {
     holds = after-holds m s slice long zero;
     related = start-related m s slice long zero;

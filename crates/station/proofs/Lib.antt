@@ -31,7 +31,7 @@ mod Hears
 mod KeepsOctet
 pub mod OctetSend
 pub mod Packed
-mod Lengths
+pub mod Lengths
 pub mod Agreement
 pub mod Safety
 pub mod Reaching

@@ -1,0 +1,208 @@
+-- A step reads and writes only behind the state part: what it makes of two memories that agree there agrees.
+use Prim.Native.Nat.{ℕ, _+_, _-_, _≤_, _<_}
+use native.Mathlib.Omega.{arith}
+use mathlib.Core.Path.{_≡_, refl, sym, ap, subst, _∙_}
+use mathlib.Core.Bool.{Bool, true, false, cond}
+use mathlib.Core.List.{List, _++_}
+use lib.Dec.{eqb, ltb}
+use lib.ListN.{length, getD, take, drop, replicate, take-append-drop}
+use lib.Seq.{length-take-le, drop-at, getD-drop}
+use Rattle.buffers.specs.Triple.{fillOf, nextOf}
+use Rattle.octets.specs.Part.{pasted, storedIn}
+use Rattle.octets.proofs.Parts.{stored-append, pasted-append}
+use Rattle.telegram.specs.declared.Datum.{Datum}
+use Rattle.telegram.specs.declared.Datum.the-variants.{Number, Nothing}
+use Rattle.telegram.specs.declared.reader.Reader.{Reader}
+use Rattle.telegram.specs.declared.reader.Status.{Status}
+use Rattle.telegram.specs.declared.reader.Status.the-variants.{Fresh, Inside, Complete, Broken}
+use Rattle.telegram.specs.Reading.{start, off, received, status, datumOf}
+use Rattle.state.specs.declared.state.State.{State}
+use Rattle.state.specs.Layout.{stateLength, outputs, parameters, configuration, countOf, startOf, outputsAt, parametersAt}
+use Rattle.state.proofs.Places.{inside}
+use Rattle.rules.specs.declared.outcome.OutputsDeed.{OutputsDeed}
+use Rattle.rules.specs.declared.outcome.OutputsDeed.the-variants as outputs-deed
+use Rattle.rules.specs.declared.outcome.Outcome.{Outcome}
+use Rattle.rules.specs.declared.request.Request.{Request}
+use Rattle.rules.specs.declared.request.Prm.{Prm}
+use Rattle.rules.specs.Requests.{refilled, serviceOf}
+use Rattle.rules.specs.Services.{serve}
+use Rattle.rules.specs.Line.{settled, ticked}
+use Rattle.station.specs.Safe.{Safe}
+use Rattle.station.specs.Stepped.{Stepped}
+use Rattle.station.specs.Deeds.{begun, busy, isOpen, onMemory, carried, afterReply, settle}
+use Rattle.station.specs.Reading.{storedData, storedAs, readBy, requestBy, prmAt, prmIn, outcomeOf, answered, completed, beginning, isIgnored, heardAs, heard}
+use Rattle.station.specs.Bus.{paused, silencedReader, elapsed}
+use Rattle.station.proofs.Safety.{safe-after-reply, safe-read-by, safe-beginning, safe-completed}
+use Rattle.lent.specs.Run.{Beat, octet, gap, tick, beat}
+
+-- what lies behind the state part
+abbrev pub behind : List ℕ → List ℕ
+behind m = drop stateLength m
+
+-- two outcomes of a step agree but for what stands in front
+pub record Alike (r q : Stepped) : Type 0 where
+  pub states : r .state ≡ q .state
+  pub bodies : behind (r .memory) ≡ behind (q .memory)
+
+-- ---- stores and reads behind the state part
+
+-- a memory that has room for the buffers has room for the state
+pub safe-long : (s : State) (m : List ℕ) → Safe s m → stateLength ≤ length m
+safe-long s m h =
+    let u = inside (s .setup) outputs 0 0 (omega arith) (omega arith) in
+    let r = h .room in
+    omega arith
+
+-- a buffer begins behind it
+starts : (s : State) (kind k : ℕ) → k < countOf kind → stateLength ≤ startOf (s .setup) kind k
+starts s kind k h = inside (s .setup) kind k 0 h (omega arith) .0
+
+module _ (m : List ℕ) (long : stateLength ≤ length m) (a : ℕ) (far : stateLength ≤ a) where
+  place : a ≡ stateLength + (a - stateLength)
+  place = omega arith
+
+  parts : m ≡ take stateLength m ++ behind m
+  parts = sym (take-append-drop stateLength m)
+
+  front : length (take stateLength m) ≡ stateLength
+  front = length-take-le stateLength m long
+
+  behind-stored : (n i x : ℕ) → behind (storedIn m a n i x) ≡ storedIn (behind m) (a - stateLength) n i x
+  behind-stored n i x =
+      (λ j. behind (storedIn (parts j) (place j) n i x))
+      ∙ ap behind (stored-append (take stateLength m) (behind m) stateLength (a - stateLength) n i x front)
+      ∙ drop-at (take stateLength m) (storedIn (behind m) (a - stateLength) n i x) stateLength front
+
+  behind-pasted : (xs : List ℕ) → behind (pasted m a xs) ≡ pasted (behind m) (a - stateLength) xs
+  behind-pasted xs =
+      (λ j. behind (pasted (parts j) (place j) xs))
+      ∙ ap behind (pasted-append (take stateLength m) (behind m) stateLength (a - stateLength) xs front)
+      ∙ drop-at (take stateLength m) (pasted (behind m) (a - stateLength) xs) stateLength front
+
+behind-at : (m : List ℕ) (a : ℕ) → stateLength ≤ a → getD m a 0 ≡ getD (behind m) (a - stateLength) 0
+behind-at m a far =
+    let e : stateLength + (a - stateLength) ≡ a = omega arith in
+    ap (λ (k : ℕ). getD m k 0) (sym e) ∙ sym (getD-drop stateLength m (a - stateLength) 0)
+
+-- ---- the steps, on one state and two memories that agree behind it
+
+module _ (s : State) (m n : List ℕ) (h : Safe s m) (g : Safe s n) (e : behind m ≡ behind n) where
+  same-stored : (a : ℕ) → stateLength ≤ a → (k i x : ℕ) → behind (storedIn m a k i x) ≡ behind (storedIn n a k i x)
+  same-stored a far k i x =
+      behind-stored m (safe-long s m h) a far k i x
+      ∙ ap (λ (l : List ℕ). storedIn l (a - stateLength) k i x) e
+      ∙ sym (behind-stored n (safe-long s n g) a far k i x)
+
+  same-at : (a : ℕ) → stateLength ≤ a → getD m a 0 ≡ getD n a 0
+  same-at a far = behind-at m a far ∙ ap (λ (l : List ℕ). getD l (a - stateLength) 0) e ∙ sym (behind-at n a far)
+
+  on-memory : (d : OutputsDeed) → behind (onMemory d s m) ≡ behind (onMemory d s n)
+  on-memory outputs-deed.Keep = e
+  on-memory outputs-deed.Publish = e
+  on-memory outputs-deed.Zeros =
+      let a = outputsAt (s .setup) (nextOf (s .outputs .set .place)) in
+      let far = starts s outputs (nextOf (s .outputs .set .place)) (h .outputs .next-in) in
+      let xs = replicate {A = ℕ} (s .setup .«output_len») 0 in
+      behind-pasted m (safe-long s m h) a far xs
+      ∙ ap (λ (l : List ℕ). pasted l (a - stateLength) xs) e
+      ∙ sym (behind-pasted n (safe-long s n g) a far xs)
+
+  alike-carried : (o : Outcome) (count : ℕ) → Alike (carried s m o count) (carried s n o count)
+  unfolding carried
+  alike-carried o count = record { states = refl; bodies = on-memory (o .outputs) }
+
+  same-data : (k b : ℕ) → behind (storedData s m k b) ≡ behind (storedData s n k b)
+  same-data k b = go (ltb (s .incoming .reader .da) 128) (eqb (s .incoming .reader .dsap) 61) (eqb (s .incoming .reader .dsap) 62)
+    where
+      into : (kind p size : ℕ) → p < countOf kind
+          → behind (storedIn m (startOf (s .setup) kind p) size k b) ≡ behind (storedIn n (startOf (s .setup) kind p) size k b)
+      into kind p size z = same-stored (startOf (s .setup) kind p) (starts s kind p z) size k b
+
+      go : (x y z : Bool)
+          → behind
+          (cond x (storedIn m (startOf (s .setup) outputs (fillOf (s .outputs .set .place))) (s .setup .«output_len») k b)
+          (cond y (storedIn m (startOf (s .setup) parameters (fillOf (s .parameters .set .place))) (s .setup .«parameter_len») k b)
+          (cond z (storedIn m (startOf (s .setup) configuration (fillOf (s .configuration .set .place))) (s .setup .«configuration_len») k b) m)))
+          ≡ behind
+          (cond x (storedIn n (startOf (s .setup) outputs (fillOf (s .outputs .set .place))) (s .setup .«output_len») k b)
+          (cond y (storedIn n (startOf (s .setup) parameters (fillOf (s .parameters .set .place))) (s .setup .«parameter_len») k b)
+          (cond z (storedIn n (startOf (s .setup) configuration (fillOf (s .configuration .set .place))) (s .setup .«configuration_len») k b) n)))
+      go true y z = into outputs (fillOf (s .outputs .set .place)) (s .setup .«output_len») (h .outputs .fill-in)
+      go false true z = into parameters (fillOf (s .parameters .set .place)) (s .setup .«parameter_len») (h .parameters .fill-in)
+      go false false true = into configuration (fillOf (s .configuration .set .place)) (s .setup .«configuration_len») (h .configuration .fill-in)
+      go false false false = e
+
+  alike-stored : (d : Datum) (r : Reader) (b : ℕ) → Alike (storedAs d s m r b) (storedAs d s n r b)
+  alike-stored Nothing r b = record { states = refl; bodies = e }
+  alike-stored (Number k) r b = record { states = refl; bodies = same-data k b }
+
+  same-prm-at : (a : ℕ) → stateLength ≤ a → prmAt m a ≡ prmAt n a
+  same-prm-at a far = λ j. record {
+    status = same-at a far j;
+    factor1 = same-at (a + 1) (omega arith) j;
+    factor2 = same-at (a + 2) (omega arith) j;
+    «ident_high» = same-at (a + 4) (omega arith) j;
+    «ident_low» = same-at (a + 5) (omega arith) j;
+    group = same-at (a + 6) (omega arith) j;
+  }
+
+  same-prm : prmIn s m ≡ prmIn s n
+  same-prm =
+      same-prm-at (parametersAt (s .setup) (fillOf (s .parameters .set .place)))
+      (starts s parameters (fillOf (s .parameters .set .place)) (h .parameters .fill-in))
+
+  same-outcome : (r : Request) → outcomeOf s m r ≡ outcomeOf s n r
+  unfolding outcomeOf
+  same-outcome r =
+      ap (λ (p : Prm). serve (serviceOf (s .setup) r) (s .setup) (refilled (s .setup) (s .control) r) (isOpen (s .parameters)) (isOpen (s .configuration)) r p (s .incoming .first) (s .incoming .second)) same-prm
+
+  alike-answered : (o : Outcome) (r : Request) → Alike (answered s m o r) (answered s n o r)
+  unfolding answered carried
+  alike-answered o r = record { states = refl; bodies = on-memory (o .outputs) }
+
+alike-settle : (s : State) (m n : List ℕ) → Safe s m → Safe s n → behind m ≡ behind n → Alike (settle s m) (settle s n)
+unfolding settle
+alike-settle s m n h g e =
+    alike-carried (afterReply s) m n (safe-after-reply s m h) (safe-after-reply s n g) e (settled (busy s) (afterReply s .control)) 0
+
+-- the line is settled after two steps that agree
+alike-settled : (r q : Stepped) → Safe (r .state) (r .memory) → Safe (q .state) (q .memory) → Alike r q
+    → Alike (settle (r .state) (r .memory)) (settle (q .state) (q .memory))
+alike-settled r q h g a =
+    subst (λ (x : State). Alike (settle (r .state) (r .memory)) (settle x (q .memory))) (a .states)
+    (alike-settle (r .state) (r .memory) (q .memory) h (subst (λ (x : State). Safe x (q .memory)) (sym (a .states)) g) (a .bodies))
+
+-- one of two
+chosen : (t : Bool) {x y z w : Stepped} → Alike x z → Alike y w → Alike (cond t x y) (cond t z w)
+chosen true a b = a
+chosen false a b = b
+
+module _ (s : State) (m n : List ℕ) (h : Safe s m) (g : Safe s n) (e : behind m ≡ behind n) where
+  alike-completed : (r : Reader) → Alike (completed s m r) (completed s n r)
+  alike-completed r =
+      let x = readBy s r in
+      let hx = safe-read-by s m r h in
+      let gx = safe-read-by s n r g in
+      subst (λ (o : Outcome). Alike (completed s m r) (answered x n o (requestBy r))) (same-outcome x m n hx gx e (requestBy r))
+      (alike-answered x m n hx gx e (outcomeOf x m (requestBy r)) (requestBy r))
+
+  alike-heard-as : (x : Status) (r : Reader) (b : ℕ) → Alike (heardAs x s m r b) (heardAs x s n r b)
+  alike-heard-as Fresh r b = record { states = refl; bodies = e }
+  alike-heard-as Inside r b =
+      chosen (begun s) (alike-stored s m n h g e (datumOf (s .incoming .reader)) r b)
+      (alike-settle (beginning s r) m n (safe-beginning s m r h) (safe-beginning s n r g) e)
+  alike-heard-as Complete r b =
+      alike-settled (completed s m r) (completed s n r) (safe-completed s m r h) (safe-completed s n r g) (alike-completed r)
+  alike-heard-as Broken r b = alike-settle (readBy s off) m n (safe-read-by s m off h) (safe-read-by s n off g) e
+
+  -- an octet, a gap, a Tick
+  pub alike-beat : (x : Beat) → Alike (beat s m x) (beat s n x)
+  unfolding heard paused elapsed
+  alike-beat (octet b bad) =
+      chosen (isIgnored (status (s .incoming .reader))) (record { states = refl; bodies = e })
+      (alike-heard-as (status (received (s .incoming .reader) b bad)) (received (s .incoming .reader) b bad) b)
+  alike-beat gap = alike-settle (readBy s start) m n (safe-read-by s m start h) (safe-read-by s n start g) e
+  alike-beat tick =
+      let r : Reader = silencedReader (begun s) (s .incoming .reader) in
+      chosen (s .control .noted) (alike-settle (beginning s r) m n (safe-beginning s m r h) (safe-beginning s n r g) e)
+      (alike-carried s m n h g e (ticked (busy s) (s .control)) 0)

@@ -1,0 +1,10 @@
+pub mod Value
+pub mod Again
+pub mod Local
+pub mod OnLocal
+pub mod Behind
+pub mod Keeps
+pub mod Same
+pub mod Loops
+pub mod Partly
+pub mod Turns

@@ -1,0 +1,165 @@
+-- The unpacked run and the exported calls over the same octets, gaps and Ticks leave the same memory.
+use Prim.Native.Nat.{ℕ}
+use native.Mathlib.Omega.{arith}
+use mathlib.Core.Path.{_≡_, refl, sym, ap, subst, _∙_}
+use mathlib.Core.List.{List, [], _∷_, _++_}
+use lib.ListN.{length, drop, replicate}
+use lib.Seq.{drop-at}
+use Rattle.state.specs.declared.answer.Answer.{Answer}
+use Rattle.state.specs.declared.answer.Answer.the-variants.{Value}
+use Rattle.state.specs.declared.setup.Setup.{Setup}
+use Rattle.state.specs.declared.state.State.{State}
+use Rattle.state.specs.Answer.{Called}
+use Rattle.state.specs.Image.{image}
+use Rattle.state.specs.Layout.{stateLength}
+use Rattle.state.specs.Memory.{kept, Holds}
+use Rattle.state.specs.Start.{initialState, started}
+use Rattle.state.specs.Unpack.{unpacked}
+use Rattle.state.proofs.Damage.{holds-unpacked, kept-holds}
+use Rattle.state.proofs.Front.{kept-drop}
+use Rattle.ledger.specs.Ledger.{Ledger, fresh}
+use Rattle.ledger.specs.Calls as call
+use Rattle.ledger.specs.Calls.{Call, after}
+use Rattle.ledger.proofs.Runs as ledger-runs
+use Rattle.station.specs.Safe.{Safe}
+use Rattle.station.specs.Calls.{step, called, answers}
+use Rattle.station.specs.Agreement.{memoryOf}
+use Rattle.station.proofs.Safety.{safe-heard, safe-paused, safe-elapsed}
+use Rattle.station.proofs.Lengths.{step-length}
+use Rattle.station.proofs.Calling.{holds-safe, fronted, called-whole}
+use Rattle.station.proofs.Agreement.{On, does, begins-on, agreement}
+use Rattle.lent.specs.Run.{Beat, octet, gap, tick, beat, run, callOf, calls, left, Same, CarriesOver}
+use Rattle.lent.proofs.Behind.{behind, alike-beat}
+use Rattle.lent.proofs.Keeps.{sound-beat}
+
+-- ---- one octet, gap or Tick
+
+pub safe-beat : (s : State) (m : List ℕ) → Safe s m → (x : Beat) → Safe (beat s m x .state) (beat s m x .memory)
+safe-beat s m h (octet b bad) = safe-heard s m b bad h
+safe-beat s m h gap = safe-paused s m h
+safe-beat s m h tick = safe-elapsed s m h
+
+-- what is needed of a run's state and memory holds after it
+pub safe-run : (bs : List Beat) (s : State) (m : List ℕ) → Safe s m → Safe (run s m bs .state) (run s m bs .memory)
+safe-run [] s m h = h
+safe-run (b ∷ bs) s m h = safe-run bs (beat s m b .state) (beat s m b .memory) (safe-beat s m h b)
+
+pub beat-length : (s : State) (m : List ℕ) → Safe s m → (x : Beat) → length (beat s m x .memory) ≡ length m
+beat-length s m h (octet b bad) = step-length s m h (call.octet b bad)
+beat-length s m h gap = step-length s m h call.gap
+beat-length s m h tick = step-length s m h call.tick
+
+-- a call over a memory that holds s
+calls-beat : (p : List ℕ) (s : State) → Holds p s → (x : Beat)
+    → called p (callOf x) ≡ record { answer = Value 0; memory = kept (beat s p x .state) (beat s p x .memory) }
+calls-beat p s h (octet b bad) = called-whole p s (call.octet b bad) h
+calls-beat p s h gap = called-whole p s call.gap h
+calls-beat p s h tick = called-whole p s call.tick h
+
+-- and the memory that it leaves holds the state after it
+holds-beat : (p : List ℕ) (s : State) → Holds p s → (x : Beat) → Holds (kept (beat s p x .state) (beat s p x .memory)) (beat s p x .state)
+holds-beat p s h x =
+    let safe = holds-safe p s h in
+    let e = beat-length s p safe x in
+    kept-holds (beat s p x .state) (beat s p x .memory) (rw e (h .length-in)) (rw e (h .length-by-8)) (sound-beat s p safe (h .sound) x)
+    (safe-beat s p safe x .room)
+
+-- ---- all of them
+
+-- p holds the state that the run is at, and agrees behind it with the run's memory
+record Beside (p : List ℕ) (s : State) (m : List ℕ) : Type 0 where
+  holds : Holds p s
+  safe : Safe s m
+  bodies : behind p ≡ behind m
+
+beside-beat : (p : List ℕ) (s : State) (m : List ℕ) → Beside p s m → (x : Beat)
+    → Beside (kept (beat s p x .state) (beat s p x .memory)) (beat s m x .state) (beat s m x .memory)
+beside-beat p s m b x =
+    let a = alike-beat s p m (holds-safe p s (b .holds)) (b .safe) (b .bodies) x in
+    record {
+      holds = subst (Holds (kept (beat s p x .state) (beat s p x .memory))) (a .states) (holds-beat p s (b .holds) x);
+      safe = safe-beat s m (b .safe) x;
+      bodies = kept-drop (beat s p x .state) (beat s p x .memory) stateLength (omega arith) ∙ a .bodies;
+    }
+
+-- the run packed where it is
+packs : (p : List ℕ) (s : State) (m : List ℕ) → Beside p s m → kept s m ≡ p
+packs p s m b = ap (λ (l : List ℕ). image s ++ l) (sym (b .bodies)) ∙ sym (fronted p p s (b .holds) refl)
+
+record Ends (p : List ℕ) (s : State) (m : List ℕ) (bs : List Beat) : Type 0 where
+  image-is : kept (run s m bs .state) (run s m bs .memory) ≡ left p (calls bs)
+  answers-are : answers p (calls bs) ≡ replicate (length bs) (Value 0)
+  holds-still : Holds (kept (run s m bs .state) (run s m bs .memory)) (run s m bs .state)
+
+ends : (bs : List Beat) (p : List ℕ) (s : State) (m : List ℕ) → Beside p s m → Ends p s m bs
+ends [] p s m b = record {
+  image-is = packs p s m b;
+  answers-are = refl;
+  holds-still = subst (λ (l : List ℕ). Holds l s) (sym (packs p s m b)) (b .holds);
+}
+ends (x ∷ bs) p s m b =
+    let e = calls-beat p s (b .holds) x in
+    let r = ends bs (kept (beat s p x .state) (beat s p x .memory)) (beat s m x .state) (beat s m x .memory) (beside-beat p s m b x) in
+    record {
+      image-is = r .image-is ∙ ap (λ (c : Called). left (c .memory) (calls bs)) (sym e);
+      answers-are =
+          ap (λ (c : Called). c .answer ∷ answers (c .memory) (calls bs)) e
+          ∙ ap (λ (more : List Answer). Value 0 ∷ more) (r .answers-are);
+      holds-still = r .holds-still;
+    }
+
+-- for every memory that holds a state
+pub lent-same : (m : List ℕ) (s : State) → Holds m s → (bs : List Beat) → Same m bs
+lent-same m s h bs =
+    let g : Holds m (unpacked m) = subst (Holds m) (sym (holds-unpacked m s h)) h in
+    let r = ends bs m (unpacked m) m (record { holds = g; safe = holds-safe m (unpacked m) g; bodies = refl }) in
+    record { image-is = r .image-is; answers-are = r .answers-are; holds-still = r .holds-still }
+
+-- and with that state named
+pub lent-image : (m : List ℕ) (s : State) → Holds m s → (bs : List Beat) → kept (run s m bs .state) (run s m bs .memory) ≡ left m (calls bs)
+lent-image m s h bs = ends bs m s m (record { holds = h; safe = holds-safe m s h; bodies = refl }) .image-is
+
+-- ---- from a freshly started station
+
+-- after any calls the memory holds a state that the ledger is about
+reach : (cs : List Call) (m : List ℕ) (s : State) (l : Ledger) → On m s l → (x : State) × On (left m cs) x (after l cs)
+reach [] m s l o = (s, o)
+reach (c ∷ cs) m s l o =
+    let d = does m s l o c in
+    subst (λ (p : List ℕ). (x : State) × On (left p cs) x (after (call.step l c .ledger) cs)) (sym (ap (λ (r : Called). r .memory) (d .tells)))
+    (reach cs (d .memory-after) (d .state-after) (call.step l c .ledger) (d .again))
+
+-- what a list of calls leaves and answers, by its parts
+left-append : (xs ys : List Call) (m : List ℕ) → left m (xs ++ ys) ≡ left (left m xs) ys
+left-append [] ys m = refl
+left-append (c ∷ xs) ys m = left-append xs ys (called m c .memory)
+
+answers-append : (xs ys : List Call) (m : List ℕ) → answers m (xs ++ ys) ≡ answers m xs ++ answers (left m xs) ys
+answers-append [] ys m = refl
+answers-append (c ∷ xs) ys m = ap (λ (more : List Answer). called m c .answer ∷ more) (answers-append xs ys (called m c .memory))
+
+-- lists with the same beginning have the same end
+same-end : (p q p′ q′ : List Answer) → p ++ q ≡ p′ ++ q′ → p ≡ p′ → q ≡ q′
+same-end p q p′ q′ e f =
+    sym (drop-at p q (length p) refl) ∙ ap (drop (length p)) e ∙ drop-at p′ q′ (length p) (ap length (sym f))
+
+module _ (m : List ℕ) (s : Setup) (slice : List ℕ) (long : s .«get_cfg_len» ≡ length slice) (zero : started m s slice .answer ≡ Value 0) where
+  -- the calls after some others answer as the ledger does after them
+  later : (xs ys : List Call) → answers (left (memoryOf m s slice) xs) ys ≡ call.answers (after (fresh s slice) xs) ys
+  later xs ys =
+      let agree = agreement m s slice long zero .agree in
+      same-end (answers (memoryOf m s slice) xs) _ (call.answers (fresh s slice) xs) _
+      (sym (answers-append xs ys (memoryOf m s slice)) ∙ agree (xs ++ ys) ∙ ledger-runs.answers-append (fresh s slice) xs ys) (agree xs)
+
+  same : (pre : List Call) (bs : List Beat) → Same (left (memoryOf m s slice) pre) bs
+  same pre bs =
+      let r = reach pre (memoryOf m s slice) (initialState s) (fresh s slice) (begins-on m s slice long zero) in
+      lent-same (left (memoryOf m s slice) pre) (r .0) (r .1 .holds) bs
+
+  pub carries-over : CarriesOver m s slice
+  carries-over = record {
+    same = same;
+    agree = λ pre bs cs.
+        ap (λ (p : List ℕ). answers p cs) (same pre bs .image-is ∙ sym (left-append pre (calls bs) (memoryOf m s slice)))
+        ∙ later (pre ++ calls bs) cs;
+  }

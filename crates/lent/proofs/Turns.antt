@@ -1,0 +1,56 @@
+-- Steps in a row are one run, and a run on the state that a memory holds, packed again, is what the exported calls leave.
+use Prim.Native.Nat.{ℕ}
+use mathlib.Core.Path.{_≡_, refl, sym, ap, _∙_}
+use mathlib.Core.Bool.{true, false, cond, not}
+use mathlib.Core.List.{List, [], _∷_, _++_}
+use borrow.Author.Tests.{not-true, not-false}
+use Rattle.state.specs.declared.memory.Loaded.{Loaded}
+use Rattle.state.specs.declared.answer.Refusal.the-variants.{Damaged}
+use Rattle.state.specs.declared.state.State.{State}
+use Rattle.state.specs.Answer.{refused}
+use Rattle.state.specs.Memory.{kept, wellMemory, Holds, Loads}
+use Rattle.state.specs.Unpack.{unpacked}
+use Rattle.ledger.specs.Calls.{Call}
+use Rattle.station.specs.Safe.{Safe}
+use Rattle.station.specs.Stepped.{Stepped, Steps}
+use Rattle.station.specs.Bus.{paused}
+use Rattle.station.specs.Calls.{step, packed, called}
+use Rattle.station.proofs.Safety.{safe-steps}
+use Rattle.lent.specs.Run.{Beat, gap, run, calls, left}
+use Rattle.lent.proofs.Partly.{run-append}
+use Rattle.lent.proofs.Same.{safe-run, lent-image}
+
+-- what is needed of a state and a memory holds after a run
+pub safe-after : (s : State) (m : List ℕ) (bs : List Beat) (t : State) (zs : List ℕ) → Safe s m → Steps (run s m bs) t zs → Safe t zs
+safe-after s m bs t zs h e = safe-steps (run s m bs) t zs e (safe-run bs s m h)
+
+-- one run after another
+pub in-turn : (s : State) (m : List ℕ) (xs ys : List Beat) (t : State) (zs : List ℕ) (r : State) (ws : List ℕ)
+    → Steps (run s m xs) t zs → Steps (run t zs ys) r ws → Steps (run s m (xs ++ ys)) r ws
+in-turn s m xs ys t zs r ws e f =
+    let p : run t zs ys ≡ run s m (xs ++ ys) = (λ i. run (e .states i) (e .leaves i) ys) ∙ sym (run-append xs ys s m) in
+    record { states = f .states ∙ ap (λ (q : Stepped). q .state) p; leaves = f .leaves ∙ ap (λ (q : Stepped). q .memory) p }
+
+-- packed where it ends
+pub packed-again : (m : List ℕ) (s : State) (bs : List Beat) (t : State) (zs out : List ℕ) → Holds m s → Steps (run s m bs) t zs → out ≡ kept t zs
+    → out ≡ left m (calls bs)
+packed-again m s bs t zs out h e k = k ∙ (λ i. kept (e .states i) (e .leaves i)) ∙ lent-image m s h bs
+
+-- a memory that holds no state is left as it is
+left-damaged : (cs : List Call) (m : List ℕ) → wellMemory m ≡ false → m ≡ left m cs
+unfolding called
+left-damaged [] m e = refl
+left-damaged (c ∷ cs) m e =
+    left-damaged cs m e ∙ (λ i. left (cond (sym e i) (packed m (step (unpacked m) m c)) (refused m Damaged) .memory) cs)
+
+pub none-found : (m : List ℕ) (l : Loaded) (cs : List Call) → Loads m l → not (l .ok) ≡ true → (false ≡ wellMemory m) × (m ≡ left m cs)
+none-found m l cs loads e =
+    let f : false ≡ wellMemory m = sym (not-true (l .ok) e) ∙ loads .tells in
+    (f, left-damaged cs m (sym f))
+
+pub one-found : (m : List ℕ) (l : Loaded) → Loads m l → not (l .ok) ≡ false → true ≡ wellMemory m
+one-found m l loads e = sym (not-false (l .ok) e) ∙ loads .tells
+
+-- a gap, as a run of its own
+pub gap-run : (s : State) (m : List ℕ) (t : State) (zs : List ℕ) → Steps (paused s m) t zs → Steps (run s m (gap ∷ [])) t zs
+gap-run s m t zs e = record { states = e .states; leaves = e .leaves }

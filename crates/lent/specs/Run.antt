@@ -1,0 +1,81 @@
+-- Octets, gaps and Ticks: run on the unpacked state, and by the exported calls on the packed memory.
+use Prim.Native.Nat.{ℕ, zero, suc}
+use mathlib.Core.Path.{_≡_}
+use mathlib.Core.Bool.{Bool, false}
+use mathlib.Core.List.{List, [], _∷_, _++_, map}
+use lib.ListN.{length, replicate}
+use Rattle.state.specs.declared.answer.Answer.the-variants.{Value}
+use Rattle.state.specs.declared.setup.Setup.{Setup}
+use Rattle.state.specs.declared.state.State.{State}
+use Rattle.state.specs.Memory.{kept, Holds}
+use Rattle.state.specs.Unpack.{unpacked}
+use Rattle.ledger.specs.Ledger.{fresh}
+use Rattle.ledger.specs.Calls as call
+use Rattle.ledger.specs.Calls.{Call, after}
+use Rattle.station.specs.Stepped.{Stepped, unchanged}
+use Rattle.station.specs.Reading.{heard}
+use Rattle.station.specs.Bus.{paused, elapsed}
+use Rattle.station.specs.Calls.{called, answers}
+use Rattle.station.specs.Agreement.{memoryOf}
+
+-- what the bus does
+pub data Beat : Type 0 where
+  octet : ℕ → Bool → Beat
+  gap : Beat
+  tick : Beat
+
+-- on the unpacked state and the memory
+abbrev pub beat : State → List ℕ → Beat → Stepped
+beat s m (octet b bad) = heard s m b bad
+beat s m gap = paused s m
+beat s m tick = elapsed s m
+
+-- one after the other, nothing packed in between
+abbrev pub run : State → List ℕ → List Beat → Stepped
+run s m [] = unchanged s m
+run s m (b ∷ bs) = run (beat s m b .state) (beat s m b .memory) bs
+
+-- octets that were well received
+abbrev pub received : List ℕ → List Beat
+received [] = []
+received (b ∷ bs) = octet b false ∷ received bs
+
+-- n Ticks
+abbrev pub ticks : ℕ → List Beat
+ticks zero = []
+ticks (suc n) = tick ∷ ticks n
+
+-- a telegram after a gap, then n Ticks
+abbrev pub turn : List ℕ → ℕ → List Beat
+turn telegram n = gap ∷ received telegram ++ ticks n
+
+-- the exported call for it
+abbrev pub callOf : Beat → Call
+callOf (octet b bad) = call.octet b bad
+callOf gap = call.gap
+callOf tick = call.tick
+
+abbrev pub calls : List Beat → List Call
+calls = map callOf
+
+-- the memory that a list of exported calls leaves
+abbrev pub left : List ℕ → List Call → List ℕ
+left m [] = m
+left m (c ∷ cs) = left (called m c .memory) cs
+
+-- the unpacked run from the state in the memory m, packed at its end
+abbrev pub packedRun : List ℕ → List Beat → List ℕ
+packedRun m bs = kept (run (unpacked m) m bs .state) (run (unpacked m) m bs .memory)
+
+-- it leaves the memory that the exported calls leave, and each of these answers 0
+pub record Same (m : List ℕ) (bs : List Beat) : Type 0 where
+  pub image-is : packedRun m bs ≡ left m (calls bs)
+  pub answers-are : answers m (calls bs) ≡ replicate (length bs) (Value 0)
+  pub holds-still : Holds (packedRun m bs) (run (unpacked m) m bs .state)
+
+-- demand 3 carries over: after Start and any calls the state is unpacked, lent for any octets, gaps and Ticks and packed
+-- again, and every call from then on answers as the ledger does
+pub record CarriesOver (m : List ℕ) (s : Setup) (slice : List ℕ) : Type 0 where
+  pub same : (pre : List Call) (bs : List Beat) → Same (left (memoryOf m s slice) pre) bs
+  pub agree : (pre : List Call) (bs : List Beat) (cs : List Call)
+      → answers (packedRun (left (memoryOf m s slice) pre) bs) cs ≡ call.answers (after (fresh s slice) (pre ++ calls bs)) cs

@@ -1,0 +1,66 @@
+// The bench loop: it holds the unpacked state in a local and lends it for every octet and Tick; the state is unpacked once,
+// and packed again at the end.
+use crate::octet;
+use crate::tick;
+use state::image::save;
+use state::memory::load;
+use state::state::State;
+use station::bus::pause;
+ghost use mathlib.Core.Path.{_≡_};
+ghost use mathlib.Core.List.{_++_};
+ghost use Rattle.state.specs.Memory.{wellMemory};
+ghost use Rattle.station.specs.Safe.{Safe};
+ghost use Rattle.station.specs.Stepped.{Steps};
+ghost use Rattle.lent.specs.Run.{run, received, ticks, turn, calls, left};
+
+// Octets.
+pub fn listen(state: State, memory: &mut [u8], octets: &[u8]) -> State
+    requires { ⌜ Safe state (now memory) ⌝ }
+    ensures { λ r. ⌜ Steps (run state (now (memory .entry)) (received (now (octets .entry)))) r (now (memory .exit)) ⌝ }
+{
+    let mut held = state;
+    let mut i: usize = 0;
+    while i < octets.len() {
+        octet(&mut held, memory, octets[i], false);
+        i = i + 1;
+    }
+    held
+}
+
+// Ticks.
+pub fn wait(state: State, memory: &mut [u8], count: usize) -> State
+    requires { ⌜ Safe state (now memory) ⌝ }
+    ensures { λ r. ⌜ Steps (run state (now (memory .entry)) (ticks count)) r (now (memory .exit)) ⌝ }
+{
+    let mut held = state;
+    let mut i: usize = 0;
+    while i < count {
+        tick(&mut held, memory);
+        i = i + 1;
+    }
+    held
+}
+
+// A telegram after a gap, then Ticks.
+pub fn take_turn(state: State, memory: &mut [u8], telegram: &[u8], count: usize) -> State
+    requires { ⌜ Safe state (now memory) ⌝ }
+    ensures { λ r. ⌜ Steps (run state (now (memory .entry)) (turn (now (telegram .entry)) count)) r (now (memory .exit)) ⌝ }
+{
+    let paused = pause(state, memory);
+    let listened = listen(paused, memory, telegram);
+    wait(listened, memory, count)
+}
+
+// Two telegrams on the unpacked state: the memory is left as the exported calls leave it. Whether it held a state.
+pub fn exchange(memory: &mut [u8], first: &[u8], second: &[u8], count: usize) -> bool
+    ensures { λ r. ⌜ (r ≡ wellMemory (now (memory .entry))) × (now (memory .exit) ≡ left (now (memory .entry)) (calls (turn (now (first .entry)) count ++ turn (now (second .entry)) count))) ⌝ }
+{
+    let loaded = load(&memory[..]);
+    if !loaded.ok {
+        return false;
+    }
+    let held = take_turn(loaded.state, memory, first, count);
+    let done = take_turn(held, memory, second, count);
+    save(done, memory);
+    true
+}
