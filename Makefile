@@ -1,11 +1,13 @@
 # The C side: the example firmware and the benchmark. All that is made lies below target/.
 #   make run      the library if need be, the example, and its run
 #   make check    the example's output against examples/card.expected, the header in C99 and in C++17
-#   make bench    instructions for each call (needs valgrind) and octets per second
-#   make clean    removes what this file made; the library stays
-# LIB=path takes another library than the repository's.
+#   make bench    instructions for each call and on the lent state (needs valgrind), and octets per second
+#   make clean    removes what this file made; the libraries stay
+# LIB=path takes another library than the repository's. LENT=path takes another one for the bench loop on the lent state;
+# with LENT= its column stays empty.
 
 LIB ?= target/staticlib/libcard.a
+LENT ?= target/staticlib/liblent.a
 OUT := target/c
 
 CC := gcc
@@ -19,22 +21,29 @@ CPPFLAGS := -Iinclude -Iexamples
 COUNTED_CYCLES := 200
 
 HEADERS := include/dp.h examples/refusals.h examples/card.h
+WORKLOAD := bench/workload.c bench/workload.h $(HEADERS)
+
+# The programs whose instructions are counted.
+COUNTED := bench $(if $(LENT),lent)
 
 .PHONY: run check check-example check-header check-prototypes bench clean FORCE
+
+# Two runs of rt at once would write to the same files.
+.NOTPARALLEL:
 
 run: $(OUT)/card
 	$(OUT)/card
 
-# The library is proved again when something under crates/ is newer than it; that takes minutes.
-target/staticlib/libcard.a: crates.txt $(shell find crates -type f \( -name '*.rt' -o -name '*.antt' \))
-	rt staticlib card
+# A library is proved again when something under crates/ is newer than it; that takes minutes.
+target/staticlib/lib%.a: crates.txt $(shell find crates -type f \( -name '*.rt' -o -name '*.antt' \))
+	rt staticlib $*
 
 $(OUT):
 	mkdir -p $@
 
-# Which library was linked: with another one everything is linked again.
+# Which libraries were linked: with another one everything is linked again.
 $(OUT)/library: FORCE | $(OUT)
-	@echo '$(LIB)' | cmp -s - $@ || echo '$(LIB)' >$@
+	@echo '$(LIB) $(LENT)' | cmp -s - $@ || echo '$(LIB) $(LENT)' >$@
 
 $(OUT)/card: examples/card.c examples/master.c $(HEADERS) $(LIB) $(OUT)/library | $(OUT)
 	$(CC) $(CPPFLAGS) $(CFLAGS) examples/card.c examples/master.c $(LIB) -o $@
@@ -46,8 +55,11 @@ $(OUT)/header-c++17: examples/header.c $(HEADERS) $(LIB) $(OUT)/library | $(OUT)
 	$(CXX) $(CPPFLAGS) $(CXXFLAGS) $< -x none $(LIB) -o $@
 
 # Bound at the start: valgrind would count the binding of memset as a part of the call that needs it first.
-$(OUT)/bench: bench/bench.c $(HEADERS) $(LIB) $(OUT)/library | $(OUT)
-	$(CC) $(CPPFLAGS) $(CFLAGS) $< $(LIB) -Wl,-z,now -o $@
+$(OUT)/bench: bench/bench.c $(WORKLOAD) $(LIB) $(OUT)/library | $(OUT)
+	$(CC) $(CPPFLAGS) $(CFLAGS) $< bench/workload.c $(LIB) -Wl,-z,now -o $@
+
+$(OUT)/lent: bench/lent.c bench/lent.h $(WORKLOAD) $(LIB) $(LENT) $(OUT)/library | $(OUT)
+	$(CC) $(CPPFLAGS) $(CFLAGS) $< bench/workload.c $(LENT) $(LIB) -Wl,-z,now -o $@
 
 check: check-example check-header check-prototypes
 	@echo "check: all as expected"
@@ -60,18 +72,21 @@ check-header: $(OUT)/header-c99 $(OUT)/header-c++17
 	$(OUT)/header-c99
 	$(OUT)/header-c++17
 
-# The header declares what the card crate exports, argument for argument: nothing else would notice a difference.
+# The headers declare what the crates export, argument for argument: nothing else would notice a difference.
 check-prototypes: | $(OUT)
-	awk -f examples/prototypes.awk crates/card/src/lib.rt >$(OUT)/exported
-	awk -f examples/prototypes.awk include/dp.h >$(OUT)/declared
+	awk -f examples/prototypes.awk crates/card/src/lib.rt crates/lent/src/exports.rt >$(OUT)/exported
+	awk -f examples/prototypes.awk include/dp.h bench/lent.h >$(OUT)/declared
 	diff $(OUT)/exported $(OUT)/declared
 
-bench: $(OUT)/bench
+bench: $(COUNTED:%=$(OUT)/%)
 	@if command -v valgrind >/dev/null; then \
-	    valgrind --tool=callgrind --callgrind-out-file=$(OUT)/callgrind.out $(OUT)/bench $(COUNTED_CYCLES) \
-	        >$(OUT)/callgrind.log 2>&1 || { cat $(OUT)/callgrind.log; exit 1; }; \
+	    for program in $(COUNTED); do \
+	        valgrind --tool=callgrind --callgrind-out-file=$(OUT)/$$program.callgrind \
+	            $(OUT)/$$program $(COUNTED_CYCLES) >$(OUT)/callgrind.log 2>&1 \
+	            || { cat $(OUT)/callgrind.log; exit 1; }; \
+	    done; \
 	    echo "Instructions for each call, counted by valgrind over $(COUNTED_CYCLES) cycles:"; \
-	    awk -f bench/instructions.awk $(OUT)/callgrind.out; \
+	    awk -f bench/instructions.awk $(COUNTED:%=$(OUT)/%.callgrind); \
 	else \
 	    echo "valgrind is not installed: no instructions are counted"; \
 	fi

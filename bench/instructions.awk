@@ -1,7 +1,8 @@
-# From valgrind's callgrind file: for each exported call and the place in bench.c that it came from, how often it was
-# called and how many instructions it took on average, the functions below it included.
+# From valgrind's callgrind files, that of bench.c and then, where the column is wanted, that of lent.c: for each
+# exported call and the place that it came from, how often it was called and how many instructions it took on average,
+# the functions below it included; beside it how many the same octet or Tick takes on the lent state.
 #
-# In the file a function has a number and, where it is first named, its name; a call is three lines: cfn= (which),
+# In a file a function has a number and, where it is first named, its name; a call is three lines: cfn= (which),
 # calls= (how often), and then where and the instructions.
 
 function name_of(text,    number) {
@@ -11,22 +12,47 @@ function name_of(text,    number) {
     return names[number]
 }
 
-function row(call, text, calls, cost) {
-    if (calls > 0) printf "  %-24s %-30s %8d %14.1f\n", call, text, calls, cost / calls
+function mean(cost, calls) {
+    return calls > 0 ? sprintf("%.1f", cost / calls) : "-"
 }
 
-function place_row(call, place, text) {
-    row(call, text, calls[call, place], cost[call, place])
+# Two runs of the bench loop, each made once in a cycle, that differ in some calls alone. lent.c makes the exported calls
+# at the same place, so they say how many these are.
+function on_lent_state(call, without, with,    a, b) {
+    if (with == "" || program == "") return "-"
+    a = "lent " without
+    b = "lent " with
+    if (calls["lent_exchange", a] == 0 || calls["lent_exchange", a] != calls["lent_exchange", b]) {
+        print "instructions.awk: the runs " without " and " with " of lent.c cannot be compared" >"/dev/stderr"
+        exit 1
+    }
+    return mean(cost["lent_exchange", b] - cost["lent_exchange", a], calls[call, b] - calls[call, a])
+}
+
+function row(call, text, calls, instructions, lent) {
+    if (calls > 0) printf "  %-24s %-30s %8d %14s %14s\n", call, text, calls, instructions, lent
+}
+
+# without, with: the places in lent.c of two runs; none for a call that has no form on the lent state.
+function place_row(call, place, text, without, with) {
+    row(call, text, calls[call, place], mean(cost[call, place], calls[call, place]), \
+        on_lent_state(call, without, with))
     calls_of[call] += calls[call, place]
     cost_of[call] += cost[call, place]
     cost_of_all += cost[call, place]
 }
 
-function all_row(call) {
-    row(call, "all of the workload", calls_of[call], cost_of[call])
+function all_row(call, without, with) {
+    row(call, "all of the workload", calls_of[call], mean(cost_of[call], calls_of[call]), \
+        on_lent_state(call, without, with))
 }
 
-/^fn=/ { place = name_of(substr($0, 4)) }
+# The numbers begin anew in each file, and lent.c goes through the places of the workload too.
+FNR == 1 {
+    split("", names)
+    program = NR == 1 ? "" : "lent "
+}
+/^fn=/ { place = program name_of(substr($0, 4)) }
 /^cfn=/ { call = name_of(substr($0, 5)) }
 /^calls=/ {
     split(substr($0, 7), word, " ")
@@ -36,24 +62,26 @@ function all_row(call) {
 }
 
 END {
-    printf "  %-24s %-30s %8s %14s\n", "call", "where", "calls", "instructions"
+    printf "  %-24s %-30s %8s %14s %14s\n", "call", "where", "calls", "instructions", "lent state"
+    # Every run has its two gaps: no difference shows one.
     place_row("dp_gap", "gap_before_telegram", "before a telegram")
-    place_row("dp_octet", "first_octet", "first octet")
-    place_row("dp_octet", "header_octet", "header, inner")
-    place_row("dp_octet", "inner_data_octet", "data, inner")
-    place_row("dp_octet", "check_octet", "check octet, inner")
-    place_row("dp_octet", "last_octet", "last octet, draws the reply")
-    all_row("dp_octet")
+    place_row("dp_octet", "first_octet", "first octet", "no_octets", "up_to_first_octet")
+    place_row("dp_octet", "header_octet", "header, inner", "up_to_first_octet", "up_to_header")
+    place_row("dp_octet", "inner_data_octet", "data, inner", "up_to_header", "up_to_data")
+    place_row("dp_octet", "check_octet", "check octet, inner", "up_to_data", "up_to_check_octet")
+    place_row("dp_octet", "last_octet", "last octet, draws the reply", "up_to_check_octet", "up_to_last_octet")
+    all_row("dp_octet", "no_octets", "up_to_last_octet")
     place_row("dp_send", "send_data_octet", "data")
     place_row("dp_send", "send_around_data", "before and behind the data")
     place_row("dp_send", "send_nothing_left", "nothing left")
     all_row("dp_send")
-    place_row("dp_tick", "tick_in_exchange", "watchdog on")
+    place_row("dp_tick", "tick_in_exchange", "watchdog on", "no_octets", "no_octets_but_ticks")
     place_row("dp_take_outputs", "vat_takes", "new outputs")
     place_row("dp_read", "vat_reads", "outputs")
     place_row("dp_write", "vat_writes", "inputs")
     place_row("dp_hand_over_inputs", "vat_hands_over", "")
-    row("a whole cycle", "all of these", calls["dp_tick", "tick_in_exchange"], cost_of_all)
+    cycles = calls["dp_tick", "tick_in_exchange"]
+    row("a whole cycle", "all of these", cycles, mean(cost_of_all, cycles), "-")
     print "  beside the workload:"
     place_row("dp_start", "station_starts", "")
     place_row("dp_judge_parameters", "vat_judges", "good")
@@ -63,4 +91,8 @@ END {
     place_row("dp_acknowledge", "vat_looks_at_events", "")
     place_row("dp_new_diagnosis", "vat_has_diagnosis", "")
     place_row("dp_leave_master", "vat_leaves", "in the exchange")
+    # What the lent state costs once, however many octets follow.
+    runs = calls["lent_exchange", "lent no_octets"]
+    once = mean(cost["lent_exchange", "lent no_octets"], runs)
+    row("lent_exchange", "no octets: load, 2 gaps, save", runs, "-", once)
 }

@@ -1,4 +1,4 @@
-# The exported calls of a file, one C prototype on a line: of a C header as they stand, of a Rattle file as C sees them.
+# The exported calls of files, one C prototype on a line: of a C header as they stand, of a Rattle file as C sees them.
 # A slice is a pointer and a length.
 
 function c_type(type) {
@@ -39,7 +39,7 @@ function print_prototype(type, text,    open, close_at) {
 END {
     gsub(/[ \t]+/, " ", file)
     while (match(file, /\/\*([^*]|\*[^\/])*\*\//)) file = substr(file, 1, RSTART - 1) substr(file, RSTART + RLENGTH)
-    while (match(file, /(int64_t|fn) dp_[a-z_]+\([^)]*\)( -> [a-z0-9]+)?/)) {
+    while (match(file, /(int64_t|fn) (dp|lent)_[a-z_]+\([^)]*\)( -> [a-z0-9]+)?/)) {
         text = substr(file, RSTART, RLENGTH)
         file = substr(file, RSTART + RLENGTH)
         if (text ~ /^fn /) {

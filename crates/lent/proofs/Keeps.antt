@@ -32,7 +32,7 @@ use Rattle.rules.specs.Diagnosis.{delayed, diagnosed, caughtUp}
 use Rattle.ledger.proofs.Lawful.{SetLaw, Lawful, and-left, refilled-counts, serve-lawful, settled-lawful, ticked-lawful}
 use Rattle.station.specs.Safe.{Safe}
 use Rattle.station.specs.Stepped.{Stepped, unchanged}
-use Rattle.station.specs.With.{withIncoming, withReply}
+use Rattle.state.specs.With.{withIncoming, withReply}
 use Rattle.station.specs.Deeds.{begun, busy, isOpen, diagnosisLeaves, onSets, carried, diagnosisChanged, afterReply, settle}
 use Rattle.station.specs.Replies.{noReply, replyFor}
 use Rattle.station.specs.Reading.{keptOctets, storedAs, readBy, requestBy, prmIn, outcomeOf, answered, completed, beginning, isIgnored, heardAs, heard}

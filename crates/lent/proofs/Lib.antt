@@ -8,3 +8,4 @@ pub mod Same
 pub mod Loops
 pub mod Partly
 pub mod Turns
+pub mod Exporting

@@ -1,14 +1,13 @@
 -- Steps in a row are one run, and a run on the state that a memory holds, packed again, is what the exported calls leave.
 use Prim.Native.Nat.{ℕ}
 use mathlib.Core.Path.{_≡_, refl, sym, ap, _∙_}
-use mathlib.Core.Bool.{true, false, cond, not}
+use mathlib.Core.Bool.{Bool, true, false, cond, not}
 use mathlib.Core.List.{List, [], _∷_, _++_}
 use borrow.Author.Tests.{not-true, not-false}
-use Rattle.state.specs.declared.memory.Loaded.{Loaded}
 use Rattle.state.specs.declared.answer.Refusal.the-variants.{Damaged}
 use Rattle.state.specs.declared.state.State.{State}
 use Rattle.state.specs.Answer.{refused}
-use Rattle.state.specs.Memory.{kept, wellMemory, Holds, Loads}
+use Rattle.state.specs.Memory.{kept, wellMemory, Holds}
 use Rattle.state.specs.Unpack.{unpacked}
 use Rattle.ledger.specs.Calls.{Call}
 use Rattle.station.specs.Safe.{Safe}
@@ -43,13 +42,13 @@ left-damaged [] m e = refl
 left-damaged (c ∷ cs) m e =
     left-damaged cs m e ∙ (λ i. left (cond (sym e i) (packed m (step (unpacked m) m c)) (refused m Damaged) .memory) cs)
 
-pub none-found : (m : List ℕ) (l : Loaded) (cs : List Call) → Loads m l → not (l .ok) ≡ true → (false ≡ wellMemory m) × (m ≡ left m cs)
-none-found m l cs loads e =
-    let f : false ≡ wellMemory m = sym (not-true (l .ok) e) ∙ loads .tells in
+pub none-found : (m : List ℕ) (r : Bool) (cs : List Call) → r ≡ wellMemory m → not r ≡ true → (false ≡ wellMemory m) × (m ≡ left m cs)
+none-found m r cs tells e =
+    let f : false ≡ wellMemory m = sym (not-true r e) ∙ tells in
     (f, left-damaged cs m (sym f))
 
-pub one-found : (m : List ℕ) (l : Loaded) → Loads m l → not (l .ok) ≡ false → true ≡ wellMemory m
-one-found m l loads e = sym (not-false (l .ok) e) ∙ loads .tells
+pub one-found : (m : List ℕ) (r : Bool) → r ≡ wellMemory m → not r ≡ false → true ≡ wellMemory m
+one-found m r tells e = sym (not-false r e) ∙ tells
 
 -- a gap, as a run of its own
 pub gap-run : (s : State) (m : List ℕ) (t : State) (zs : List ℕ) → Steps (paused s m) t zs → Steps (run s m (gap ∷ [])) t zs

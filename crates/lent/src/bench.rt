@@ -3,7 +3,8 @@
 use crate::octet;
 use crate::tick;
 use state::image::save;
-use state::memory::load;
+use state::load;
+use state::memory::is_well;
 use state::state::State;
 use station::bus::pause;
 ghost use mathlib.Core.Path.{_≡_};
@@ -55,11 +56,11 @@ pub fn take_turn(state: State, memory: &mut [u8], telegram: &[u8], count: usize)
 pub fn exchange(memory: &mut [u8], first: &[u8], second: &[u8], count: usize) -> bool
     ensures { λ r. ⌜ (r ≡ wellMemory (now (memory .entry))) × (now (memory .exit) ≡ left (now (memory .entry)) (calls (turn (now (first .entry)) count ++ turn (now (second .entry)) count))) ⌝ }
 {
-    let loaded = load(&memory[..]);
-    if !loaded.ok {
+    if !is_well(&memory[..]) {
         return false;
     }
-    let held = take_turn(loaded.state, memory, first, count);
+    let state = load::unpack(&memory[..]);
+    let held = take_turn(state, memory, first, count);
     let done = take_turn(held, memory, second, count);
     save(done, memory);
     true

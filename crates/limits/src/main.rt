@@ -8,7 +8,8 @@ use state::control::Flags;
 use state::control::Phase;
 use state::control::Watchdog;
 use state::image::save;
-use state::memory::load;
+use state::load::unpack;
+use state::memory::is_well;
 use state::setup::Setup;
 use state::state::Drawn;
 use state::state::Header;
@@ -173,9 +174,9 @@ fn through(s: State) {
     let mut mem = [0u8; 4096];
     save(s, &mut mem);
     print_front(&mem);
-    let loaded = load(&mem);
+    let loaded = unpack(&mem);
     let mut again = [0u8; 4096];
-    save(loaded.state, &mut again);
+    save(loaded, &mut again);
     print_front(&again);
 }
 
@@ -192,8 +193,7 @@ fn changed(at: usize, octet: u8) {
     let mut mem = [0u8; 4096];
     save(most(), &mut mem);
     octets::store(&mut mem, at, octet);
-    let loaded = load(&mem);
-    print_well(loaded.ok);
+    print_well(is_well(&mem));
 }
 
 fn main() {

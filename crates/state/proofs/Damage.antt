@@ -1,17 +1,16 @@
--- A memory loads exactly if it holds a state, and it is that state.
+-- A memory is well exactly if it holds a state, and it is that state.
 use Prim.Native.Nat.{ℕ, _%_, _≤_, _<_}
 use native.Mathlib.Omega.{arith}
-use mathlib.Core.Path.{_≡_, sym, ap, subst, _∙_}
-use mathlib.Core.Bool.{Bool, true, false, _&&_, false≢true}
+use mathlib.Core.Path.{_≡_, sym, ap, _∙_}
+use mathlib.Core.Bool.{Bool, true, _&&_}
 use mathlib.Core.List.{List, [], _∷_, _++_}
 use lib.Dec.{leb, eqb}
 use lib.ListN.{length, getD, drop, take-append-drop}
 use borrow.Author.Tests.{leb-true, le-leb, eqb-true, eq-eqb}
-use Rattle.state.specs.declared.memory.Loaded.{Loaded}
 use Rattle.state.specs.declared.state.State.{State}
 use Rattle.state.specs.Image.{image}
 use Rattle.state.specs.Layout.{stateLength, endOf}
-use Rattle.state.specs.Memory.{lengthOk, kept, wellMemory, Holds, Loads}
+use Rattle.state.specs.Memory.{lengthOk, kept, wellMemory, Holds}
 use Rattle.state.specs.Sound.{Within, Sound}
 use Rattle.state.specs.Unpack.{unpacked}
 use Rattle.state.specs.Well.{within, wellImage}
@@ -35,7 +34,7 @@ both : (a b : Bool) → (a && b) ≡ true → (a ≡ true) × (b ≡ true)
 both a b e = (all-at (a ∷ b ∷ []) 0 e, all-at (a ∷ b ∷ []) 1 e)
 
 -- a memory that holds a state is that state's image and a rest
-fronted : (m : List ℕ) (s : State) → Holds m s → m ≡ image s ++ drop stateLength m
+pub fronted : (m : List ℕ) (s : State) → Holds m s → m ≡ image s ++ drop stateLength m
 fronted m s h = sym (take-append-drop stateLength m) ∙ ap (λ (l : List ℕ). l ++ drop stateLength m) (h .front)
 
 -- a memory that holds a state unpacks to it
@@ -67,22 +66,6 @@ well-holds m small e =
       front = sym (well-image m (omega arith) small (inner .0));
       room = leb-true (endOf (t .setup)) (length m) (inner .1);
     }
-
--- ---- load
-
--- a state that a load answers is one that the memory holds
-pub load-good : (m : List ℕ) (r : Loaded) → ((i : ℕ) → getD m i 0 < 256) → Loads m r → r .ok ≡ true → Holds m (r .state)
-load-good m r small l e = subst (Holds m) (sym (l .finds e)) (well-holds m small (sym (l .tells) ∙ e))
-
--- a state that the memory holds is the one that a load answers
-pub load-found : (m : List ℕ) (r : Loaded) (s : State) → Loads m r → Holds m s → (r .ok ≡ true) × (r .state ≡ s)
-load-found m r s l h =
-    let e = l .tells ∙ holds-well m s h in
-    (e, l .finds e ∙ holds-unpacked m s h)
-
--- where a load answers none, the memory holds none
-pub load-none : (m : List ℕ) (r : Loaded) (s : State) → Loads m r → r .ok ≡ false → Holds m s → ⊥
-load-none m r s l f h = false≢true (sym f ∙ load-found m r s l h .0)
 
 -- ---- save
 

@@ -10,3 +10,4 @@ pub mod Front
 pub mod Wiped
 pub mod Started
 pub mod Damage
+pub mod Written

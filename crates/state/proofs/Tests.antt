@@ -1,13 +1,13 @@
 -- Tests joined by `&`, and the facts that they stand for.
 use Prim.Native.Nat.{ℕ, zero, suc}
 use native.Mathlib.Omega.{arith}
-use mathlib.Core.Path.{_≡_, refl, ap, _∙_}
+use mathlib.Core.Path.{_≡_, refl, sym, ap, _∙_}
 use mathlib.Core.Logic.{_⊎_, inl, inr, ⊎-elim}
-use mathlib.Core.Bool.{Bool, true, false, _&&_, _||_, Bool·beq}
+use mathlib.Core.Bool.{Bool, true, false, _&&_, _||_, Bool·beq, not, false≢true}
 use mathlib.Core.List.{List, [], _∷_}
 use lib.Dec.{leb, eqb}
 use lib.ListN.{getD}
-use borrow.Author.Tests.{leb-true, le-leb, eqb-true, eq-eqb}
+use borrow.Author.Tests.{leb-true, le-leb, eqb-true, eq-eqb, not-false}
 use Rattle.state.specs.Sound.{Within, NoneOr}
 use Rattle.state.specs.Well.{allFrom, all, within, noneOr}
 
@@ -28,6 +28,35 @@ pub all-at : (l : List Bool) (i : ℕ) → all l ≡ true → getD l i true ≡ 
 all-at [] i h = refl
 all-at (a ∷ l) zero h = from-first a l h
 all-at (a ∷ l) (suc i) h = all-at l i (from-rest a l h)
+
+-- one test that fails is enough
+false-from : (l : List Bool) → allFrom false l ≡ false
+false-from [] = refl
+false-from (b ∷ l) = false-from l
+
+fails-from : (a : Bool) (l : List Bool) (i : ℕ) → getD l i true ≡ false → allFrom a l ≡ false
+fails-from a [] i h = absurd (false≢true (sym h))
+fails-from true (b ∷ l) zero h = ap (λ (t : Bool). allFrom t l) h ∙ false-from l
+fails-from false (b ∷ l) zero h = false-from l
+fails-from a (b ∷ l) (suc i) h = fails-from (a && b) l i h
+
+pub all-fails : (l : List Bool) (i : ℕ) → getD l i true ≡ false → false ≡ all l
+all-fails [] i h = absurd (false≢true (sym h))
+all-fails (a ∷ l) zero h = sym (ap (λ (t : Bool). allFrom t l) h ∙ false-from l)
+all-fails (a ∷ l) (suc i) h = sym (fails-from a l i h)
+
+-- and where none fails they hold
+abbrev pub Passed : List Bool → Type 0
+Passed [] = Unit
+Passed (a ∷ l) = (not a ≡ false) × Passed l
+
+passed-from : (a : Bool) (l : List Bool) → a ≡ true → Passed l → allFrom a l ≡ true
+passed-from a [] e h = e
+passed-from a (b ∷ l) e h = passed-from (a && b) l (λ i. e i && not-false b (h .0) i) (h .1)
+
+pub all-hold : (l : List Bool) → Passed l → true ≡ all l
+all-hold [] h = refl
+all-hold (a ∷ l) h = sym (passed-from a l (not-false a (h .0)) (h .1))
 
 -- the range of a test that holds
 pub within-true : (lo x hi : ℕ) → within lo x hi ≡ true → Within lo x hi

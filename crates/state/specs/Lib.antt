@@ -1,6 +1,7 @@
 pub mod Number
 pub mod Image
 pub mod Unpack
+pub mod With
 pub mod Sound
 pub mod Well
 pub mod Layout

@@ -5,7 +5,6 @@ use mathlib.Core.Bool.{Bool, true, _&&_}
 use mathlib.Core.List.{List, _++_}
 use lib.Dec.{leb, eqb}
 use lib.ListN.{length, take, drop}
-use Rattle.state.specs.declared.memory.Loaded.{Loaded}
 use Rattle.state.specs.declared.state.State.{State}
 use Rattle.state.specs.Image.{image}
 use Rattle.state.specs.Layout.{stateLength, endOf}
@@ -32,8 +31,3 @@ pub record Holds (m : List ℕ) (s : State) : Type 0 where
   pub sound : Sound s
   pub front : take stateLength m ≡ image s
   pub room : endOf (s .setup) ≤ length m
-
--- what a load answers: whether the memory is well, and the state in it
-pub record Loads (m : List ℕ) (r : Loaded) : Type 0 where
-  pub tells : r .ok ≡ wellMemory m
-  pub finds : r .ok ≡ true → r .state ≡ unpacked m

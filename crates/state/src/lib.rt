@@ -6,6 +6,8 @@ pub mod layout;
 pub mod load;
 pub mod memory;
 pub mod number;
+pub mod saving;
 pub mod setup;
 pub mod start;
 pub mod state;
+pub mod well;

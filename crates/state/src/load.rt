@@ -1,4 +1,4 @@
-// The octets of a memory read straight as a state, and whether they are the image of one.
+// The octets of a memory read straight as a state, as a whole and part by part: a call that needs a part reads no other.
 use crate::control::Control;
 use crate::control::Diagnosis;
 use crate::control::Flags;
@@ -26,92 +26,7 @@ ghost use mathlib.Core.Path.{_≡_};
 ghost use Prim.Native.Nat.{_+_, _≤_, _<_};
 ghost use lib.ListN.{length};
 ghost use Rattle.state.specs.Layout.{stateLength};
-ghost use Rattle.state.specs.Unpack.{wordAt, setupIn, flagsIn, diagnosisIn, controlIn, setsIn, readerIn, incomingIn, senderIn, headerIn, replyIn, unpacked};
-ghost use Rattle.state.specs.Well.{all, setupTests, caseTests, roleTests, setTests, diagnosisTests, unusedTests, wellImage};
-
-// The address and the lengths.
-fn well_setup(mem: &[u8]) -> bool
-    requires { ⌜ stateLength ≤ length (now mem) ⌝ }
-    ensures { λ r. ⌜ r ≡ all (setupTests (now (mem .entry))) ⌝ }
-{
-    (mem[0] <= 126)
-        & ((1 <= mem[3]) & (mem[3] <= 244))
-        & ((1 <= mem[4]) & (mem[4] <= 244))
-        & ((7 <= mem[5]) & (mem[5] <= 244))
-        & ((1 <= mem[6]) & (mem[6] <= 244))
-        & ((6 <= mem[7]) & (mem[7] <= 244))
-        & ((1 <= mem[8]) & (mem[8] <= 244))
-}
-
-// The cases of the enums.
-fn well_cases(mem: &[u8]) -> bool
-    requires { ⌜ stateLength ≤ length (now mem) ⌝ }
-    ensures { λ r. ⌜ r ≡ all (caseTests (now (mem .entry))) ⌝ }
-{
-    (mem[9] <= 2)
-        & (mem[32] <= 12)
-        & (mem[33] <= 3)
-        & (mem[44] <= 10)
-        & (mem[45] <= 3)
-        & (mem[52] <= 8)
-}
-
-// The marks, the roles of the four sets of three, and the place that a reply leaves from.
-fn well_roles(mem: &[u8]) -> bool
-    requires { ⌜ stateLength ≤ length (now mem) ⌝ }
-    ensures { λ r. ⌜ r ≡ all (roleTests (now (mem .entry))) ⌝ }
-{
-    (mem[18] < 128) & (mem[19] < 6) & (mem[20] < 6) & (mem[21] < 6) & (mem[22] < 6) & (mem[53] <= 2)
-}
-
-// The counts of the sets that are shown and that wait, and whether one waits.
-fn well_sets(mem: &[u8]) -> bool
-    requires { ⌜ stateLength ≤ length (now mem) ⌝ }
-    ensures { λ r. ⌜ r ≡ all (setTests (now (mem .entry))) ⌝ }
-{
-    ((mem[23] == 0) | ((7 <= mem[23]) & (mem[23] <= mem[5])))
-        & ((mem[24] == 0) | ((7 <= mem[24]) & (mem[24] <= mem[5])))
-        & (mem[25] <= mem[6])
-        & (mem[26] <= mem[6])
-        & ((mem[18] / 8 % 2 == 1) == (mem[24] != 0))
-        & ((mem[18] / 16 % 2 == 1) == (mem[26] != 0))
-}
-
-// Diagnosis, its count and the delayed one.
-fn well_diagnosis(mem: &[u8]) -> bool
-    requires { ⌜ stateLength ≤ length (now mem) ⌝ }
-    ensures { λ r. ⌜ r ≡ all (diagnosisTests (now (mem .entry))) ⌝ }
-{
-    ((6 <= mem[27]) & (mem[27] <= mem[7]))
-        & ((mem[28] == 0) | ((6 <= mem[28]) & (mem[28] <= mem[7])))
-        & (mem[29] <= 7)
-}
-
-// The octets that are not used.
-fn well_unused(mem: &[u8]) -> bool
-    requires { ⌜ stateLength ≤ length (now mem) ⌝ }
-    ensures { λ r. ⌜ r ≡ all (unusedTests (now (mem .entry))) ⌝ }
-{
-    (mem[58] == 0)
-        & (mem[59] == 0)
-        & (mem[60] == 0)
-        & (mem[61] == 0)
-        & (mem[62] == 0)
-        & (mem[63] == 0)
-}
-
-// Whether the first octets are the image of a sound state.
-pub fn well(mem: &[u8]) -> bool
-    requires { ⌜ stateLength ≤ length (now mem) ⌝ }
-    ensures { λ r. ⌜ r ≡ wellImage (now (mem .entry)) ⌝ }
-{
-    well_setup(mem)
-        & well_cases(mem)
-        & well_roles(mem)
-        & well_sets(mem)
-        & well_diagnosis(mem)
-        & well_unused(mem)
-}
+ghost use Rattle.state.specs.Unpack.{wordAt, setupIn, flagsIn, setsIn, readerIn, senderIn, headerIn, unpacked};
 
 // An octet as a word.
 fn wide(octet: u8) -> u16
@@ -128,7 +43,7 @@ fn word_at(mem: &[u8], i: usize) -> u16
     wide(mem[i]) + 256 * wide(mem[i + 1])
 }
 
-// What Start was given.
+// What Start was given, the ident number handed in.
 fn setup_in(mem: &[u8], ident: u16) -> Setup
     requires { ⌜ stateLength ≤ length (now mem) ⌝ }
     ensures { λ r. ⌜ r ≡ setupIn (now (mem .entry)) ident ⌝ }
@@ -143,6 +58,14 @@ fn setup_in(mem: &[u8], ident: u16) -> Setup
         diagnosis_len: mem[7],
         get_cfg_len: mem[8],
     }
+}
+
+// What Start was given.
+pub fn setup(mem: &[u8]) -> Setup
+    requires { ⌜ stateLength ≤ length (now mem) ⌝ }
+    ensures { λ r. ⌜ r ≡ unpacked (now (mem .entry)) .setup ⌝ }
+{
+    setup_in(mem, word_at(mem, 1))
 }
 
 // The flags of an octet.
@@ -162,9 +85,9 @@ fn flags_in(x: u8) -> Flags
 }
 
 // Diagnosis and the delayed one.
-fn diagnosis_in(mem: &[u8]) -> Diagnosis
+pub fn diagnosis(mem: &[u8]) -> Diagnosis
     requires { ⌜ stateLength ≤ length (now mem) ⌝ }
-    ensures { λ r. ⌜ r ≡ diagnosisIn (now (mem .entry)) ⌝ }
+    ensures { λ r. ⌜ r ≡ unpacked (now (mem .entry)) .control .diagnosis ⌝ }
 {
     Diagnosis {
         count: mem[27],
@@ -173,14 +96,30 @@ fn diagnosis_in(mem: &[u8]) -> Diagnosis
     }
 }
 
-// The control part.
-fn control_in(mem: &[u8]) -> Control
+// The event word.
+pub fn events(mem: &[u8]) -> Events
     requires { ⌜ stateLength ≤ length (now mem) ⌝ }
-    ensures { λ r. ⌜ r ≡ controlIn (now (mem .entry)) ⌝ }
+    ensures { λ r. ⌜ r ≡ unpacked (now (mem .entry)) .control .events ⌝ }
+{
+    let word = word_at(mem, 30);
+    Events { word }
+}
+
+// Whether a clear is noted.
+pub fn noted(mem: &[u8]) -> bool
+    requires { ⌜ stateLength ≤ length (now mem) ⌝ }
+    ensures { λ r. ⌜ r ≡ unpacked (now (mem .entry)) .control .noted ⌝ }
+{
+    mem[18] / 64 % 2 == 1
+}
+
+// The control part.
+pub fn control(mem: &[u8]) -> Control
+    requires { ⌜ stateLength ≤ length (now mem) ⌝ }
+    ensures { λ r. ⌜ r ≡ unpacked (now (mem .entry)) .control ⌝ }
 {
     let left = word_at(mem, 13);
     let reload = word_at(mem, 15);
-    let word = word_at(mem, 30);
     Control {
         phase: phase_numbered(mem[9]),
         owner: mem[10],
@@ -188,9 +127,9 @@ fn control_in(mem: &[u8]) -> Control
         stored: mem[12],
         watchdog: Watchdog { reload, left },
         flags: flags_in(mem[17]),
-        events: Events { word },
-        noted: mem[18] / 64 % 2 == 1,
-        diagnosis: diagnosis_in(mem),
+        events: events(mem),
+        noted: noted(mem),
+        diagnosis: diagnosis(mem),
     }
 }
 
@@ -204,6 +143,50 @@ fn sets_in(mem: &[u8], i: usize, set: Triple) -> Sets
         shown: mem[i],
         waiting: mem[i + 1],
     }
+}
+
+// The set of output buffers.
+pub fn outputs(mem: &[u8]) -> Outputs
+    requires { ⌜ stateLength ≤ length (now mem) ⌝ }
+    ensures { λ r. ⌜ r ≡ unpacked (now (mem .entry)) .outputs ⌝ }
+{
+    let marks = mem[18];
+    Outputs {
+        set: Triple::numbered(mem[19], marks % 2 == 1),
+        zeros: marks / 2 % 2 == 1,
+    }
+}
+
+// The set of input buffers.
+pub fn inputs(mem: &[u8]) -> Triple
+    requires { ⌜ stateLength ≤ length (now mem) ⌝ }
+    ensures { λ r. ⌜ r ≡ unpacked (now (mem .entry)) .inputs ⌝ }
+{
+    Triple::numbered(mem[20], mem[18] / 4 % 2 == 1)
+}
+
+// The parameters received.
+pub fn parameters(mem: &[u8]) -> Sets
+    requires { ⌜ stateLength ≤ length (now mem) ⌝ }
+    ensures { λ r. ⌜ r ≡ unpacked (now (mem .entry)) .parameters ⌝ }
+{
+    sets_in(mem, 23, Triple::numbered(mem[21], mem[18] / 8 % 2 == 1))
+}
+
+// The configuration received.
+pub fn configuration(mem: &[u8]) -> Sets
+    requires { ⌜ stateLength ≤ length (now mem) ⌝ }
+    ensures { λ r. ⌜ r ≡ unpacked (now (mem .entry)) .configuration ⌝ }
+{
+    sets_in(mem, 25, Triple::numbered(mem[22], mem[18] / 16 % 2 == 1))
+}
+
+// Whether the controller's diagnosis buffer is the second.
+pub fn swapped(mem: &[u8]) -> bool
+    requires { ⌜ stateLength ≤ length (now mem) ⌝ }
+    ensures { λ r. ⌜ r ≡ unpacked (now (mem .entry)) .swapped ⌝ }
+{
+    mem[18] / 32 % 2 == 1
 }
 
 // The reader at a phase.
@@ -226,9 +209,9 @@ fn reader_in(mem: &[u8], phase: reader::Phase, kind: Kind) -> Reader
 }
 
 // The telegram that is coming.
-fn incoming_in(mem: &[u8]) -> Incoming
+pub fn incoming(mem: &[u8]) -> Incoming
     requires { ⌜ stateLength ≤ length (now mem) ⌝ }
-    ensures { λ r. ⌜ r ≡ incomingIn (now (mem .entry)) ⌝ }
+    ensures { λ r. ⌜ r ≡ unpacked (now (mem .entry)) .incoming ⌝ }
 {
     Incoming {
         reader: reader_in(mem, reading_numbered(mem[32]), kind_numbered(mem[33])),
@@ -268,9 +251,9 @@ fn header_in(mem: &[u8]) -> Header
 }
 
 // The reply in progress.
-fn reply_in(mem: &[u8]) -> Reply
+pub fn reply(mem: &[u8]) -> Reply
     requires { ⌜ stateLength ≤ length (now mem) ⌝ }
-    ensures { λ r. ⌜ r ≡ replyIn (now (mem .entry)) ⌝ }
+    ensures { λ r. ⌜ r ≡ unpacked (now (mem .entry)) .reply ⌝ }
 {
     Reply {
         drawn: drawn_numbered(mem[52]),
@@ -285,19 +268,15 @@ pub fn unpack(mem: &[u8]) -> State
     requires { ⌜ stateLength ≤ length (now mem) ⌝ }
     ensures { λ r. ⌜ r ≡ unpacked (now (mem .entry)) ⌝ }
 {
-    let marks = mem[18];
     State {
-        setup: setup_in(mem, word_at(mem, 1)),
-        control: control_in(mem),
-        outputs: Outputs {
-            set: Triple::numbered(mem[19], marks % 2 == 1),
-            zeros: marks / 2 % 2 == 1,
-        },
-        inputs: Triple::numbered(mem[20], marks / 4 % 2 == 1),
-        parameters: sets_in(mem, 23, Triple::numbered(mem[21], marks / 8 % 2 == 1)),
-        configuration: sets_in(mem, 25, Triple::numbered(mem[22], marks / 16 % 2 == 1)),
-        swapped: marks / 32 % 2 == 1,
-        incoming: incoming_in(mem),
-        reply: reply_in(mem),
+        setup: setup(mem),
+        control: control(mem),
+        outputs: outputs(mem),
+        inputs: inputs(mem),
+        parameters: parameters(mem),
+        configuration: configuration(mem),
+        swapped: swapped(mem),
+        incoming: incoming(mem),
+        reply: reply(mem),
     }
 }

@@ -16,7 +16,7 @@ use Rattle.state.specs.Layout.{outputs, inputs, parameters, configuration, diag
 use Rattle.ledger.specs.Lists.{Sets}
 use Rattle.ledger.specs.Ledger.{Line, Ledger, withLine}
 use Rattle.station.specs.Safe.{Safe}
-use Rattle.station.specs.With.{withIncoming}
+use Rattle.state.specs.With.{withIncoming}
 use Rattle.station.specs.Reading.{storedData}
 use Rattle.station.proofs.Relation.{SetsAgree, ReadingAgrees, ReplyAgrees, Agrees}
 use Rattle.station.proofs.Elsewhere.{Elsewhere, same-elsewhere}

@@ -2,7 +2,7 @@
 -- is made and the state packed again.
 use Prim.Native.Nat.{ℕ, _≤_}
 use native.Mathlib.Omega.{arith}
-use mathlib.Core.Path.{_≡_, refl, sym, ap, _∙_}
+use mathlib.Core.Path.{_≡_, refl, sym, ap, subst, _∙_}
 use mathlib.Core.Bool.{Bool, true, false, cond, not, _&&_}
 use mathlib.Core.List.{List, _++_}
 use mir.Syntax.{w8}
@@ -14,19 +14,19 @@ use Rattle.state.specs.declared.answer.Answer.{Answer}
 use Rattle.state.specs.declared.answer.Answer.the-variants.{Value, Refused}
 use Rattle.state.specs.declared.answer.Refusal.{Refusal}
 use Rattle.state.specs.declared.answer.Refusal.the-variants.{Damaged, Judging, Range, Absent, Delayed}
-use Rattle.state.specs.declared.memory.Loaded.{Loaded}
 use Rattle.state.specs.declared.state.State.{State}
 use Rattle.state.specs.Answer.{Called, Meets, refused}
 use Rattle.state.specs.Layout.{stateLength}
-use Rattle.state.specs.Memory.{kept, Holds, Loads}
-use Rattle.state.proofs.Damage.{holds-unpacked, holds-well, load-good}
+use Rattle.state.specs.Memory.{kept, wellMemory, Holds}
+use Rattle.state.specs.Unpack.{unpacked}
+use Rattle.state.proofs.Damage.{holds-unpacked, holds-well, well-holds}
 use Rattle.state.specs.Well.{within}
 use Rattle.rules.specs.Diagnosis.{delayed}
 use Rattle.ledger.specs.User.{inRange, writable}
 use Rattle.ledger.specs.Calls as calls
 use Rattle.ledger.specs.Calls.{Call}
 use Rattle.station.specs.Safe.{Safe}
-use Rattle.station.specs.Stepped.{Stepped, Steps}
+use Rattle.station.specs.Stepped.{Stepped, Steps, packedAfter}
 use Rattle.station.specs.Deeds.{isOpen, diagnosisLeaves}
 use Rattle.station.specs.User.{absent, Told, told, refusing, toldOf, Tells, takeOutputs, readOctet, writeOctet, handOver, newDiagnosis, judgeParameters, judgeConfiguration, acknowledgeEvents, leaveMaster}
 use Rattle.station.specs.Calls.{step, packed, called}
@@ -106,14 +106,18 @@ module _ (s : State) (m : List ℕ) (same : m ≡ kept s m) where
 
 -- ---- the call
 
--- no state was found
-pub damaged : (m : List ℕ) (l : Loaded) (c : Call) → Loads m l → not (l .ok) ≡ true → Meets (called m c) (Refused Damaged) m
+-- it holds no state
+pub damaged : (m : List ℕ) (r : Bool) (c : Call) → r ≡ wellMemory m → not r ≡ true → Meets (called m c) (Refused Damaged) m
 unfolding called
-damaged m l c loads e = rw (sym (loads .tells) ∙ not-true (l .ok) e) (record { answers = refl; leaves = refl })
+damaged m r c tells e = rw (sym tells ∙ not-true r e) (record { answers = refl; leaves = refl })
 
--- the memory holds the state that was found
-pub found : (m : List ℕ) (l : Loaded) → ((i : ℕ) → Fits w8 (getD m i 0)) → Loads m l → not (l .ok) ≡ false → Holds m (l .state)
-found m l octets loads e = load-good m l (λ i. octets i .fits) loads (not-false (l .ok) e)
+-- it holds the state that it unpacks to
+pub found : (m : List ℕ) (r : Bool) → ((i : ℕ) → Fits w8 (getD m i 0)) → r ≡ wellMemory m → not r ≡ false → Holds m (unpacked m)
+found m r octets tells e = well-holds m (λ i. octets i .fits) (sym tells ∙ not-false r e)
+
+-- and that is what the code unpacked
+pub holding : (m : List ℕ) (s : State) → Holds m (unpacked m) → s ≡ unpacked m → Holds m s
+holding m s h e = subst (Holds m) (sym e) h
 
 module _ (m : List ℕ) (s : State) (c : Call) (h : Holds m s) where
   -- a call makes that state's step
@@ -127,6 +131,10 @@ module _ (m : List ℕ) (s : State) (c : Call) (h : Holds m s) where
   pub stepped : (a : Answer) (t : State) (n x : List ℕ) → Tells (step s m c) a t n → x ≡ kept t n → Meets (called m c) a x
   stepped a t n x r k =
       rw called-whole (record { answers = r .answers; leaves = k ∙ (λ i. kept (r .states i) (r .leaves i)) })
+
+  -- as the code makes it over the memory
+  pub on-memory : (r : Stepped) (j k : ℕ) (x : List ℕ) → step s m c ≡ toldOf j r → k ≡ j → x ≡ packedAfter r → Meets (called m c) (Value k) x
+  on-memory r j k x e f g = rw (called-whole, e) (record { answers = ap Value f; leaves = g })
 
   -- and as it only answers
   pub answered : (a : Answer) → Tells (step s m c) a s m → Meets (called m c) a m

@@ -19,7 +19,7 @@ use Rattle.ledger.specs.Lists.{Diagnoses, exchanged, withDiagnoses}
 use Rattle.ledger.specs.Ledger as ledger
 use Rattle.ledger.specs.Ledger.{Ledger, withLine}
 use Rattle.ledger.specs.Deeds as ledger-deeds
-use Rattle.station.specs.With.{withControl, withReply}
+use Rattle.state.specs.With.{withControl, withReply}
 use Rattle.ledger.specs.Replies.{diagnoses}
 use Rattle.station.specs.Deeds.{diagnosisLeaves, diagnosisChanged}
 use Rattle.station.specs.Replies.{noReply, ownPlace}

@@ -15,7 +15,7 @@ use Rattle.state.specs.declared.state.State.{State}
 use Rattle.state.specs.Layout.{outputs, parameters, configuration, countOf, lengthOf, startOf}
 use Rattle.state.proofs.Places.{inside}
 use Rattle.station.specs.Safe.{Safe}
-use Rattle.station.specs.With.{withIncoming}
+use Rattle.state.specs.With.{withIncoming}
 use Rattle.station.specs.Reading.{storedData, keptOctets, readBy}
 use Rattle.station.proofs.Relation.{Gathered}
 use Rattle.station.proofs.Changes.{gathered-none}

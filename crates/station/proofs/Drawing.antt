@@ -31,7 +31,7 @@ use Rattle.ledger.specs.Lists.{Buffers}
 use Rattle.ledger.specs.Ledger.{Line}
 use Rattle.ledger.specs.Replies.{headerOctets, diagnosisOctets, serviceReply, replyOf, diagnoses}
 use Rattle.station.specs.Safe.{Safe}
-use Rattle.station.specs.With.{withReply}
+use Rattle.state.specs.With.{withReply}
 use Rattle.ledger.specs.Replies.{exchangeFc}
 use Rattle.station.specs.Replies.{servicing, replyFor, ownPlace, headerAt, contentAt, datumAt}
 use Rattle.station.proofs.Relation.{ReplyAgrees}

@@ -16,7 +16,7 @@ use Rattle.state.specs.declared.state.Incoming.{Incoming}
 use Rattle.state.specs.declared.state.State.{State}
 use Rattle.ledger.specs.Ledger.{Ledger, withLine, begun}
 use Rattle.ledger.specs.Bus.{lengthened}
-use Rattle.station.specs.With.{withIncoming}
+use Rattle.state.specs.With.{withIncoming}
 use Rattle.station.specs.Reading.{isIgnored, storedData, keptOctets, readBy, storedAs}
 use Rattle.station.proofs.Relation.{Gathered, Agrees}
 use Rattle.station.proofs.Facts.{Needed, After}

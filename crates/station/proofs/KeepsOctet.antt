@@ -27,7 +27,7 @@ use Rattle.rules.specs.Control.{bit, inExchange, owns}
 use Rattle.rules.specs.Requests.{masterOf, refilled, serviceOf}
 use Rattle.rules.specs.Services.{otherOwns, otherIdent, wantsWatchdog, badFactors, setPrm, chkCfg, exchanges, dataExchange, slaveDiag, controls, globalControl, serve}
 use Rattle.ledger.specs.Calls.{octet, send}
-use Rattle.station.specs.With.{withReply}
+use Rattle.state.specs.With.{withReply}
 use Rattle.station.specs.Stepped.{Stepped, unchanged}
 use Rattle.station.specs.Deeds.{begun, isOpen, carried, settle}
 use Rattle.station.specs.Replies.{replyFor, askedFor}

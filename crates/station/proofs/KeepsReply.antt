@@ -28,7 +28,7 @@ use Rattle.rules.specs.User.{judgedParameters, judgedConfiguration}
 use Rattle.ledger.specs.Ledger.{Ledger}
 use Rattle.ledger.specs.User.{inRange, writable}
 use Rattle.ledger.specs.Calls.{gap, tick, take, read, write, hand-over, new-diagnosis, judge-parameters, judge-configuration, events, acknowledge, pending, leave}
-use Rattle.station.specs.With.{withControl, withOutputs, withReply}
+use Rattle.state.specs.With.{withControl, withOutputs, withReply}
 use Rattle.station.specs.Stepped.{Stepped}
 use Rattle.station.specs.Deeds.{begun, busy, isOpen, diagnosisLeaves, diagnosisChanged, carried, afterReply, settle}
 use Rattle.station.specs.Replies.{noReply}

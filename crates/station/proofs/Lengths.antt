@@ -19,7 +19,7 @@ use Rattle.rules.specs.Diagnosis.{delayed}
 use Rattle.rules.specs.Line.{settled, ticked}
 use Rattle.ledger.specs.User.{inRange, writable}
 use Rattle.ledger.specs.Calls.{Call, octet, gap, send, tick, take, read, write, hand-over, new-diagnosis, judge-parameters, judge-configuration, events, acknowledge, pending, leave}
-use Rattle.station.specs.With.{withReply}
+use Rattle.state.specs.With.{withReply}
 use Rattle.station.specs.Safe.{Safe}
 use Rattle.station.specs.Stepped.{Stepped, unchanged}
 use Rattle.station.specs.Deeds.{begun, busy, isOpen, diagnosisLeaves, carried, afterReply, settle}

@@ -36,3 +36,6 @@ pub mod Agreement
 pub mod Safety
 pub mod Reaching
 pub mod Calling
+mod OverMemory
+mod Receives
+mod Leaving

@@ -33,7 +33,7 @@ use Rattle.ledger.specs.Bus as ledger-bus
 use Rattle.ledger.specs.User as ledger-user
 use Rattle.ledger.specs.Calls as ledger-calls
 use Rattle.ledger.specs.Calls.{gap, tick, take, hand-over, new-diagnosis, judge-parameters, judge-configuration, events, acknowledge, pending, leave}
-use Rattle.station.specs.With.{withControl, withOutputs, withInputs, withReply}
+use Rattle.state.specs.With.{withControl, withOutputs, withInputs, withReply}
 use Rattle.station.specs.Stepped.{Stepped}
 use Rattle.station.specs.Deeds.{begun, busy, isOpen, diagnosisLeaves, diagnosisChanged, carried, settle}
 use Rattle.station.specs.Replies.{noReply}

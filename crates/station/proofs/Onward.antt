@@ -8,7 +8,7 @@ use Rattle.telegram.specs.declared.reader.Phase.{Phase}
 use Rattle.telegram.specs.declared.reader.Phase.the-variants.{Start, Le, LeAgain, SdAgain, Da, Sa, Fc, Dsap, Ssap, Body, End, Done, Off}
 use Rattle.telegram.specs.declared.reader.Reader.{Reader}
 use Rattle.telegram.specs.declared.reader.Status.the-variants.{Inside, Broken}
-use Rattle.telegram.specs.Reading.{rd, moved, off, start, okAt, nextAt, step, runFrom, run, status, inBody, takesData, gathered}
+use Rattle.telegram.specs.Reading.{rd, moved, off, start, okAt, nextAt, step, runFrom, run, statusAt, status, inBody, takesData, gathered}
 use Rattle.telegram.proofs.Run.{no-true}
 
 -- before the data
@@ -113,11 +113,54 @@ module _ (r : Reader) (b : ℕ) (e : takesData r ≡ true) where
       go true h = no-true (sym (head-takes (r .phase) (ltb (r .at) (r .count)) h) ∙ e)
       go false h = refl
 
+  pub data-inside : status r ≡ Inside
+  data-inside = go (r .phase) (ltb (r .at) (r .count)) e
+    where
+      go : (p : Phase) (c : Bool) → inBody p && c ≡ true → statusAt p ≡ Inside
+      go Start c e = no-true e
+      go Le c e = no-true e
+      go LeAgain c e = no-true e
+      go SdAgain c e = no-true e
+      go Da c e = no-true e
+      go Sa c e = no-true e
+      go Fc c e = no-true e
+      go Dsap c e = no-true e
+      go Ssap c e = no-true e
+      go Body c e = refl
+      go End c e = no-true e
+      go Done c e = no-true e
+      go Off c e = no-true e
+
   pub data-goes-on : status (step r b) ≡ Inside
   unfolding step
   data-goes-on = go (r .phase) (ltb (r .at) (r .count)) refl e
     where
       go : (p : Phase) (c : Bool) → ltb (r .at) (r .count) ≡ c → inBody p && c ≡ true → status (cond (okAt p r b) (nextAt p r b) off) ≡ Inside
+      go Start c f e = no-true e
+      go Le c f e = no-true e
+      go LeAgain c f e = no-true e
+      go SdAgain c f e = no-true e
+      go Da c f e = no-true e
+      go Sa c f e = no-true e
+      go Fc c f e = no-true e
+      go Dsap c f e = no-true e
+      go Ssap c f e = no-true e
+      go Body true f e = rw f
+      go Body false f e = no-true e
+      go End c f e = no-true e
+      go Done c f e = no-true e
+      go Off c f e = no-true e
+
+  -- it changes how many were read and the checksum, and nothing else of the reader
+  pub data-changes : rd (r .phase) (r .kind) (r .count) (step r b .at) (r .da) (r .sa) (r .fc) (r .dsap) (r .ssap) (step r b .sum) ≡ step r b
+  unfolding step
+  data-changes = go (r .phase) (ltb (r .at) (r .count)) refl e
+    where
+      after : Phase → Reader
+      after p = cond (okAt p r b) (nextAt p r b) off
+
+      go : (p : Phase) (c : Bool) → ltb (r .at) (r .count) ≡ c → inBody p && c ≡ true
+          → rd p (r .kind) (r .count) (after p .at) (r .da) (r .sa) (r .fc) (r .dsap) (r .ssap) (after p .sum) ≡ after p
       go Start c f e = no-true e
       go Le c f e = no-true e
       go LeAgain c f e = no-true e

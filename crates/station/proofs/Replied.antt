@@ -7,7 +7,7 @@ use Rattle.state.specs.declared.state.Reply.{Reply}
 use Rattle.state.specs.declared.state.State.{State}
 use Rattle.ledger.specs.Ledger.{Line, Ledger, withLine}
 use Rattle.station.specs.Safe.{Safe}
-use Rattle.station.specs.With.{withReply}
+use Rattle.state.specs.With.{withReply}
 use Rattle.station.proofs.Relation.{ReplyAgrees, Agrees}
 use Rattle.station.proofs.Stays.{gathered-stays}
 

@@ -37,7 +37,7 @@ use Rattle.rules.specs.Line.{settled, ticked}
 use Rattle.rules.specs.Diagnosis.{delayed, caughtUp}
 use Rattle.station.specs.Safe.{Safe}
 use Rattle.station.specs.Stepped.{Stepped, Steps, unchanged}
-use Rattle.station.specs.With.{withIncoming, withReply}
+use Rattle.state.specs.With.{withIncoming, withReply}
 use Rattle.station.specs.Replies.{noReply, replyFor, askedFor}
 use Rattle.station.specs.Reading.{storedData, keptOctets, readBy, storedAs, requestBy, outcomeOf, answered, completed, beginning, heardAs, isIgnored, heard}
 use Rattle.station.specs.Bus.{paused, sentBy, sendLeft, silencedReader, elapsed}

@@ -24,7 +24,7 @@ use Rattle.rules.specs.Line.{settled}
 use Rattle.ledger.specs.Ledger.{Line, Ledger, withLine, busy, diagnosisLeaves}
 use Rattle.ledger.specs.Deeds as ledger
 use Rattle.ledger.specs.Bus as bus
-use Rattle.station.specs.With.{withReply}
+use Rattle.state.specs.With.{withReply}
 use Rattle.station.specs.Stepped.{Stepped, unchanged}
 use Rattle.station.specs.Deeds.{settle}
 use Rattle.station.specs.Replies.{contentAt, pointOf, isExchange, datumAt, askedAs, askedFor}

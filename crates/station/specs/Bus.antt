@@ -9,7 +9,7 @@ use Rattle.telegram.specs.Sending.{left, sent}
 use Rattle.state.specs.declared.state.Reply.{Reply}
 use Rattle.state.specs.declared.state.State.{State}
 use Rattle.rules.specs.Line.{ticked}
-use Rattle.station.specs.With.{withReply}
+use Rattle.state.specs.With.{withReply}
 use Rattle.station.specs.Stepped.{Stepped, unchanged}
 use Rattle.station.specs.Deeds.{begun, busy, carried, settle}
 use Rattle.station.specs.Replies.{noReply, askedFor}

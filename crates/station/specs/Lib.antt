@@ -1,4 +1,3 @@
-pub mod With
 pub mod Safe
 pub mod Stepped
 pub mod Deeds

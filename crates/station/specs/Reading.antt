@@ -1,6 +1,6 @@
 -- The bus's octet: a telegram's data goes into the fill buffer that its header names, as it comes.
 use Prim.Native.Nat.{ℕ, _+_}
-use mathlib.Core.Bool.{Bool, true, false, cond}
+use mathlib.Core.Bool.{Bool, true, false, cond, not, _&&_}
 use mathlib.Core.List.{List}
 use lib.Dec.{eqb, ltb}
 use lib.ListN.{getD}
@@ -11,7 +11,7 @@ use Rattle.telegram.specs.declared.Datum.the-variants.{Number, Nothing}
 use Rattle.telegram.specs.declared.reader.Reader.{Reader}
 use Rattle.telegram.specs.declared.reader.Status.{Status}
 use Rattle.telegram.specs.declared.reader.Status.the-variants.{Fresh, Inside, Complete, Broken}
-use Rattle.telegram.specs.Reading.{off, received, status, datumOf}
+use Rattle.telegram.specs.Reading.{off, received, status, takesData, datumOf}
 use Rattle.state.specs.declared.setup.Setup.{Setup}
 use Rattle.state.specs.declared.state.Incoming.{Incoming}
 use Rattle.state.specs.declared.state.State.{State}
@@ -21,9 +21,9 @@ use Rattle.rules.specs.declared.request.Prm.{Prm}
 use Rattle.rules.specs.declared.outcome.Outcome.{Outcome}
 use Rattle.rules.specs.Requests.{masterOf, refilled, serviceOf}
 use Rattle.rules.specs.Services.{serve}
-use Rattle.station.specs.With.{withIncoming, withReply}
+use Rattle.state.specs.With.{withIncoming, withReply}
 use Rattle.station.specs.Stepped.{Stepped, unchanged}
-use Rattle.station.specs.Deeds.{begun, isOpen, onState, carried, settle}
+use Rattle.station.specs.Deeds.{isInside, begun, isOpen, onState, carried, settle}
 use Rattle.station.specs.Replies.{noReply, replyFor}
 
 -- data octet k goes into the fill buffer of the set that the header names. Storing depends on the header alone, since a
@@ -42,9 +42,13 @@ storedData s m k b =
 abbrev pub keptOctets : Incoming → Reader → ℕ → ℕ → Incoming
 keptOctets i r k b = record { reader = r; first = cond (eqb k 0) b (i .first); second = cond (eqb k 1) b (i .second) }
 
--- the reader goes on; nothing else of the state changes
+-- the reader goes on; the octets kept stay
+abbrev pub readOn : Incoming → Reader → Incoming
+readOn i r = record { reader = r; first = i .first; second = i .second }
+
+-- nothing else of the state changes
 abbrev pub readBy : State → Reader → State
-readBy s r = withIncoming s (record { reader = r; first = s .incoming .first; second = s .incoming .second })
+readBy s r = withIncoming s (readOn (s .incoming) r)
 
 -- an inner octet, by what the reader told of it before
 abbrev pub storedAs : Datum → State → List ℕ → Reader → ℕ → Stepped
@@ -110,6 +114,10 @@ isIgnored Fresh = false
 isIgnored Inside = false
 isIgnored Complete = true
 isIgnored Broken = true
+
+-- an octet is inner and no data, by the reader before it and after it
+abbrev pub isPlain : Reader → Reader → Bool
+isPlain r next = isInside (status r) && isInside (status next) && not (takesData r)
 
 -- the bus's octet
 unfoldable pub heard : State → List ℕ → ℕ → Bool → Stepped

@@ -4,6 +4,7 @@ use mathlib.Core.Path.{_≡_}
 use mathlib.Core.List.{List}
 use Rattle.state.specs.declared.answer.Answer.{Answer}
 use Rattle.state.specs.declared.state.State.{State}
+use Rattle.state.specs.Memory.{kept}
 
 -- the state and the memory behind the state part
 pub record Stepped : Type 0 where
@@ -17,3 +18,7 @@ pub record Steps (r : Stepped) (s : State) (m : List ℕ) : Type 0 where
 
 abbrev pub unchanged : State → List ℕ → Stepped
 unchanged s m = record { state = s; memory = m }
+
+-- the memory with the state packed in front again
+abbrev pub packedAfter : Stepped → List ℕ
+packedAfter r = kept (r .state) (r .memory)

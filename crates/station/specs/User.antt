@@ -20,7 +20,7 @@ use Rattle.rules.specs.Diagnosis.{delayed, diagnosed, delaying}
 use Rattle.rules.specs.Line.{clearOn}
 use Rattle.rules.specs.User.{judgedParameters, judgedConfiguration}
 use Rattle.ledger.specs.User.{lengthOf, inRange, writable}
-use Rattle.station.specs.With.{withControl, withOutputs, withInputs}
+use Rattle.state.specs.With.{withControl, withOutputs, withInputs}
 use Rattle.station.specs.Stepped.{Stepped, unchanged}
 use Rattle.station.specs.Deeds.{busy, isOpen, diagnosisLeaves, diagnosisChanged, carried}
 use Rattle.station.specs.Replies.{userPlace}

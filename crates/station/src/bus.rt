@@ -3,17 +3,27 @@ use crate::deeds::begun;
 use crate::deeds::busy;
 use crate::deeds::carry_out;
 use crate::deeds::settle;
+use crate::deeds::waits;
 use crate::reading::read_by;
+use crate::reading::read_on;
 use crate::replies::asked_for;
 use crate::replies::no_reply;
 use rules::line::ticked;
+use state::image::save;
+use state::load;
+use state::saving::save_incoming;
+use state::saving::save_sender;
 use state::state::Reply;
 use state::state::State;
 use telegram::reader::Reader;
 use telegram::sender::Sender;
 ghost use mathlib.Core.Path.{_≡_};
+ghost use Rattle.state.specs.Memory.{Holds};
+ghost use Rattle.state.specs.Unpack.{unpacked};
+ghost use Rattle.state.specs.With.{withSender};
 ghost use Rattle.station.specs.Safe.{Safe};
-ghost use Rattle.station.specs.Stepped.{Steps};
+ghost use Rattle.station.specs.Stepped.{Steps, packedAfter};
+ghost use Rattle.station.specs.Deeds.{settle};
 ghost use Rattle.station.specs.Bus.{paused, sentBy, sendTold, sendLeft, silencedReader, elapsed};
 
 // A gap: the next octet may begin a telegram.
@@ -24,10 +34,18 @@ pub fn pause(s: State, mem: &mut [u8]) -> State
     settle(read_by(s, Reader::start()), mem)
 }
 
-// The next octet of the reply, or 256, and the state after it.
-pub struct SendStep {
-    pub told: u16,
-    pub state: State,
+// A gap over the memory. Nearly always nothing waits for it, and only the reader is packed.
+pub fn gap(mem: &mut [u8])
+    requires { ⌜ Holds (now mem) (unpacked (now mem)) ⌝ }
+    ensures { λ _. ⌜ now (mem .exit) ≡ packedAfter (paused (unpacked (now (mem .entry))) (now (mem .entry))) ⌝ }
+{
+    if waits(&mem[..]) {
+        let t = pause(load::unpack(&mem[..]), mem);
+        save(t, mem);
+        return;
+    }
+    let old = load::incoming(&mem[..]);
+    save_incoming(read_on(old, Reader::start()), mem);
 }
 
 // The reply with its sender gone on.
@@ -44,27 +62,35 @@ fn sent_by(reply: Reply, sender: Sender) -> Reply
     }
 }
 
-// Send answers the next octet of the reply, 256 when no octet is left.
-pub fn send(s: State, mem: &mut [u8]) -> SendStep
-    requires { ⌜ Safe s (now mem) ⌝ }
-    ensures { λ r. ⌜ (r .told ≡ sendTold s (now (mem .entry))) × (Steps (sendLeft s (now (mem .entry))) (r .state) (now (mem .exit))) ⌝ }
+// The sender gone on. Nearly always nothing waits for the end of a reply, and only the sender is packed.
+fn go_on(mem: &mut [u8], sender: Sender)
+    requires { ⌜ Holds (now mem) (unpacked (now mem)) ⌝ }
+    ensures { λ _. ⌜ now (mem .exit) ≡ packedAfter (settle (withSender (unpacked (now (mem .entry))) sender) (now (mem .entry))) ⌝ }
 {
-    let sender = s.reply.sender;
+    if waits(&mem[..]) {
+        let mut t = load::unpack(&mem[..]);
+        t.reply = sent_by(t.reply, sender);
+        let settled = settle(t, mem);
+        save(settled, mem);
+        return;
+    }
+    save_sender(sender, mem);
+}
+
+// Send answers the next octet of the reply, 256 when no octet is left.
+pub fn send(mem: &mut [u8]) -> u16
+    requires { ⌜ Holds (now mem) (unpacked (now mem)) ⌝ }
+    ensures { λ r. ⌜ (r ≡ sendTold (unpacked (now (mem .entry))) (now (mem .entry))) × (now (mem .exit) ≡ packedAfter (sendLeft (unpacked (now (mem .entry))) (now (mem .entry)))) ⌝ }
+{
+    let reply = load::reply(&mem[..]);
+    let sender = reply.sender;
     if !sender.left() {
-        return SendStep {
-            told: 256,
-            state: s,
-        };
+        return 256;
     }
-    let datum = asked_for(s, &mem[..]);
+    let datum = asked_for(&mem[..]);
     let sent = sender.send(datum);
-    let mut t = s;
-    t.reply = sent_by(s.reply, sent.sender);
-    let state = settle(t, mem);
-    SendStep {
-        told: sent.octet as u16,
-        state,
-    }
+    go_on(mem, sent.sender);
+    sent.octet as u16
 }
 
 // The reading that a Tick leaves: a telegram that is coming is dropped.

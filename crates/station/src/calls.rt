@@ -1,12 +1,14 @@
-// Each call over the lent memory: refused with 5 where it is damaged, else the state is unpacked, the step made and the
-// state packed again.
+// Each call over the lent memory: refused with 5 where it is damaged, else the step is made on the state that the memory
+// holds. The calls of every octet read and write only what they need of it; the others unpack it, make the step and pack it
+// again.
 use crate::bus;
 use crate::reading;
 use crate::user;
 use state::answer::Answer;
 use state::answer::Refusal;
 use state::image::save;
-use state::memory::load;
+use state::load;
+use state::memory::is_well;
 ghost use Rattle.state.specs.Answer.{Meets};
 ghost use Rattle.ledger.specs.Calls.{octet, gap, send, tick, take, read, write, hand-over, new-diagnosis, judge-parameters, judge-configuration, events, acknowledge, pending, leave};
 ghost use Rattle.station.specs.Calls.{called};
@@ -15,12 +17,10 @@ ghost use Rattle.station.specs.Calls.{called};
 pub fn octet(mem: &mut [u8], value: u8, bad: bool) -> Answer
     ensures { λ r. ⌜ Meets (called (now (mem .entry)) (octet value bad)) r (now (mem .exit)) ⌝ }
 {
-    let loaded = load(&mem[..]);
-    if !loaded.ok {
+    if !is_well(&mem[..]) {
         return Answer::Refused(Refusal::Damaged);
     }
-    let t = reading::hear(loaded.state, mem, value, bad);
-    save(t, mem);
+    reading::hear_octet(mem, value, bad);
     Answer::Value(0)
 }
 
@@ -28,12 +28,10 @@ pub fn octet(mem: &mut [u8], value: u8, bad: bool) -> Answer
 pub fn gap(mem: &mut [u8]) -> Answer
     ensures { λ r. ⌜ Meets (called (now (mem .entry)) gap) r (now (mem .exit)) ⌝ }
 {
-    let loaded = load(&mem[..]);
-    if !loaded.ok {
+    if !is_well(&mem[..]) {
         return Answer::Refused(Refusal::Damaged);
     }
-    let t = bus::pause(loaded.state, mem);
-    save(t, mem);
+    bus::gap(mem);
     Answer::Value(0)
 }
 
@@ -41,24 +39,21 @@ pub fn gap(mem: &mut [u8]) -> Answer
 pub fn send(mem: &mut [u8]) -> Answer
     ensures { λ r. ⌜ Meets (called (now (mem .entry)) send) r (now (mem .exit)) ⌝ }
 {
-    let loaded = load(&mem[..]);
-    if !loaded.ok {
+    if !is_well(&mem[..]) {
         return Answer::Refused(Refusal::Damaged);
     }
-    let step = bus::send(loaded.state, mem);
-    save(step.state, mem);
-    Answer::Value(step.told as u32)
+    let told = bus::send(mem);
+    Answer::Value(told as u32)
 }
 
 // A Tick: 10 ms.
 pub fn tick(mem: &mut [u8]) -> Answer
     ensures { λ r. ⌜ Meets (called (now (mem .entry)) tick) r (now (mem .exit)) ⌝ }
 {
-    let loaded = load(&mem[..]);
-    if !loaded.ok {
+    if !is_well(&mem[..]) {
         return Answer::Refused(Refusal::Damaged);
     }
-    let t = bus::elapse(loaded.state, mem);
+    let t = bus::elapse(load::unpack(&mem[..]), mem);
     save(t, mem);
     Answer::Value(0)
 }
@@ -67,11 +62,10 @@ pub fn tick(mem: &mut [u8]) -> Answer
 pub fn take(mem: &mut [u8]) -> Answer
     ensures { λ r. ⌜ Meets (called (now (mem .entry)) take) r (now (mem .exit)) ⌝ }
 {
-    let loaded = load(&mem[..]);
-    if !loaded.ok {
+    if !is_well(&mem[..]) {
         return Answer::Refused(Refusal::Damaged);
     }
-    let step = user::take_outputs(loaded.state);
+    let step = user::take_outputs(load::unpack(&mem[..]));
     save(step.state, mem);
     step.answer
 }
@@ -80,33 +74,30 @@ pub fn take(mem: &mut [u8]) -> Answer
 pub fn read(mem: &mut [u8], kind: u32, index: u32) -> Answer
     ensures { λ r. ⌜ Meets (called (now (mem .entry)) (read kind index)) r (now (mem .exit)) ⌝ }
 {
-    let loaded = load(&mem[..]);
-    if !loaded.ok {
+    if !is_well(&mem[..]) {
         return Answer::Refused(Refusal::Damaged);
     }
-    user::read_octet(loaded.state, &mem[..], kind, index)
+    user::read_octet(&mem[..], kind, index)
 }
 
 // Write an octet of kind 4 or 5.
 pub fn write(mem: &mut [u8], kind: u32, index: u32, value: u8) -> Answer
     ensures { λ r. ⌜ Meets (called (now (mem .entry)) (write kind index value)) r (now (mem .exit)) ⌝ }
 {
-    let loaded = load(&mem[..]);
-    if !loaded.ok {
+    if !is_well(&mem[..]) {
         return Answer::Refused(Refusal::Damaged);
     }
-    user::write_octet(loaded.state, mem, kind, index, value)
+    user::write_octet(mem, kind, index, value)
 }
 
 // Hand over inputs: they come next.
 pub fn hand_over(mem: &mut [u8]) -> Answer
     ensures { λ r. ⌜ Meets (called (now (mem .entry)) hand-over) r (now (mem .exit)) ⌝ }
 {
-    let loaded = load(&mem[..]);
-    if !loaded.ok {
+    if !is_well(&mem[..]) {
         return Answer::Refused(Refusal::Damaged);
     }
-    save(user::hand_over(loaded.state), mem);
+    save(user::hand_over(load::unpack(&mem[..])), mem);
     Answer::Value(0)
 }
 
@@ -114,11 +105,10 @@ pub fn hand_over(mem: &mut [u8]) -> Answer
 pub fn new_diagnosis(mem: &mut [u8], count: u32, flags: u32) -> Answer
     ensures { λ r. ⌜ Meets (called (now (mem .entry)) (new-diagnosis count flags)) r (now (mem .exit)) ⌝ }
 {
-    let loaded = load(&mem[..]);
-    if !loaded.ok {
+    if !is_well(&mem[..]) {
         return Answer::Refused(Refusal::Damaged);
     }
-    let step = user::new_diagnosis(loaded.state, count, flags);
+    let step = user::new_diagnosis(load::unpack(&mem[..]), count, flags);
     save(step.state, mem);
     step.answer
 }
@@ -127,11 +117,10 @@ pub fn new_diagnosis(mem: &mut [u8], count: u32, flags: u32) -> Answer
 pub fn judge_parameters(mem: &mut [u8], judgement: u32) -> Answer
     ensures { λ r. ⌜ Meets (called (now (mem .entry)) (judge-parameters judgement)) r (now (mem .exit)) ⌝ }
 {
-    let loaded = load(&mem[..]);
-    if !loaded.ok {
+    if !is_well(&mem[..]) {
         return Answer::Refused(Refusal::Damaged);
     }
-    let step = user::judge_parameters(loaded.state, mem, judgement);
+    let step = user::judge_parameters(load::unpack(&mem[..]), mem, judgement);
     save(step.state, mem);
     step.answer
 }
@@ -140,11 +129,10 @@ pub fn judge_parameters(mem: &mut [u8], judgement: u32) -> Answer
 pub fn judge_configuration(mem: &mut [u8], judgement: u32) -> Answer
     ensures { λ r. ⌜ Meets (called (now (mem .entry)) (judge-configuration judgement)) r (now (mem .exit)) ⌝ }
 {
-    let loaded = load(&mem[..]);
-    if !loaded.ok {
+    if !is_well(&mem[..]) {
         return Answer::Refused(Refusal::Damaged);
     }
-    let step = user::judge_configuration(loaded.state, mem, judgement);
+    let step = user::judge_configuration(load::unpack(&mem[..]), mem, judgement);
     save(step.state, mem);
     step.answer
 }
@@ -153,11 +141,10 @@ pub fn judge_configuration(mem: &mut [u8], judgement: u32) -> Answer
 pub fn events(mem: &mut [u8]) -> Answer
     ensures { λ r. ⌜ Meets (called (now (mem .entry)) events) r (now (mem .exit)) ⌝ }
 {
-    let loaded = load(&mem[..]);
-    if !loaded.ok {
+    if !is_well(&mem[..]) {
         return Answer::Refused(Refusal::Damaged);
     }
-    let events = loaded.state.control.events;
+    let events = load::events(&mem[..]);
     Answer::Value(events.word as u32)
 }
 
@@ -165,11 +152,10 @@ pub fn events(mem: &mut [u8]) -> Answer
 pub fn acknowledge(mem: &mut [u8], mask: u16) -> Answer
     ensures { λ r. ⌜ Meets (called (now (mem .entry)) (acknowledge mask)) r (now (mem .exit)) ⌝ }
 {
-    let loaded = load(&mem[..]);
-    if !loaded.ok {
+    if !is_well(&mem[..]) {
         return Answer::Refused(Refusal::Damaged);
     }
-    save(user::acknowledge(loaded.state, mask), mem);
+    save(user::acknowledge(load::unpack(&mem[..]), mask), mem);
     Answer::Value(0)
 }
 
@@ -177,11 +163,10 @@ pub fn acknowledge(mem: &mut [u8], mask: u16) -> Answer
 pub fn pending(mem: &mut [u8]) -> Answer
     ensures { λ r. ⌜ Meets (called (now (mem .entry)) pending) r (now (mem .exit)) ⌝ }
 {
-    let loaded = load(&mem[..]);
-    if !loaded.ok {
+    if !is_well(&mem[..]) {
         return Answer::Refused(Refusal::Damaged);
     }
-    let events = loaded.state.control.events;
+    let events = load::events(&mem[..]);
     Answer::Value(events.pending() as u32)
 }
 
@@ -189,10 +174,9 @@ pub fn pending(mem: &mut [u8]) -> Answer
 pub fn leave(mem: &mut [u8]) -> Answer
     ensures { λ r. ⌜ Meets (called (now (mem .entry)) leave) r (now (mem .exit)) ⌝ }
 {
-    let loaded = load(&mem[..]);
-    if !loaded.ok {
+    if !is_well(&mem[..]) {
         return Answer::Refused(Refusal::Damaged);
     }
-    save(user::leave(loaded.state, mem), mem);
+    save(user::leave(load::unpack(&mem[..]), mem), mem);
     Answer::Value(0)
 }

@@ -8,18 +8,25 @@ use rules::outcome::OutputsDeed;
 use rules::outcome::SetDeed;
 use state::control::Control;
 use state::layout::outputs_at;
+use state::load;
 use state::state::Drawn;
 use state::state::Outputs;
 use state::state::Sets;
 use state::state::State;
 use telegram::reader::Status;
+ghost use Prim.Native.Nat.{_≤_};
+ghost use mathlib.Core.Bool.{_||_};
 ghost use mathlib.Core.Path.{_≡_};
+ghost use lib.ListN.{length};
+ghost use Rattle.state.specs.Layout.{stateLength};
+ghost use Rattle.state.specs.Unpack.{unpacked};
+ghost use Rattle.rules.specs.Diagnosis.{delayed};
 ghost use Rattle.station.specs.Safe.{Safe};
 ghost use Rattle.station.specs.Stepped.{Steps};
 ghost use Rattle.ledger.specs.Replies.{diagnoses};
 ghost use Rattle.station.specs.Deeds.{isInside, begun, busy, diagnosisLeaves, isOpen, onOutputs, onInputs, receivedSet, onSets, onState, onMemory, carried, diagnosisChanged, afterReply, settle};
 
-fn is_inside(status: Status) -> bool
+pub fn is_inside(status: Status) -> bool
     ensures { λ r. ⌜ r ≡ isInside status ⌝ }
 {
     match status {
@@ -227,6 +234,15 @@ fn settle_waiting(s: State, mem: &mut [u8]) -> State
 {
     let t = after_reply(s);
     carry_out(t, mem, settled(busy(s), t.control), 0)
+}
+
+// Whether a diagnosis is delayed or a clear noted.
+pub fn waits(mem: &[u8]) -> bool
+    requires { ⌜ stateLength ≤ length (now mem) ⌝ }
+    ensures { λ r. ⌜ r ≡ delayed (unpacked (now (mem .entry)) .control) || unpacked (now (mem .entry)) .control .noted ⌝ }
+{
+    let diagnosis = load::diagnosis(mem);
+    !(diagnosis.delayed_count == 0) | load::noted(mem)
 }
 
 // The line settled. Nearly always nothing waits, and the state is left as it is.

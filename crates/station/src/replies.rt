@@ -5,6 +5,7 @@ use state::layout::diagnosis_at;
 use state::layout::get_cfg_at;
 use state::layout::inputs_at;
 use state::layout::outputs_at;
+use state::load;
 use state::setup::Setup;
 use state::state::Drawn;
 use state::state::Header;
@@ -17,7 +18,8 @@ ghost use Prim.Native.Nat.{_+_, _≤_};
 ghost use mathlib.Core.Path.{_≡_};
 ghost use lib.ListN.{length, getD};
 ghost use Rattle.octets.specs.Part.{part};
-ghost use Rattle.station.specs.Safe.{Safe};
+ghost use Rattle.state.specs.Memory.{Holds};
+ghost use Rattle.state.specs.Unpack.{unpacked};
 ghost use Rattle.ledger.specs.Replies.{exchangeFc};
 ghost use Rattle.station.specs.Replies.{noReply, servicing, senderFor, replyFor, ownPlace, userPlace, headerAt, contentAt, pointOf, isExchange, datumAt, askedFor};
 
@@ -140,34 +142,64 @@ fn octet_in(mem: &[u8], from: usize, len: u8, i: u8) -> u8
 }
 
 // Data octet i of a diagnosis reply behind DSAP and SSAP.
-fn diagnosis_octet(s: State, mem: &[u8], i: u8) -> u8
-    requires { ⌜ Safe s (now mem) ⌝ }
-    ensures { λ r. ⌜ r ≡ contentAt Drawn.Diagnosis s (now (mem .entry)) i ⌝ }
+fn diagnosis_octet(mem: &[u8], i: u8) -> u8
+    requires { ⌜ Holds (now mem) (unpacked (now mem)) ⌝ }
+    ensures { λ r. ⌜ r ≡ contentAt Drawn.Diagnosis (unpacked (now (mem .entry))) (now (mem .entry)) i ⌝ }
 {
+    let setup = load::setup(mem);
     if i < 6 {
-        let header = s.reply.header;
-        return header_at(header, s.setup.ident, i);
+        let reply = load::reply(mem);
+        let header = reply.header;
+        return header_at(header, setup.ident, i);
     }
-    let from = diagnosis_at(s.setup, own_place(s.swapped));
-    octet_in(mem, from, s.setup.diagnosis_len, i)
+    let from = diagnosis_at(setup, own_place(load::swapped(mem)));
+    octet_in(mem, from, setup.diagnosis_len, i)
+}
+
+// Octet i of the inputs that are sent.
+fn input_octet(mem: &[u8], i: u8) -> u8
+    requires { ⌜ Holds (now mem) (unpacked (now mem)) ⌝ }
+    ensures { λ r. ⌜ r ≡ contentAt Drawn.Inputs (unpacked (now (mem .entry))) (now (mem .entry)) i ⌝ }
+{
+    let setup = load::setup(mem);
+    let inputs = load::inputs(mem);
+    octet_in(mem, inputs_at(setup, inputs.fill()), setup.input_len, i)
+}
+
+// Octet i of the outputs that the reply leaves from.
+fn output_octet(mem: &[u8], i: u8) -> u8
+    requires { ⌜ Holds (now mem) (unpacked (now mem)) ⌝ }
+    ensures { λ r. ⌜ r ≡ contentAt Drawn.Outputs (unpacked (now (mem .entry))) (now (mem .entry)) i ⌝ }
+{
+    let setup = load::setup(mem);
+    let reply = load::reply(mem);
+    octet_in(mem, outputs_at(setup, reply.place), setup.output_len, i)
+}
+
+// Octet i of what Get_Cfg sends.
+fn get_cfg_octet(mem: &[u8], i: u8) -> u8
+    requires { ⌜ Holds (now mem) (unpacked (now mem)) ⌝ }
+    ensures { λ r. ⌜ r ≡ contentAt Drawn.Configuration (unpacked (now (mem .entry))) (now (mem .entry)) i ⌝ }
+{
+    let setup = load::setup(mem);
+    octet_in(mem, get_cfg_at(setup), setup.get_cfg_len, i)
 }
 
 // Data octet i of the reply behind DSAP and SSAP.
-fn content_at(drawn: Drawn, s: State, mem: &[u8], i: u8) -> u8
-    requires { ⌜ Safe s (now mem) ⌝ }
-    ensures { λ r. ⌜ r ≡ contentAt drawn s (now (mem .entry)) i ⌝ }
+fn content_at(drawn: Drawn, mem: &[u8], i: u8) -> u8
+    requires { ⌜ Holds (now mem) (unpacked (now mem)) ⌝ }
+    ensures { λ r. ⌜ r ≡ contentAt drawn (unpacked (now (mem .entry))) (now (mem .entry)) i ⌝ }
 {
-    let setup = s.setup;
     match drawn {
         Drawn::Nothing => 0,
         Drawn::Acknowledge => 0,
         Drawn::Status => 0,
         Drawn::Rejected => 0,
-        Drawn::Exchange => octet_in(mem, inputs_at(setup, s.inputs.fill()), setup.input_len, i),
-        Drawn::Inputs => octet_in(mem, inputs_at(setup, s.inputs.fill()), setup.input_len, i),
-        Drawn::Outputs => octet_in(mem, outputs_at(setup, s.reply.place), setup.output_len, i),
-        Drawn::Configuration => octet_in(mem, get_cfg_at(setup), setup.get_cfg_len, i),
-        Drawn::Diagnosis => diagnosis_octet(s, mem, i),
+        Drawn::Exchange => input_octet(mem, i),
+        Drawn::Inputs => input_octet(mem, i),
+        Drawn::Outputs => output_octet(mem, i),
+        Drawn::Configuration => get_cfg_octet(mem, i),
+        Drawn::Diagnosis => diagnosis_octet(mem, i),
     }
 }
 
@@ -205,14 +237,14 @@ fn is_exchange(drawn: Drawn) -> bool
 }
 
 // Data octet k of the reply: 3E and the service point first, but in the reply to Data_Exchange.
-fn datum_at(s: State, mem: &[u8], k: u8) -> u8
-    requires { ⌜ Safe s (now mem) ⌝ }
-    ensures { λ r. ⌜ r ≡ datumAt s (now (mem .entry)) k ⌝ }
+fn datum_at(mem: &[u8], k: u8) -> u8
+    requires { ⌜ Holds (now mem) (unpacked (now mem)) ⌝ }
+    ensures { λ r. ⌜ r ≡ datumAt (unpacked (now (mem .entry))) (now (mem .entry)) k ⌝ }
 {
-    let reply = s.reply;
+    let reply = load::reply(mem);
     let drawn = reply.drawn;
     if is_exchange(drawn) {
-        return content_at(Drawn::Exchange, s, mem, k);
+        return input_octet(mem, k);
     }
     if k == 0 {
         return 0x3E;
@@ -220,18 +252,19 @@ fn datum_at(s: State, mem: &[u8], k: u8) -> u8
     if k == 1 {
         return point_of(drawn);
     }
-    content_at(drawn, s, mem, k - 2)
+    content_at(drawn, mem, k - 2)
 }
 
-// The data octet that the sender asks for.
-pub fn asked_for(s: State, mem: &[u8]) -> u8
-    requires { ⌜ Safe s (now mem) ⌝ }
-    ensures { λ r. ⌜ r ≡ askedFor s (now (mem .entry)) ⌝ }
+// The data octet that the sender asks for, read where the memory has it: only what the reply needs is unpacked.
+pub fn asked_for(mem: &[u8]) -> u8
+    requires { ⌜ Holds (now mem) (unpacked (now mem)) ⌝ }
+    ensures { λ r. ⌜ r ≡ askedFor (unpacked (now (mem .entry))) (now (mem .entry)) ⌝ }
 {
-    let sender = s.reply.sender;
+    let reply = load::reply(mem);
+    let sender = reply.sender;
     let asked = sender.asks();
     match asked {
-        Datum::Number(k) => datum_at(s, mem, k),
+        Datum::Number(k) => datum_at(mem, k),
         Datum::Nothing => 0,
     }
 }

@@ -18,6 +18,7 @@ use state::layout::diagnosis_at;
 use state::layout::inputs_at;
 use state::layout::outputs_at;
 use state::layout::parameters_at;
+use state::load;
 use state::setup::Setup;
 use state::state::Outputs;
 use state::state::State;
@@ -27,6 +28,8 @@ ghost use mathlib.Core.List.{List};
 ghost use mathlib.Core.Path.{_≡_};
 ghost use lib.Dec.{eqb, leb};
 ghost use Rattle.ledger.specs.User.{lengthOf, inRange};
+ghost use Rattle.state.specs.Memory.{Holds};
+ghost use Rattle.state.specs.Unpack.{unpacked};
 ghost use Rattle.station.specs.Safe.{Safe};
 ghost use Rattle.station.specs.User.{Tells, told, refusing, absent, kindAt, takeOutputs, readOctet, writeOctet, handOver, newDiagnosis, judgeParameters, judgeConfiguration, acknowledgeEvents, leaveMaster};
 
@@ -129,60 +132,71 @@ fn past(count: u8, index: u32) -> bool
 }
 
 // Kind 2 or 3 with no set shown or at an index not below its count, kind 5 while a new diagnosis is delayed.
-fn absent(s: State, kind: u32, index: u32) -> bool
-    ensures { λ r. ⌜ r ≡ absent s kind index ⌝ }
+fn absent(mem: &[u8], kind: u32, index: u32) -> bool
+    requires { ⌜ Holds (now mem) (unpacked (now mem)) ⌝ }
+    ensures { λ r. ⌜ r ≡ absent (unpacked (now (mem .entry))) kind index ⌝ }
 {
-    ((kind == 2) & past(s.parameters.shown, index))
-        | ((kind == 3) & past(s.configuration.shown, index))
-        | ((kind == 5) & delayed(s.control))
+    let parameters = load::parameters(mem);
+    let configuration = load::configuration(mem);
+    let diagnosis = load::diagnosis(mem);
+    ((kind == 2) & past(parameters.shown, index))
+        | ((kind == 3) & past(configuration.shown, index))
+        | ((kind == 5) & !(diagnosis.delayed_count == 0))
 }
 
 // Where the octets of a kind begin.
-fn kind_at(s: State, kind: u32) -> usize
-    ensures { λ r. ⌜ r ≡ kindAt s kind ⌝ }
+fn kind_at(mem: &[u8], kind: u32) -> usize
+    requires { ⌜ Holds (now mem) (unpacked (now mem)) ⌝ }
+    ensures { λ r. ⌜ r ≡ kindAt (unpacked (now (mem .entry))) kind ⌝ }
 {
-    let setup = s.setup;
+    let setup = load::setup(mem);
     if kind == 1 {
-        return outputs_at(setup, s.outputs.set.held());
+        let outputs = load::outputs(mem);
+        return outputs_at(setup, outputs.set.held());
     }
     if kind == 2 {
-        return parameters_at(setup, s.parameters.set.held());
+        let parameters = load::parameters(mem);
+        return parameters_at(setup, parameters.set.held());
     }
     if kind == 3 {
-        return configuration_at(setup, s.configuration.set.held());
+        let configuration = load::configuration(mem);
+        return configuration_at(setup, configuration.set.held());
     }
     if kind == 4 {
-        return inputs_at(setup, s.inputs.held());
+        let inputs = load::inputs(mem);
+        return inputs_at(setup, inputs.held());
     }
-    diagnosis_at(setup, user_place(s.swapped))
+    diagnosis_at(setup, user_place(load::swapped(mem)))
 }
 
-// Reading answers the octet.
-pub fn read_octet(s: State, mem: &[u8], kind: u32, index: u32) -> Answer
-    requires { ⌜ Safe s (now mem) ⌝ }
-    ensures { λ r. ⌜ Tells (readOctet s (now (mem .entry)) kind index) r s (now (mem .entry)) ⌝ }
+// Reading answers the octet; only what its kind needs is unpacked.
+pub fn read_octet(mem: &[u8], kind: u32, index: u32) -> Answer
+    requires { ⌜ Holds (now mem) (unpacked (now mem)) ⌝ }
+    ensures { λ r. ⌜ Tells (readOctet (unpacked (now (mem .entry))) (now (mem .entry)) kind index) r (unpacked (now (mem .entry))) (now (mem .entry)) ⌝ }
 {
-    if !in_range(s.setup, kind, index) {
+    if !in_range(load::setup(mem), kind, index) {
         return Answer::Refused(Refusal::Range);
     }
-    if absent(s, kind, index) {
+    if absent(mem, kind, index) {
         return Answer::Refused(Refusal::Absent);
     }
-    Answer::Value(mem[kind_at(s, kind) + index as usize] as u32)
+    Answer::Value(mem[kind_at(mem, kind) + index as usize] as u32)
 }
 
 // Kinds 4 and 5 are written.
-pub fn write_octet(s: State, mem: &mut [u8], kind: u32, index: u32, octet: u8) -> Answer
-    requires { ⌜ Safe s (now mem) ⌝ }
-    ensures { λ r. ⌜ Tells (writeOctet s (now (mem .entry)) kind index octet) r s (now (mem .exit)) ⌝ }
+pub fn write_octet(mem: &mut [u8], kind: u32, index: u32, octet: u8) -> Answer
+    requires { ⌜ Holds (now mem) (unpacked (now mem)) ⌝ }
+    ensures { λ r. ⌜ Tells (writeOctet (unpacked (now (mem .entry))) (now (mem .entry)) kind index octet) r (unpacked (now (mem .entry))) (now (mem .exit)) ⌝ }
 {
-    if !(((kind == 4) | (kind == 5)) & in_range(s.setup, kind, index)) {
+    let setup = load::setup(&mem[..]);
+    if !(((kind == 4) | (kind == 5)) & in_range(setup, kind, index)) {
         return Answer::Refused(Refusal::Range);
     }
-    if absent(s, kind, index) {
+    if absent(&mem[..], kind, index) {
         return Answer::Refused(Refusal::Absent);
     }
-    mem[kind_at(s, kind) + index as usize] = octet;
+    let from = kind_at(&mem[..], kind);
+    mem[from + index as usize] = octet;
     Answer::Value(0)
 }
 

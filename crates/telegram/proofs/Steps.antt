@@ -1,15 +1,17 @@
 -- What a step leads to, by the facts that the code's tests give. Each answers one way out of a function of src/reader.rt.
 use Prim.Native.Nat.{ℕ, _+_, _-_, _%_, _≤_, _<_}
 use native.Mathlib.Omega.{arith}
-use mathlib.Core.Path.{_≡_, refl}
-use mathlib.Core.Bool.{true}
-use borrow.Author.Tests.{lt-ltb, le-ltb, le-leb, lt-leb, eq-eqb, ne-eqb}
+use mathlib.Core.Path.{_≡_, refl, sym, ap, _∙_}
+use mathlib.Core.Bool.{Bool, true, false, _&&_}
+use lib.Dec.{ltb}
+use borrow.Author.Tests.{ltb-true, lt-ltb, le-ltb, le-leb, lt-leb, eq-eqb, ne-eqb}
 use Rattle.telegram.specs.declared.Kind.the-variants.{Sd1, Sd2, Sd3, Sd4}
 use Rattle.telegram.specs.declared.Datum.the-variants.{Number, Nothing}
 use Rattle.telegram.specs.declared.reader.Phase.{Phase}
 use Rattle.telegram.specs.declared.reader.Phase.the-variants.{Start, Le, LeAgain, SdAgain, Da, Sa, Fc, Dsap, Ssap, Body, End, Done, Off}
 use Rattle.telegram.specs.declared.reader.Reader.{Reader}
-use Rattle.telegram.specs.Reading.{rd, before, moved, off, nextAt, afterFc, stepAt, step, inBody, datumOf}
+use Rattle.telegram.specs.Reading.{rd, before, moved, off, nextAt, afterFc, stepAt, step, inBody, takesData, datumOf}
+use Rattle.telegram.proofs.Run.{no-true}
 
 module _ (r : Reader) (b : ℕ) where
   pub start-sd1 : b ≡ 0x10 → before Da Sd1 0 ≡ stepAt Start r b
@@ -150,3 +152,28 @@ module _ (r : Reader) where
 
   pub datum-full : inBody (r .phase) ≡ true → r .count ≤ r .at → Nothing ≡ datumOf r
   datum-full e h = rw (e, le-ltb (r .at) (r .count) h)
+
+-- ---- a data octet
+
+in-body : (p : Phase) (c : Bool) → inBody p && c ≡ true → (p ≡ Body) × (c ≡ true)
+in-body Start c e = no-true e
+in-body Le c e = no-true e
+in-body LeAgain c e = no-true e
+in-body SdAgain c e = no-true e
+in-body Da c e = no-true e
+in-body Sa c e = no-true e
+in-body Fc c e = no-true e
+in-body Dsap c e = no-true e
+in-body Ssap c e = no-true e
+in-body Body c e = (refl, e)
+in-body End c e = no-true e
+in-body Done c e = no-true e
+in-body Off c e = no-true e
+
+module _ (r : Reader) (e : takesData r ≡ true) where
+  pub data-room : r .at < r .count
+  data-room = ltb-true (r .at) (r .count) (in-body (r .phase) (ltb (r .at) (r .count)) e .1)
+
+  pub data-step : (b : ℕ) → rd Body (r .kind) (r .count) (r .at + 1) (r .da) (r .sa) (r .fc) (r .dsap) (r .ssap) ((r .sum + b) % 256) ≡ step r b
+  unfolding step
+  data-step b = body-data r b data-room ∙ ap (λ (p : Phase). stepAt p r b) (sym (in-body (r .phase) (ltb (r .at) (r .count)) e .0))

@@ -2,7 +2,8 @@
 use crate::Datum;
 use crate::Kind;
 ghost use mathlib.Core.Path.{_≡_};
-ghost use Rattle.telegram.specs.Reading.{start, off, before, moved, summed, afterSa, afterFc, nextAt, stepAt, step, received, status, inBody, datumOf};
+ghost use mathlib.Core.Bool.{true};
+ghost use Rattle.telegram.specs.Reading.{start, off, before, moved, summed, afterSa, afterFc, nextAt, stepAt, step, received, status, inBody, takesData, datumOf};
 
 // What the next octet is.
 pub enum Phase {
@@ -108,6 +109,23 @@ impl Reader {
             return Datum::Nothing;
         }
         Datum::Nothing
+    }
+
+    // Whether the next octet is a data octet.
+    pub fn takes_data(self) -> bool
+        ensures { λ r. ⌜ r ≡ takesData self ⌝ }
+    {
+        let phase = self.phase;
+        in_body(phase) & (self.at < self.count)
+    }
+
+    // The step at a data octet, which most octets are.
+    pub fn take_data(mut self, b: u8) -> Reader
+        requires { ⌜ takesData self ≡ true ⌝ }
+        ensures { λ r. ⌜ r ≡ step self b ⌝ }
+    {
+        self.at = self.at + 1;
+        self.summed(b, Phase::Body)
     }
 
     pub fn step(self, b: u8) -> Reader

@@ -1,71 +1,68 @@
-use mathlib.Core.Path.{refl}
+-- `station::bus::send` meets its contract.
 use borrow.Author.Tests.{not-true, not-false}
+use Rattle.station.proofs.Calling.{holds-long}
+use Rattle.station.proofs.Leaving.{nothing-left, octet-left}
 use borrow.Author.Needs.{needs}
-use Rattle.station.specs.Bus.{sendTold, sendLeft}
-use Rattle.station.proofs.Safety.{safe-reply}
 use Rattle.station.proofs.bus.send.Statement.{statement}
 use Rattle.station.proofs.bus.send.Tie as tie
+
+reply-requires : tie.Need-reply-requires
+reply-requires c κs = holds-long _ _ (c .before .before .pre)
 
 left-requires : tie.Need-left-requires
 left-requires c κs = search needs
 
+same-length : tie.Need-same-length
+same-length c = search needs
+
 returns : tie.Need-returns
-unfolding sendTold sendLeft
 returns c =
-    rw (← c .before .left .ensures, not-true (c .before .left .result) (c .if1 .taken))
-    (refl, record { states = refl; leaves = refl })
+    nothing-left _ _ (c .before .before .before .before .before .before .pre)
+    (rw (c .before .left .ensures, c .before .before .before .reply .ensures)
+    at (not-true (c .before .left .result) (c .if1 .taken)))
 
 asked-for-requires : tie.Need-asked-for-requires
-asked-for-requires c κs = search needs
+asked-for-requires c κs = c .before .before .before .before .before .before .before .pre
 
 send-requires : tie.Need-send-requires
 send-requires c κs = search needs
 
-sent-by-requires : tie.Need-sent-by-requires
-sent-by-requires c κs = search needs
+go-on-requires : tie.Need-go-on-requires
+go-on-requires c κs = c .before .before .before .before .before .before .before .before .before .before .pre
 
-settle-requires : tie.Need-settle-requires
-settle-requires c κs =
-    rw (c .before .sent-by .ensures)
-    (safe-reply _ _ _ (c .before .before .before .before .before .before .before .before .before .pre .reply)
-    (c .before .before .before .before .before .before .before .before .before .pre))
+cast-result : tie.Need-cast-result
+cast-result c = search needs
 
-cast-t14 : tie.Need-cast-t14
-cast-t14 c = search needs
-
-same-length : tie.Need-same-length
-same-length c = search needs
+same-length-2 : tie.Need-same-length-2
+same-length-2 c = search needs
 
 returns-2 : tie.Need-returns-2
-unfolding sendTold sendLeft
 returns-2 c =
-    rw (
-      ← c .before .before .before .before .before .before .before .before .before .before .left .ensures,
-      not-false (c .before .before .before .before .before .before .before .before .before .before .left .result)
-          (c .before .before .before .before .before .before .before .before .before .if1 .left),
-    ) (
-      rw (
-        c .before .before .before .before .before .before .send .ensures,
-        c .before .before .before .before .before .before .before .asked-for .ensures,
-      ),
-      rw (
-        c .before .before .before .before .before .sent-by .ensures,
-        c .before .before .before .before .before .before .send .ensures,
-        c .before .before .before .before .before .before .before .asked-for .ensures,
-      )
-          at (c .before .before .before .settle .ensures),
+    octet-left _ _ _ _
+    (rw (
+      c .before .before .before .before .before .before .before .before .before .left .ensures,
+      c .before .before .before .before .before .before .before .before .before .before .before .reply .ensures,
     )
+    at (not-false (c .before .before .before .before .before .before .before .before .before .left .result)
+    (c .before .before .before .before .before .before .before .before .if1 .left)))
+    (rw (
+      c .before .before .before .before .before .send .ensures,
+      c .before .before .before .before .before .before .asked-for .ensures,
+      c .before .before .before .before .before .before .before .before .before .before .before .reply .ensures,
+    ))
+    (c .before .before .before .go-on .ensures)
 
 pub send-spec : {M : Type 1} → statement M
 send-spec =
     tie.close
     (tie.spec
+    reply-requires
     left-requires
+    same-length
     returns
     asked-for-requires
     send-requires
-    sent-by-requires
-    settle-requires
-    cast-t14
-    same-length
+    go-on-requires
+    cast-result
+    same-length-2
     returns-2)

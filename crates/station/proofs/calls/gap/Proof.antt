@@ -2,50 +2,33 @@
 use mathlib.Core.Path.{refl}
 use denote.Ref.{now}
 use Rattle.state.specs.Memory.{Holds}
-use Rattle.station.proofs.Calling.{holds-safe, holds-long, damaged, found, stepped, bus-tells}
+use Rattle.state.specs.Unpack.{unpacked}
+use Rattle.station.proofs.Calling.{damaged, found, on-memory}
 use borrow.Author.Needs.{needs}
 use Rattle.station.proofs.calls.gap.Statement.{statement}
 use Rattle.station.proofs.calls.gap.Tie as tie
 
-load-requires : tie.Need-load-requires
-load-requires c κs = search needs
+is-well-requires : tie.Need-is-well-requires
+is-well-requires c κs = search needs
 
 same-length : tie.Need-same-length
 same-length c = search needs
 
 returns : tie.Need-returns
-returns c = damaged _ _ _ (c .before .before .load .ensures) (c .if1 .taken)
+returns c = damaged _ _ _ (c .before .is-well .ensures) (c .if1 .taken)
 
--- the memory holds the state that was found
-there : (c : tie.Else1) → Holds (now (c .before .before .before .before .before .args .mem)) (c .before .before .load .result .state)
-there c =
-    found _ _ (c .before .before .before .before .slice-known .given) (c .before .before .load .ensures) (c .if1 .left)
+-- the memory holds a state
+there : (c : tie.Else1) → Holds (now (c .before .before .before .before .args .mem)) (unpacked (now (c .before .before .before .before .args .mem)))
+there c = found _ _ (c .before .before .before .slice-known .given) (c .before .is-well .ensures) (c .if1 .left)
 
-pause-requires : tie.Need-pause-requires
-pause-requires c κs = holds-safe _ _ (there (c .before))
-
-save-requires : tie.Need-save-requires
-save-requires c κs =
-    rw (c .before .before .before .pause .kept .1 .0)
-    (holds-long _ _ (there (c .before .before .before .before .before)))
+gap-requires : tie.Need-gap-requires
+gap-requires c κs = there (c .before)
 
 same-length-2 : tie.Need-same-length-2
 same-length-2 c = search needs
 
 returns-2 : tie.Need-returns-2
-returns-2 c =
-    let d = c .before .before .before .before .before .before in
-    stepped _ _ _ (there (d .before .before)) _ _ _ _ (bus-tells _ _ 0 _ _ refl (d .pause .ensures))
-    (c .before .before .save .ensures)
+returns-2 c = on-memory _ _ _ (there (c .before .before .before .before)) _ 0 _ _ refl refl (c .before .before .gap .ensures)
 
 pub gap-spec : {M : Type 1} → statement M
-gap-spec =
-    tie.close
-    (tie.spec
-    load-requires
-    same-length
-    returns
-    pause-requires
-    save-requires
-    same-length-2
-    returns-2)
+gap-spec = tie.close (tie.spec is-well-requires same-length returns gap-requires same-length-2 returns-2)

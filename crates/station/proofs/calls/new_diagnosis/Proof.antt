@@ -1,47 +1,39 @@
 -- `station::calls::new_diagnosis` meets its contract.
 use denote.Ref.{now}
 use Rattle.state.specs.Memory.{Holds}
-use Rattle.station.proofs.Calling.{holds-long, damaged, found, stepped}
+use Rattle.state.specs.Unpack.{unpacked}
+use Rattle.station.proofs.Calling.{damaged, found, holds-long, holding, stepped}
 use borrow.Author.Needs.{needs}
 use Rattle.station.proofs.calls.new_diagnosis.Statement.{statement}
 use Rattle.station.proofs.calls.new_diagnosis.Tie as tie
 
-load-requires : tie.Need-load-requires
-load-requires c κs = search needs
+is-well-requires : tie.Need-is-well-requires
+is-well-requires c κs = search needs
 
 same-length : tie.Need-same-length
 same-length c = search needs
 
 returns : tie.Need-returns
-returns c = damaged _ _ _ (c .before .before .load .ensures) (c .if1 .taken)
+returns c = damaged _ _ _ (c .before .is-well .ensures) (c .if1 .taken)
 
--- the memory holds the state that was found
-there : (c : tie.Else1) → Holds (now (c .before .before .before .before .before .args .mem)) (c .before .before .load .result .state)
-there c =
-    found _ _ (c .before .before .before .before .slice-known .given) (c .before .before .load .ensures) (c .if1 .left)
+-- the memory holds a state
+there : (c : tie.Else1) → Holds (now (c .before .before .before .before .args .mem)) (unpacked (now (c .before .before .before .before .args .mem)))
+there c = found _ _ (c .before .before .before .slice-known .given) (c .before .is-well .ensures) (c .if1 .left)
+
+unpack-requires : tie.Need-unpack-requires
+unpack-requires c κs = holds-long _ _ (there (c .before))
 
 new-diagnosis-requires : tie.Need-new-diagnosis-requires
 new-diagnosis-requires c κs = search needs
 
 save-requires : tie.Need-save-requires
-save-requires c κs = holds-long _ _ (there (c .before .before))
+save-requires c κs = holds-long _ _ (there (c .before .before .before .before))
 
 same-length-2 : tie.Need-same-length-2
 same-length-2 c = search needs
 
 returns-2 : tie.Need-returns-2
-returns-2 c =
-    let d = c .before .before .before .before in
-    stepped _ _ _ (there (d .before)) _ _ _ _ (d .new-diagnosis .ensures _) (c .before .before .save .ensures)
+returns-2 c = let d = c .before .before .before .before in stepped _ _ _ (holding _ _ (there (d .before .before .before)) (d .before .unpack .ensures)) _ _ _ _ (d .new-diagnosis .ensures _) (c .before .before .save .ensures)
 
 pub new-diagnosis-spec : {M : Type 1} → statement M
-new-diagnosis-spec =
-    tie.close
-    (tie.spec
-    load-requires
-    same-length
-    returns
-    new-diagnosis-requires
-    save-requires
-    same-length-2
-    returns-2)
+new-diagnosis-spec = tie.close (tie.spec is-well-requires same-length returns unpack-requires new-diagnosis-requires save-requires same-length-2 returns-2)

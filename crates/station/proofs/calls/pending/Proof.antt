@@ -1,42 +1,43 @@
 -- `station::calls::pending` meets its contract.
-use mathlib.Core.Path.{refl, ap}
+use mathlib.Core.Path.{refl, ap, _∙_}
 use denote.Ref.{now}
-use Rattle.state.specs.declared.answer.Answer.the-variants.{Value}
 use Rattle.state.specs.Memory.{Holds}
-use Rattle.station.proofs.Calling.{damaged, found, answered}
+use Rattle.state.specs.Unpack.{unpacked}
+use Rattle.state.specs.declared.answer.Answer.the-variants.{Value}
+use Rattle.buffers.specs.declared.events.Events.{Events}
+use Rattle.buffers.specs.Events.{pendingOf}
+use Rattle.station.proofs.Calling.{damaged, found, holds-long, answered}
 use borrow.Author.Needs.{needs}
 use Rattle.station.proofs.calls.pending.Statement.{statement}
 use Rattle.station.proofs.calls.pending.Tie as tie
 
-load-requires : tie.Need-load-requires
-load-requires c κs = search needs
+is-well-requires : tie.Need-is-well-requires
+is-well-requires c κs = search needs
 
 same-length : tie.Need-same-length
 same-length c = search needs
 
 returns : tie.Need-returns
-returns c = damaged _ _ _ (c .before .before .load .ensures) (c .if1 .taken)
+returns c = damaged _ _ _ (c .before .is-well .ensures) (c .if1 .taken)
 
--- the memory holds the state that was found
-there : (c : tie.Else1) → Holds (now (c .before .before .before .before .before .args .mem)) (c .before .before .load .result .state)
-there c =
-    found _ _ (c .before .before .before .before .slice-known .given) (c .before .before .load .ensures) (c .if1 .left)
+-- the memory holds a state
+there : (c : tie.Else1) → Holds (now (c .before .before .before .before .args .mem)) (unpacked (now (c .before .before .before .before .args .mem)))
+there c = found _ _ (c .before .before .before .slice-known .given) (c .before .is-well .ensures) (c .if1 .left)
+
+events-requires : tie.Need-events-requires
+events-requires c κs = holds-long _ _ (there (c .before))
 
 pending-requires : tie.Need-pending-requires
 pending-requires c κs = search needs
 
-cast-t9 : tie.Need-cast-t9
-cast-t9 c = search needs
+cast-t11 : tie.Need-cast-t11
+cast-t11 c = search needs
 
 same-length-2 : tie.Need-same-length-2
 same-length-2 c = search needs
 
 returns-2 : tie.Need-returns-2
-returns-2 c =
-    answered _ _ _ (there (c .before .before)) _
-    (record { answers = ap Value (c .pending .ensures); states = refl; leaves = refl })
+returns-2 c = answered _ _ _ (there (c .before .before .before)) _ (record { answers = ap Value (c .pending .ensures) ∙ ap (λ (x : Events). Value (pendingOf x)) (c .before .events .ensures); states = refl; leaves = refl })
 
 pub pending-spec : {M : Type 1} → statement M
-pending-spec =
-    tie.close
-    (tie.spec load-requires same-length returns pending-requires cast-t9 same-length-2 returns-2)
+pending-spec = tie.close (tie.spec is-well-requires same-length returns events-requires pending-requires cast-t11 same-length-2 returns-2)

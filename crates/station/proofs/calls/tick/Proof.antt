@@ -2,50 +2,39 @@
 use mathlib.Core.Path.{refl}
 use denote.Ref.{now}
 use Rattle.state.specs.Memory.{Holds}
-use Rattle.station.proofs.Calling.{holds-safe, holds-long, damaged, found, stepped, bus-tells}
+use Rattle.state.specs.Unpack.{unpacked}
+use Rattle.station.proofs.Calling.{damaged, found, holds-safe, holds-long, holding, stepped, bus-tells}
 use borrow.Author.Needs.{needs}
 use Rattle.station.proofs.calls.tick.Statement.{statement}
 use Rattle.station.proofs.calls.tick.Tie as tie
 
-load-requires : tie.Need-load-requires
-load-requires c κs = search needs
+is-well-requires : tie.Need-is-well-requires
+is-well-requires c κs = search needs
 
 same-length : tie.Need-same-length
 same-length c = search needs
 
 returns : tie.Need-returns
-returns c = damaged _ _ _ (c .before .before .load .ensures) (c .if1 .taken)
+returns c = damaged _ _ _ (c .before .is-well .ensures) (c .if1 .taken)
 
--- the memory holds the state that was found
-there : (c : tie.Else1) → Holds (now (c .before .before .before .before .before .args .mem)) (c .before .before .load .result .state)
-there c =
-    found _ _ (c .before .before .before .before .slice-known .given) (c .before .before .load .ensures) (c .if1 .left)
+-- the memory holds a state
+there : (c : tie.Else1) → Holds (now (c .before .before .before .before .args .mem)) (unpacked (now (c .before .before .before .before .args .mem)))
+there c = found _ _ (c .before .before .before .slice-known .given) (c .before .is-well .ensures) (c .if1 .left)
+
+unpack-requires : tie.Need-unpack-requires
+unpack-requires c κs = holds-long _ _ (there (c .before))
 
 elapse-requires : tie.Need-elapse-requires
-elapse-requires c κs = holds-safe _ _ (there (c .before))
+elapse-requires c κs = holds-safe _ _ (holding _ _ (there (c .before .before .before)) (c .before .unpack .ensures))
 
 save-requires : tie.Need-save-requires
-save-requires c κs =
-    rw (c .before .before .before .elapse .kept .1 .0)
-    (holds-long _ _ (there (c .before .before .before .before .before)))
+save-requires c κs = rw (c .before .before .before .elapse .kept .1 .0) (holds-long _ _ (there (c .before .before .before .before .before .before .before)))
 
 same-length-2 : tie.Need-same-length-2
 same-length-2 c = search needs
 
 returns-2 : tie.Need-returns-2
-returns-2 c =
-    let d = c .before .before .before .before .before .before in
-    stepped _ _ _ (there (d .before .before)) _ _ _ _ (bus-tells _ _ 0 _ _ refl (d .elapse .ensures))
-    (c .before .before .save .ensures)
+returns-2 c = let d = c .before .before .before .before .before .before in stepped _ _ _ (holding _ _ (there (d .before .before .before .before)) (d .before .before .unpack .ensures)) _ _ _ _ (bus-tells _ _ 0 _ _ refl (d .elapse .ensures)) (c .before .before .save .ensures)
 
 pub tick-spec : {M : Type 1} → statement M
-tick-spec =
-    tie.close
-    (tie.spec
-    load-requires
-    same-length
-    returns
-    elapse-requires
-    save-requires
-    same-length-2
-    returns-2)
+tick-spec = tie.close (tie.spec is-well-requires same-length returns unpack-requires elapse-requires save-requires same-length-2 returns-2)

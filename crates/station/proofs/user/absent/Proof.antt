@@ -1,9 +1,19 @@
 -- `station::user::absent` meets its contract.
-use mathlib.Core.Bool.{_&&_, _||_}
-use lib.Dec.{eqb}
+use mathlib.Core.Path.{_∙_}
+use mathlib.Core.Bool.{not, _&&_, _||_}
+use lib.Dec.{eqb, leb}
 use borrow.Author.Needs.{needs}
 use Rattle.station.proofs.user.absent.Statement.{statement}
 use Rattle.station.proofs.user.absent.Tie as tie
+
+parameters-requires : tie.Need-parameters-requires
+parameters-requires c κs = search needs
+
+configuration-requires : tie.Need-configuration-requires
+configuration-requires c κs = search needs
+
+diagnosis-requires : tie.Need-diagnosis-requires
+diagnosis-requires c κs = search needs
 
 past-requires : tie.Need-past-requires
 past-requires c κs = search needs
@@ -11,15 +21,23 @@ past-requires c κs = search needs
 past-requires-2 : tie.Need-past-requires-2
 past-requires-2 c κs = search needs
 
-delayed-requires : tie.Need-delayed-requires
-delayed-requires c κs = search needs
-
 returns : tie.Need-returns
 returns c =
-    let kind = c .before .before .before .args .kind in
+    let d = c .before .before .before in
+    let kind = d .before .before .before .before .args .kind in
+    let index = d .before .before .before .before .args .index in
     λ i.
-    (eqb kind 2 && c .before .before .past .ensures i) || (eqb kind 3 && c .before .past2 .ensures i)
-    || (eqb kind 5 && c .delayed .ensures i)
+    (eqb kind 2 && (c .before .before .past .ensures ∙ (λ j. leb (d .before .before .parameters .ensures j .shown) index)) i)
+    || (eqb kind 3 && (c .before .past2 .ensures ∙ (λ j. leb (d .before .configuration .ensures j .shown) index)) i)
+    || (eqb kind 5 && not (eqb (d .diagnosis .ensures i .«delayed_count») 0))
 
 pub absent-spec : {M : Type 1} → statement M
-absent-spec = tie.close (tie.spec past-requires past-requires-2 delayed-requires returns)
+absent-spec =
+    tie.close
+    (tie.spec
+    parameters-requires
+    configuration-requires
+    diagnosis-requires
+    past-requires
+    past-requires-2
+    returns)

@@ -2,7 +2,7 @@
 use mathlib.Core.Path.{refl}
 use Rattle.rules.specs.Control.{withEvents}
 use Rattle.station.specs.User.{acknowledgeEvents}
-use Rattle.station.specs.With.{withControl}
+use Rattle.state.specs.With.{withControl}
 use borrow.Author.Needs.{needs}
 use Rattle.station.proofs.user.acknowledge.Statement.{statement}
 use Rattle.station.proofs.user.acknowledge.Tie as tie

@@ -1,7 +1,7 @@
 -- `station::user::hand_over` meets its contract.
 use mathlib.Core.Path.{refl}
 use Rattle.station.specs.User.{handOver}
-use Rattle.station.specs.With.{withInputs}
+use Rattle.state.specs.With.{withInputs}
 use borrow.Author.Needs.{needs}
 use Rattle.station.proofs.user.hand_over.Statement.{statement}
 use Rattle.station.proofs.user.hand_over.Tie as tie

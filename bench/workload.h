@@ -1,0 +1,48 @@
+/*
+ * The workload that is measured: whole cycles of Data_Exchange with 32 outputs and 32 inputs, and the vat program's
+ * calls in between, all by the exported calls on one memory.
+ *
+ * Each place that a call comes from is a function of its own, since valgrind tells calls apart by their caller.
+ */
+#ifndef WORKLOAD_H
+#define WORKLOAD_H
+
+#include "dp.h"
+#include "refusals.h"
+
+/* A place: never merged into its caller or with another place. */
+#define PLACE static __attribute__((noinline, noclone, no_icf))
+
+enum { OUTPUTS = 32, INPUTS = 32, DIAGNOSIS_LEN = 16 };
+
+/* SD2: 68 LE LE 68 DA SA FC, the data, FCS 16. */
+enum { HEADER = 7, END = 2, TELEGRAM = HEADER + OUTPUTS + END, REPLY = HEADER + INPUTS + END };
+
+/* The memory that the station of the workload lives in. */
+extern uint8_t memory[DP_MEMORY_MIN];
+#define MEMORY memory, sizeof memory
+
+/* A call's answer; a refusal ends the program. */
+int64_t granted(const char *call, int64_t answer);
+#define CALL(call) granted(#call, call)
+
+/* A benchmark of a station that answers wrongly would be worth nothing. */
+void expect(const char *what, int64_t found, int64_t expected);
+
+/* How many cycles the program is to run, by its only argument, or `otherwise`; a wrong argument ends it. */
+unsigned cycles_asked_for(int argc, char **argv, unsigned otherwise);
+
+/* From any memory into the exchange. */
+void start_up(void);
+
+/* The same, and inputs are handed over: cycle 1 may follow. */
+void begin_exchange(void);
+
+/* The telegram that brings the outputs of a cycle. */
+void fill_request(uint8_t *t, unsigned cycle);
+
+/* A cycle: all of it, or the telegram alone. */
+void whole_cycle(unsigned cycle);
+void receive_telegram(unsigned cycle);
+
+#endif

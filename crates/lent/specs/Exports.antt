@@ -1,0 +1,14 @@
+-- What the exported bench loop promises: whether the memory held a state, and the whole memory after the call.
+use Prim.Native.Nat.{ℕ}
+use mathlib.Core.Path.{_≡_}
+use mathlib.Core.Bool.{cond}
+use mathlib.Core.List.{List}
+use lib.IntN.{ℤ, pos}
+use Rattle.state.specs.Memory.{wellMemory}
+use Rattle.ledger.specs.Calls.{Call}
+use Rattle.lent.specs.Run.{left}
+
+-- 1 for a memory m that holds a state and 0 for any other; the memory that the exported calls cs leave
+pub record Returns (m : List ℕ) (cs : List Call) (number : ℤ) (memory : List ℕ) : Type 0 where
+  pub numbers : number ≡ pos (cond (wellMemory m) 1 0)
+  pub leaves : memory ≡ left m cs

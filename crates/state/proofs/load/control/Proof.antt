@@ -1,0 +1,65 @@
+-- `state::load::control` meets its contract.
+use lib.ListN.{getD}
+use denote.Ref.{now}
+use Rattle.state.specs.Unpack.{unpacked}
+use borrow.Author.Needs.{needs}
+use Rattle.state.proofs.load.control.Statement.{statement}
+use Rattle.state.proofs.load.control.Tie as tie
+
+word-at-requires : tie.Need-word-at-requires
+word-at-requires c κs = search needs
+
+word-at-requires-2 : tie.Need-word-at-requires-2
+word-at-requires-2 c κs = search needs
+
+shared-slice-read-phase-numbered : tie.Need-shared-slice-read-phase-numbered
+shared-slice-read-phase-numbered c = search needs
+
+phase-numbered-requires : tie.Need-phase-numbered-requires
+phase-numbered-requires c κs = search needs
+
+shared-slice-read-t8 : tie.Need-shared-slice-read-t8
+shared-slice-read-t8 c = search needs
+
+shared-slice-read-t10 : tie.Need-shared-slice-read-t10
+shared-slice-read-t10 c = search needs
+
+shared-slice-read-t12 : tie.Need-shared-slice-read-t12
+shared-slice-read-t12 c = search needs
+
+shared-slice-read-flags-in : tie.Need-shared-slice-read-flags-in
+shared-slice-read-flags-in c = search needs
+
+flags-in-requires : tie.Need-flags-in-requires
+flags-in-requires c κs = search needs
+
+events-requires : tie.Need-events-requires
+events-requires c κs = search needs
+
+noted-requires : tie.Need-noted-requires
+noted-requires c κs = search needs
+
+diagnosis-requires : tie.Need-diagnosis-requires
+diagnosis-requires c κs = search needs
+
+returns : tie.Need-returns
+unfolding unpacked
+returns c = let m = now (c .before .before .before .before .before .before .before .before .before .before .before .before .before .args .mem) in λ i. record { phase = c .before .before .before .before .before .before .before .before .phase-numbered .ensures i; owner = getD m 10 0; group = getD m 11 0; stored = getD m 12 0; watchdog = record { reload = c .before .before .before .before .before .before .before .before .before .before .word-at2 .ensures i; left = c .before .before .before .before .before .before .before .before .before .before .before .word-at .ensures i }; flags = c .before .before .before .flags-in .ensures i; events = c .before .before .events .ensures i; noted = c .before .noted .ensures i; diagnosis = c .diagnosis .ensures i }
+
+pub control-spec : {M : Type 1} → statement M
+control-spec =
+    tie.close
+    (tie.spec
+    word-at-requires
+    word-at-requires-2
+    shared-slice-read-phase-numbered
+    phase-numbered-requires
+    shared-slice-read-t8
+    shared-slice-read-t10
+    shared-slice-read-t12
+    shared-slice-read-flags-in
+    flags-in-requires
+    events-requires
+    noted-requires
+    diagnosis-requires
+    returns)

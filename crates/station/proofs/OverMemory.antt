@@ -1,0 +1,208 @@
+-- An octet heard over the memory that holds the state: the step changes no more than the code writes.
+use Prim.Native.Nat.{ℕ, _+_, _≤_, _<_}
+use native.Mathlib.Omega.{arith}
+use mathlib.Core.Path.{_≡_, refl, sym, ap, subst, _∙_}
+use mathlib.Core.Bool.{Bool, true, false, cond, not, _&&_}
+use mathlib.Core.List.{List}
+use lib.Dec.{eqb, ltb}
+use lib.ListN.{length, take, set}
+use lib.Seq.{take-set-le}
+use borrow.Author.Tests.{not-true}
+use Rattle.buffers.specs.Triple.{fillOf}
+use Rattle.octets.specs.Part.{storedIn}
+use Rattle.telegram.specs.declared.Datum.the-variants.{Number, Nothing}
+use Rattle.telegram.specs.declared.reader.Reader.{Reader}
+use Rattle.telegram.specs.declared.reader.Status.{Status}
+use Rattle.telegram.specs.declared.reader.Status.the-variants.{Fresh, Inside, Complete, Broken}
+use Rattle.telegram.specs.Reading.{step, received, status, takesData, datumOf}
+use Rattle.telegram.proofs.Run.{no-true}
+use Rattle.state.specs.declared.state.Incoming.{Incoming}
+use Rattle.state.specs.declared.state.State.{State}
+use Rattle.state.specs.Layout.{stateLength, countOf, startOf, outputs, parameters, configuration, outputsAt, parametersAt, configurationAt}
+use Rattle.state.specs.Memory.{kept, Holds}
+use Rattle.state.specs.Unpack.{unpacked}
+use Rattle.state.specs.With.{withIncoming, withData}
+use Rattle.state.proofs.Damage.{holds-unpacked}
+use Rattle.state.proofs.Places.{inside}
+use Rattle.station.specs.Stepped.{Steps, unchanged, packedAfter}
+use Rattle.station.specs.Deeds.{isInside, begun, settle}
+use Rattle.station.specs.Reading.{storedData, keptOctets, storedAs, readOn, readBy, beginning, heardAs, isIgnored, isPlain, heard}
+use Rattle.station.proofs.Calling.{holds-safe, fronted}
+use Rattle.station.proofs.Onward.{data-inside, data-goes-on, data-changes}
+use Rattle.station.proofs.Safety.{stored-data-length}
+use Rattle.station.proofs.Settles.{and-left, and-right}
+
+is-inside : (x : Status) → isInside x ≡ true → x ≡ Inside
+is-inside Fresh e = no-true e
+is-inside Inside e = refl
+is-inside Complete e = no-true e
+is-inside Broken e = no-true e
+
+-- ---- what an octet does, by the reader before it and after it
+
+module _ (s : State) (m : List ℕ) (b : ℕ) where
+  abbrev old : Reader
+  old = s .incoming .reader
+
+  -- inside a telegram it is stored if it is data
+  heard-inner : (bad : Bool) → status old ≡ Inside → status (received old b bad) ≡ Inside
+      → heard s m b bad ≡ storedAs (datumOf old) s m (received old b bad) b
+  unfolding heard
+  heard-inner bad e f =
+      let next = received old b bad in
+      (λ i. cond (isIgnored (e i)) (unchanged s m) (heardAs (f i) s m next b))
+      ∙ (λ i. cond (isInside (e i)) (storedAs (datumOf old) s m next b) (settle (beginning s next) m))
+
+  -- data
+  heard-data : takesData old ≡ true → heard s m b false ≡ storedAs (Number (old .at)) s m (step old b) b
+  heard-data e =
+      heard-inner false (data-inside old b e) (data-goes-on old b e)
+      ∙ (λ i. storedAs (cond (e i) (Number (old .at)) Nothing) s m (step old b) b)
+
+  -- no data
+  heard-plain : (bad : Bool) → isPlain old (received old b bad) ≡ true
+      → heard s m b bad ≡ record { state = readBy s (received old b bad); memory = m }
+  heard-plain bad e =
+      let next = received old b bad in
+      let both = and-left (isInside (status old) && isInside (status next)) (not (takesData old)) e in
+      let none = not-true (takesData old) (and-right (isInside (status old) && isInside (status next)) (not (takesData old)) e) in
+      heard-inner bad
+      (is-inside (status old) (and-left (isInside (status old)) (isInside (status next)) both))
+      (is-inside (status next) (and-right (isInside (status old)) (isInside (status next)) both))
+      ∙ (λ i. storedAs (cond (none i) (Number (old .at)) Nothing) s m next b)
+
+  -- the others
+  heard-other : (bad : Bool) → isIgnored (status old) ≡ false
+      → heard s m b bad ≡ heardAs (status (received old b bad)) s m (received old b bad) b
+  unfolding heard
+  heard-other bad e =
+      ap (λ (t : Bool). cond t (unchanged s m) (heardAs (status (received old b bad)) s m (received old b bad) b)) e
+
+  heard-ignored : (bad : Bool) → isIgnored (status old) ≡ true → heard s m b bad ≡ unchanged s m
+  unfolding heard
+  heard-ignored bad e =
+      ap (λ (t : Bool). cond t (unchanged s m) (heardAs (status (received old b bad)) s m (received old b bad) b)) e
+
+-- ---- a store leaves the state part
+
+stored-behind : (m : List ℕ) (a n k b : ℕ) → stateLength ≤ a → take stateLength (storedIn m a n k b) ≡ take stateLength m
+unfolding storedIn
+stored-behind m a n k b h = go (ltb k n)
+  where
+    go : (t : Bool) → take stateLength (cond t (set m (a + k) b) m) ≡ take stateLength m
+    go true = take-set-le stateLength m (a + k) b (omega arith)
+    go false = refl
+
+one-of : (t : Bool) (x y z : List ℕ) → take stateLength x ≡ z → take stateLength y ≡ z → take stateLength (cond t x y) ≡ z
+one-of true x y z e f = e
+one-of false x y z e f = f
+
+module _ (m : List ℕ) (s : State) (h : Holds m s) where
+  behind : (kind i : ℕ) → i < countOf kind → stateLength ≤ startOf (s .setup) kind i
+  behind kind i lt = inside (s .setup) kind i 0 lt (omega arith) .0
+
+  stored-front : (k b : ℕ) → take stateLength (storedData s m k b) ≡ take stateLength m
+  stored-front k b =
+      let safe = holds-safe m s h in
+      one-of (ltb (s .incoming .reader .da) 128) _ _ _
+      (stored-behind m (outputsAt (s .setup) (fillOf (s .outputs .set .place))) (s .setup .«output_len») k b
+      (behind outputs (fillOf (s .outputs .set .place)) (safe .outputs .fill-in)))
+      (one-of (eqb (s .incoming .reader .dsap) 61) _ _ _
+      (stored-behind m (parametersAt (s .setup) (fillOf (s .parameters .set .place))) (s .setup .«parameter_len») k b
+      (behind parameters (fillOf (s .parameters .set .place)) (safe .parameters .fill-in)))
+      (one-of (eqb (s .incoming .reader .dsap) 62) _ _ _
+      (stored-behind m (configurationAt (s .setup) (fillOf (s .configuration .set .place))) (s .setup .«configuration_len») k b
+      (behind configuration (fillOf (s .configuration .set .place)) (safe .configuration .fill-in)))
+      refl))
+
+  -- so the memory holds the state still
+  storing-holds : (k b : ℕ) → Holds (storedData s m k b) s
+  storing-holds k b =
+      let e = stored-data-length s m k b in
+      record {
+        length-in = rw e (h .length-in);
+        length-by-8 = rw e (h .length-by-8);
+        sound = h .sound;
+        front = stored-front k b ∙ h .front;
+        room = rw e (h .room);
+      }
+
+  -- and what it unpacks to, as the code has it
+  pub stored-holds : (k b : ℕ) (n : List ℕ) → n ≡ storedData s m k b → Holds n (unpacked n)
+  stored-holds k b n e =
+      let h′ : Holds n s = subst (λ (l : List ℕ). Holds l s) (sym e) (storing-holds k b) in
+      subst (Holds n) (sym (holds-unpacked n s h′)) h′
+
+  -- ---- what the code leaves
+
+  data-octet : (b : ℕ) (e : takesData (s .incoming .reader) ≡ true)
+      → let r = s .incoming .reader in
+      let n = storedData s m (r .at) b in
+      kept
+      (withData (unpacked n) (step r b .at) (step r b .sum) (cond (eqb (r .at) 0) b (s .incoming .first))
+      (cond (eqb (r .at) 1) b (s .incoming .second)))
+      n
+      ≡ packedAfter (heard s m b false)
+  data-octet b e =
+      let r = s .incoming .reader in
+      let n = storedData s m (r .at) b in
+      let first = cond (eqb (r .at) 0) b (s .incoming .first) in
+      let second = cond (eqb (r .at) 1) b (s .incoming .second) in
+      ap (λ (x : State). kept (withData x (step r b .at) (step r b .sum) first second) n)
+      (holds-unpacked n s (storing-holds (r .at) b))
+      ∙ (λ i. kept (withIncoming s (record { reader = data-changes r b e i; first = first; second = second })) n)
+      ∙ sym (ap packedAfter (heard-data s m b e))
+
+  plain-octet : (b : ℕ) (bad : Bool) → isPlain (s .incoming .reader) (received (s .incoming .reader) b bad) ≡ true
+      → kept (readBy s (received (s .incoming .reader) b bad)) m ≡ packedAfter (heard s m b bad)
+  plain-octet b bad e = sym (ap packedAfter (heard-plain s m b bad e))
+
+  ignored-octet : (b : ℕ) (bad : Bool) → isIgnored (status (s .incoming .reader)) ≡ true → m ≡ packedAfter (heard s m b bad)
+  ignored-octet b bad e = fronted m m s h refl ∙ sym (ap packedAfter (heard-ignored s m b bad e))
+
+  -- ---- the same of the values that the code has
+
+  module _ (b : ℕ) (i : Incoming) (same : i ≡ s .incoming) where
+    pub leaves-data : takesData (s .incoming .reader) ≡ true → (n : List ℕ) (x : Reader) (j : Incoming) (out : List ℕ)
+        → n ≡ storedData s m (i .reader .at) b → x ≡ step (i .reader) b → j ≡ keptOctets i x (i .reader .at) b
+        → out ≡ kept (withData (unpacked n) (j .reader .at) (j .reader .sum) (j .first) (j .second)) n
+        → out ≡ packedAfter (heard s m b false)
+    leaves-data e n x j out en ex ej k =
+        let stored : n ≡ storedData s m (s .incoming .reader .at) b = en ∙ (λ t. storedData s m (same t .reader .at) b) in
+        let read : x ≡ step (s .incoming .reader) b = ex ∙ (λ t. step (same t .reader) b) in
+        let put : j ≡ keptOctets (s .incoming) (step (s .incoming .reader) b) (s .incoming .reader .at) b =
+        ej ∙ (λ t. keptOctets (same t) (read t) (same t .reader .at) b)
+        in
+        k
+        ∙ (λ t. kept (withData (unpacked (stored t)) (put t .reader .at) (put t .reader .sum) (put t .first) (put t .second)) (stored t))
+        ∙ data-octet b e
+
+    module _ (bad : Bool) where
+      pub leaves-ignored : (x : Status) (p : Bool) → x ≡ status (i .reader) → p ≡ isIgnored x → p ≡ true → m ≡ packedAfter (heard s m b bad)
+      leaves-ignored x p ex ep e =
+          ignored-octet b bad (sym (ep ∙ ap isIgnored ex ∙ (λ t. isIgnored (status (same t .reader)))) ∙ e)
+
+      -- next is the reader after the octet
+      module _ (next : Reader) (goes : next ≡ received (i .reader) b bad) where
+        after : next ≡ received (s .incoming .reader) b bad
+        after = goes ∙ (λ t. received (same t .reader) b bad)
+
+        pub leaves-plain : (p : Bool) (j : Incoming) (out : List ℕ) → p ≡ isPlain (i .reader) next → p ≡ true → j ≡ readOn i next
+            → out ≡ kept (withIncoming s j) m → out ≡ packedAfter (heard s m b bad)
+        leaves-plain p j out ep e ej k =
+            k
+            ∙ (λ t. kept (withIncoming s (ej t)) m)
+            ∙ (λ t. kept (withIncoming s (readOn (same t) (after t))) m)
+            ∙ plain-octet b bad (sym (ep ∙ (λ t. isPlain (same t .reader) (after t))) ∙ e)
+
+        pub leaves-other : (x : Status) (p : Bool) → x ≡ status (i .reader) → p ≡ isIgnored x → p ≡ false
+            → (y : Status) (u t : State) (n out : List ℕ) → y ≡ status next → u ≡ s → Steps (heardAs y u m next b) t n → out ≡ kept t n
+            → out ≡ packedAfter (heard s m b bad)
+        leaves-other x p ex ep e y u t n out ey eu h k =
+            let told : y ≡ status (received (s .incoming .reader) b bad) = ey ∙ ap status after in
+            k
+            ∙ (λ r. kept (h .states r) (h .leaves r))
+            ∙ (λ r. packedAfter (heardAs (told r) (eu r) m (after r) b))
+            ∙ sym
+            (ap packedAfter
+            (heard-other s m b bad (sym (ep ∙ ap isIgnored ex ∙ (λ r. isIgnored (status (same r .reader)))) ∙ e)))

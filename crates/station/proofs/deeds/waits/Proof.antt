@@ -1,0 +1,21 @@
+-- `station::deeds::waits` meets its contract.
+use borrow.Author.Needs.{needs}
+use Rattle.station.proofs.deeds.waits.Statement.{statement}
+use Rattle.station.proofs.deeds.waits.Tie as tie
+
+diagnosis-requires : tie.Need-diagnosis-requires
+diagnosis-requires c κs = search needs
+
+noted-requires : tie.Need-noted-requires
+noted-requires c κs = search needs
+
+returns : tie.Need-returns
+returns c = rw (c .noted .ensures, c .before .before .diagnosis .ensures)
+
+pub waits-spec : {M : Type 1} → statement M
+waits-spec =
+    tie.close
+    (tie.spec
+    diagnosis-requires
+    noted-requires
+    returns)

@@ -1,0 +1,38 @@
+-- `station::reading::hear_data` meets its contract.
+use mathlib.Core.Path.{_≡_, sym, ap, subst, _∙_}
+use mathlib.Core.List.{List}
+use Prim.Native.Nat.{ℕ}
+use denote.Ref.{now}
+use Rattle.telegram.specs.Reading.{takesData}
+use Rattle.state.specs.declared.state.Incoming.{Incoming}
+use Rattle.state.specs.Memory.{Holds}
+use Rattle.state.specs.Unpack.{unpacked}
+use Rattle.station.proofs.Calling.{holds-long}
+use Rattle.station.proofs.OverMemory.{stored-holds, leaves-data}
+use borrow.Author.Needs.{needs}
+use Rattle.station.proofs.reading.hear_data.Statement.{statement}
+use Rattle.station.proofs.reading.hear_data.Tie as tie
+
+incoming-requires : tie.Need-incoming-requires
+incoming-requires c κs = holds-long _ _ (c .before .before .pre .0)
+
+store-received-requires : tie.Need-store-received-requires
+store-received-requires c κs = c .before .before .before .before .before .pre .0
+
+take-data-requires : tie.Need-take-data-requires
+take-data-requires c κs = ap (λ (i : Incoming). takesData (i .reader)) (c .before .before .before .before .before .incoming .ensures) ∙ c .before .before .before .before .before .before .before .before .pre .1
+
+keep-octets-requires : tie.Need-keep-octets-requires
+keep-octets-requires c κs = search needs
+
+save-data-requires : tie.Need-save-data-requires
+save-data-requires c κs = stored-holds (now (c .before .before .before .before .before .before .before .before .before .before .before .args .mem)) (unpacked (now (c .before .before .before .before .before .before .before .before .before .before .before .args .mem))) (c .before .before .before .before .before .before .before .before .before .before .before .pre .0) _ _ _ (c .before .before .before .before .before .store-received .ensures)
+
+same-length : tie.Need-same-length
+same-length c = search needs
+
+returns : tie.Need-returns
+returns c = leaves-data (now (c .before .before .before .before .before .before .before .before .before .before .before .before .before .before .args .mem)) (unpacked (now (c .before .before .before .before .before .before .before .before .before .before .before .before .before .before .args .mem))) (c .before .before .before .before .before .before .before .before .before .before .before .before .before .before .pre .0) (c .before .before .before .before .before .before .before .before .before .before .before .before .before .before .args .b) (c .before .before .before .before .before .before .before .before .before .before .before .incoming .result) (c .before .before .before .before .before .before .before .before .before .before .before .incoming .ensures) (c .before .before .before .before .before .before .before .before .before .before .before .before .before .before .pre .1) _ _ _ _ (c .before .before .before .before .before .before .before .before .store-received .ensures) (c .before .before .before .before .before .take-data .ensures) (c .before .before .before .before .keep-octets .ensures) (c .before .before .save-data .ensures)
+
+pub hear-data-spec : {M : Type 1} → statement M
+hear-data-spec = tie.close (tie.spec incoming-requires store-received-requires take-data-requires keep-octets-requires save-data-requires same-length returns)
