@@ -2,7 +2,7 @@
 // holds. The calls of every octet read and write only what they need of it; the others unpack it, make the step and pack it
 // again.
 use crate::bus;
-use crate::reading;
+use crate::hearing;
 use crate::user;
 use state::answer::Answer;
 use state::answer::Refusal;
@@ -20,7 +20,7 @@ pub fn octet(mem: &mut [u8], value: u8, bad: bool) -> Answer
     if !is_well(&mem[..]) {
         return Answer::Refused(Refusal::Damaged);
     }
-    reading::hear_octet(mem, value, bad);
+    hearing::hear_octet(mem, value, bad);
     Answer::Value(0)
 }
 

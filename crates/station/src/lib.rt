@@ -2,6 +2,7 @@
 pub mod bus;
 pub mod calls;
 pub mod deeds;
+pub mod hearing;
 pub mod reading;
 pub mod replies;
 pub mod user;

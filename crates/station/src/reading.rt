@@ -1,7 +1,6 @@
 // The bus's octet: a telegram's data goes into the fill buffer that its header names, as it comes.
 use crate::deeds::begun;
 use crate::deeds::carry_out;
-use crate::deeds::is_inside;
 use crate::deeds::is_open;
 use crate::deeds::settle;
 use crate::replies::no_reply;
@@ -13,28 +12,21 @@ use rules::requests::master_of;
 use rules::requests::refilled;
 use rules::requests::service_of;
 use rules::services::serve;
-use state::image::save;
 use state::layout::configuration_at;
 use state::layout::outputs_at;
 use state::layout::parameters_at;
-use state::load;
-use state::saving::save_data;
-use state::saving::save_incoming;
 use state::state::Incoming;
 use state::state::State;
 use telegram::Datum;
 use telegram::reader::Reader;
 use telegram::reader::Status;
 ghost use Prim.Native.Nat.{_+_, _≤_};
-ghost use mathlib.Core.Bool.{true, false};
 ghost use mathlib.Core.Path.{_≡_};
 ghost use lib.ListN.{length};
-ghost use Rattle.telegram.specs.Reading.{takesData, datumOf};
-ghost use Rattle.state.specs.Memory.{Holds};
-ghost use Rattle.state.specs.Unpack.{unpacked};
+ghost use Rattle.telegram.specs.Reading.{datumOf};
 ghost use Rattle.station.specs.Safe.{Safe};
-ghost use Rattle.station.specs.Stepped.{Steps, packedAfter};
-ghost use Rattle.station.specs.Reading.{storedData, keptOctets, storedAs, readOn, readBy, requestBy, prmAt, prmIn, outcomeOf, answered, completed, beginning, heardAs, isIgnored, isPlain, heard};
+ghost use Rattle.station.specs.Stepped.{Steps};
+ghost use Rattle.station.specs.Reading.{storedData, keptOctets, storedAs, readOn, readBy, requestBy, prmAt, prmIn, outcomeOf, answered, completed, beginning, heardAs, isIgnored, heard};
 
 // The part of the memory that is the fill buffer is lent on to the step that stores an octet.
 fn store_data(s: State, mem: &mut [u8], k: u8, b: u8)
@@ -60,7 +52,7 @@ fn store_data(s: State, mem: &mut [u8], k: u8, b: u8)
 }
 
 // The first two data octets are kept in the state, for Global_Control.
-fn keep_octets(i: Incoming, reader: Reader, k: u8, b: u8) -> Incoming
+pub fn keep_octets(i: Incoming, reader: Reader, k: u8, b: u8) -> Incoming
     ensures { λ r. ⌜ r ≡ keptOctets i reader k b ⌝ }
 {
     if k == 0 {
@@ -227,7 +219,7 @@ fn hear_inside(s: State, mem: &mut [u8], reader: Reader, b: u8) -> State
 }
 
 // An octet by what the octets are with it; reader: after it.
-fn hear_as(status: Status, s: State, mem: &mut [u8], reader: Reader, b: u8) -> State
+pub fn hear_as(status: Status, s: State, mem: &mut [u8], reader: Reader, b: u8) -> State
     requires { ⌜ Safe s (now mem) ⌝ }
     ensures { λ t. ⌜ Steps (heardAs status s (now (mem .entry)) reader b) t (now (mem .exit)) ⌝ }
 {
@@ -242,7 +234,7 @@ fn hear_as(status: Status, s: State, mem: &mut [u8], reader: Reader, b: u8) -> S
     }
 }
 
-fn is_ignored(status: Status) -> bool
+pub fn is_ignored(status: Status) -> bool
     ensures { λ r. ⌜ r ≡ isIgnored status ⌝ }
 {
     match status {
@@ -264,95 +256,4 @@ pub fn hear(s: State, mem: &mut [u8], b: u8, bad: bool) -> State
     }
     let next = reader.receive(b, bad);
     hear_as(next.status(), s, mem, next, b)
-}
-
-// ---- over the memory: a step that changes little reads and writes no more of the state part than that
-
-// The same where the memory holds the state: only the set that the header names is read.
-fn store_received(mem: &mut [u8], k: u8, b: u8)
-    requires { ⌜ Holds (now mem) (unpacked (now mem)) ⌝ }
-    ensures { λ _. ⌜ now (mem .exit) ≡ storedData (unpacked (now (mem .entry))) (now (mem .entry)) k b ⌝ }
-{
-    let setup = load::setup(&mem[..]);
-    let incoming = load::incoming(&mem[..]);
-    if incoming.reader.da < 128 {
-        let outputs = load::outputs(&mem[..]);
-        let from = outputs_at(setup, outputs.set.fill());
-        octets::store_at(mem, from, setup.output_len as usize, k as usize, b);
-        return;
-    }
-    if incoming.reader.dsap == 61 {
-        let parameters = load::parameters(&mem[..]);
-        let from = parameters_at(setup, parameters.set.fill());
-        octets::store_at(mem, from, setup.parameter_len as usize, k as usize, b);
-        return;
-    }
-    if incoming.reader.dsap == 62 {
-        let configuration = load::configuration(&mem[..]);
-        let from = configuration_at(setup, configuration.set.fill());
-        octets::store_at(mem, from, setup.configuration_len as usize, k as usize, b);
-    }
-}
-
-// A data octet: it is stored, and four octets of the state part change.
-fn hear_data(mem: &mut [u8], b: u8)
-    requires { ⌜ (Holds (now mem) (unpacked (now mem))) × (takesData (unpacked (now mem) .incoming .reader) ≡ true) ⌝ }
-    ensures { λ _. ⌜ now (mem .exit) ≡ packedAfter (heard (unpacked (now (mem .entry))) (now (mem .entry)) b false) ⌝ }
-{
-    let old = load::incoming(&mem[..]);
-    let reader = old.reader;
-    let k = reader.at;
-    store_received(mem, k, b);
-    let next = keep_octets(old, reader.take_data(b), k, b);
-    save_data(
-        next.reader.at,
-        next.reader.sum,
-        next.first,
-        next.second,
-        mem,
-    );
-}
-
-// Whether an octet is inner and no data, by the reader before it and after it.
-fn is_plain(reader: Reader, next: Reader) -> bool
-    ensures { λ r. ⌜ r ≡ isPlain reader next ⌝ }
-{
-    is_inside(reader.status()) & is_inside(next.status()) & !reader.takes_data()
-}
-
-// Any other octet: an inner one changes only the reader; at the others the whole state is unpacked.
-fn hear_other(mem: &mut [u8], b: u8, bad: bool)
-    requires { ⌜ Holds (now mem) (unpacked (now mem)) ⌝ }
-    ensures { λ _. ⌜ now (mem .exit) ≡ packedAfter (heard (unpacked (now (mem .entry))) (now (mem .entry)) b bad) ⌝ }
-{
-    let old = load::incoming(&mem[..]);
-    let reader = old.reader;
-    if is_ignored(reader.status()) {
-        return;
-    }
-    let next = reader.receive(b, bad);
-    if is_plain(reader, next) {
-        save_incoming(read_on(old, next), mem);
-        return;
-    }
-    let t = hear_as(next.status(), load::unpack(&mem[..]), mem, next, b);
-    save(t, mem);
-}
-
-// The bus's octet over the memory. Most octets are data.
-pub fn hear_octet(mem: &mut [u8], b: u8, bad: bool)
-    requires { ⌜ Holds (now mem) (unpacked (now mem)) ⌝ }
-    ensures { λ _. ⌜ now (mem .exit) ≡ packedAfter (heard (unpacked (now (mem .entry))) (now (mem .entry)) b bad) ⌝ }
-{
-    if bad {
-        hear_other(mem, b, true);
-        return;
-    }
-    let incoming = load::incoming(&mem[..]);
-    let reader = incoming.reader;
-    if reader.takes_data() {
-        hear_data(mem, b);
-        return;
-    }
-    hear_other(mem, b, false);
 }

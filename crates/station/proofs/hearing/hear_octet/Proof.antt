@@ -1,4 +1,4 @@
--- `station::reading::hear_octet` meets its contract.
+-- `station::hearing::hear_octet` meets its contract.
 use mathlib.Core.Path.{sym, ap, _∙_}
 use mathlib.Core.Bool.{Bool}
 use denote.Ref.{now}
@@ -9,8 +9,8 @@ use Rattle.station.specs.Stepped.{packedAfter}
 use Rattle.station.specs.Reading.{heard}
 use Rattle.station.proofs.Calling.{holds-long}
 use borrow.Author.Needs.{needs}
-use Rattle.station.proofs.reading.hear_octet.Statement.{statement}
-use Rattle.station.proofs.reading.hear_octet.Tie as tie
+use Rattle.station.proofs.hearing.hear_octet.Statement.{statement}
+use Rattle.station.proofs.hearing.hear_octet.Tie as tie
 
 hear-other-requires : tie.Need-hear-other-requires
 hear-other-requires c κs = c .before .before .before .pre

@@ -1,11 +1,11 @@
--- `station::reading::hear_other` meets its contract.
+-- `station::hearing::hear_other` meets its contract.
 use denote.Ref.{now}
 use Rattle.state.specs.Unpack.{unpacked}
 use Rattle.station.proofs.Calling.{holds-safe, holds-long, holding}
 use Rattle.station.proofs.OverMemory.{leaves-ignored, leaves-plain, leaves-other}
 use borrow.Author.Needs.{needs}
-use Rattle.station.proofs.reading.hear_other.Statement.{statement}
-use Rattle.station.proofs.reading.hear_other.Tie as tie
+use Rattle.station.proofs.hearing.hear_other.Statement.{statement}
+use Rattle.station.proofs.hearing.hear_other.Tie as tie
 
 incoming-requires : tie.Need-incoming-requires
 incoming-requires c κs = holds-long _ _ (c .before .before .pre)

@@ -1,4 +1,4 @@
--- `station::reading::hear_data` meets its contract.
+-- `station::hearing::hear_data` meets its contract.
 use mathlib.Core.Path.{_≡_, sym, ap, subst, _∙_}
 use mathlib.Core.List.{List}
 use Prim.Native.Nat.{ℕ}
@@ -10,8 +10,8 @@ use Rattle.state.specs.Unpack.{unpacked}
 use Rattle.station.proofs.Calling.{holds-long}
 use Rattle.station.proofs.OverMemory.{stored-holds, leaves-data}
 use borrow.Author.Needs.{needs}
-use Rattle.station.proofs.reading.hear_data.Statement.{statement}
-use Rattle.station.proofs.reading.hear_data.Tie as tie
+use Rattle.station.proofs.hearing.hear_data.Statement.{statement}
+use Rattle.station.proofs.hearing.hear_data.Tie as tie
 
 incoming-requires : tie.Need-incoming-requires
 incoming-requires c κs = holds-long _ _ (c .before .before .pre .0)

@@ -1,10 +1,10 @@
--- `station::reading::is_plain` meets its contract.
+-- `station::hearing::is_plain` meets its contract.
 use mathlib.Core.Path.{ap, _∙_}
 use mathlib.Core.Bool.{not, _&&_}
 use Rattle.station.specs.Deeds.{isInside}
 use borrow.Author.Needs.{needs}
-use Rattle.station.proofs.reading.is_plain.Statement.{statement}
-use Rattle.station.proofs.reading.is_plain.Tie as tie
+use Rattle.station.proofs.hearing.is_plain.Statement.{statement}
+use Rattle.station.proofs.hearing.is_plain.Tie as tie
 
 status-requires : tie.Need-status-requires
 status-requires c κs = search needs

@@ -1,11 +1,11 @@
--- `station::reading::store_received` meets its contract.
+-- `station::hearing::store_received` meets its contract.
 use denote.Ref.{now}
 use Rattle.state.specs.Unpack.{unpacked}
 use Rattle.station.proofs.Calling.{holds-safe, holds-long}
 use Rattle.station.proofs.Receives.{outputs-room, leaves-outputs, parameters-room, leaves-parameters, configuration-room, leaves-configuration, leaves-none}
 use borrow.Author.Needs.{needs}
-use Rattle.station.proofs.reading.store_received.Statement.{statement}
-use Rattle.station.proofs.reading.store_received.Tie as tie
+use Rattle.station.proofs.hearing.store_received.Statement.{statement}
+use Rattle.station.proofs.hearing.store_received.Tie as tie
 
 setup-requires : tie.Need-setup-requires
 setup-requires c κs = holds-long _ _ (c .before .before .pre)

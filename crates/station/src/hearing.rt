@@ -1,0 +1,111 @@
+// The bus's octet over the memory that holds the state: nothing of the state part is read or written that the octet has no need of.
+// Every step leaves the memory as the step on the unpacked state (`reading`) would leave it, packed again.
+use crate::deeds::is_inside;
+use crate::reading::hear_as;
+use crate::reading::is_ignored;
+use crate::reading::keep_octets;
+use crate::reading::read_on;
+use state::image::save;
+use state::layout::configuration_at;
+use state::layout::outputs_at;
+use state::layout::parameters_at;
+use state::load;
+use state::saving::save_data;
+use state::saving::save_incoming;
+use telegram::reader::Reader;
+ghost use mathlib.Core.Bool.{true, false};
+ghost use mathlib.Core.Path.{_≡_};
+ghost use Rattle.telegram.specs.Reading.{takesData};
+ghost use Rattle.state.specs.Memory.{Holds};
+ghost use Rattle.state.specs.Unpack.{unpacked};
+ghost use Rattle.station.specs.Stepped.{packedAfter};
+ghost use Rattle.station.specs.Reading.{storedData, isPlain, heard};
+
+// A data octet into the fill buffer of the set that the header names; no other set is read.
+fn store_received(mem: &mut [u8], k: u8, b: u8)
+    requires { ⌜ Holds (now mem) (unpacked (now mem)) ⌝ }
+    ensures { λ _. ⌜ now (mem .exit) ≡ storedData (unpacked (now (mem .entry))) (now (mem .entry)) k b ⌝ }
+{
+    let setup = load::setup(&mem[..]);
+    let incoming = load::incoming(&mem[..]);
+    if incoming.reader.da < 128 {
+        let outputs = load::outputs(&mem[..]);
+        let from = outputs_at(setup, outputs.set.fill());
+        octets::store_at(mem, from, setup.output_len as usize, k as usize, b);
+        return;
+    }
+    if incoming.reader.dsap == 61 {
+        let parameters = load::parameters(&mem[..]);
+        let from = parameters_at(setup, parameters.set.fill());
+        octets::store_at(mem, from, setup.parameter_len as usize, k as usize, b);
+        return;
+    }
+    if incoming.reader.dsap == 62 {
+        let configuration = load::configuration(&mem[..]);
+        let from = configuration_at(setup, configuration.set.fill());
+        octets::store_at(mem, from, setup.configuration_len as usize, k as usize, b);
+    }
+}
+
+// A data octet: it is stored, and four octets of the state part change.
+fn hear_data(mem: &mut [u8], b: u8)
+    requires { ⌜ (Holds (now mem) (unpacked (now mem))) × (takesData (unpacked (now mem) .incoming .reader) ≡ true) ⌝ }
+    ensures { λ _. ⌜ now (mem .exit) ≡ packedAfter (heard (unpacked (now (mem .entry))) (now (mem .entry)) b false) ⌝ }
+{
+    let old = load::incoming(&mem[..]);
+    let reader = old.reader;
+    let k = reader.at;
+    store_received(mem, k, b);
+    let next = keep_octets(old, reader.take_data(b), k, b);
+    save_data(
+        next.reader.at,
+        next.reader.sum,
+        next.first,
+        next.second,
+        mem,
+    );
+}
+
+// Whether an octet is inner and no data, by the reader before it and after it.
+fn is_plain(reader: Reader, next: Reader) -> bool
+    ensures { λ r. ⌜ r ≡ isPlain reader next ⌝ }
+{
+    is_inside(reader.status()) & is_inside(next.status()) & !reader.takes_data()
+}
+
+// Any other octet: an inner one changes only the reader; at the others the whole state is unpacked.
+fn hear_other(mem: &mut [u8], b: u8, bad: bool)
+    requires { ⌜ Holds (now mem) (unpacked (now mem)) ⌝ }
+    ensures { λ _. ⌜ now (mem .exit) ≡ packedAfter (heard (unpacked (now (mem .entry))) (now (mem .entry)) b bad) ⌝ }
+{
+    let old = load::incoming(&mem[..]);
+    let reader = old.reader;
+    if is_ignored(reader.status()) {
+        return;
+    }
+    let next = reader.receive(b, bad);
+    if is_plain(reader, next) {
+        save_incoming(read_on(old, next), mem);
+        return;
+    }
+    let t = hear_as(next.status(), load::unpack(&mem[..]), mem, next, b);
+    save(t, mem);
+}
+
+// The bus's octet over the memory. Most octets are data.
+pub fn hear_octet(mem: &mut [u8], b: u8, bad: bool)
+    requires { ⌜ Holds (now mem) (unpacked (now mem)) ⌝ }
+    ensures { λ _. ⌜ now (mem .exit) ≡ packedAfter (heard (unpacked (now (mem .entry))) (now (mem .entry)) b bad) ⌝ }
+{
+    if bad {
+        hear_other(mem, b, true);
+        return;
+    }
+    let incoming = load::incoming(&mem[..]);
+    let reader = incoming.reader;
+    if reader.takes_data() {
+        hear_data(mem, b);
+        return;
+    }
+    hear_other(mem, b, false);
+}
