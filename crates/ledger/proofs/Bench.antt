@@ -3,7 +3,7 @@ use mathlib.Core.Path.{refl}
 use mathlib.Core.List.{List, [], _∷_, _++_}
 use lib.ListN.{replicate}
 use Rattle.ledger.specs.Ledger.{Ledger, fresh}
-use Rattle.ledger.specs.Calls.{gap, send, tick, take, read, write, hand-over, new-diagnosis, judge-parameters, judge-configuration, events, acknowledge}
+use Rattle.rules.specs.Call.{gap, send, tick, take, read, write, hand-over, new-diagnosis, judge-parameters, judge-configuration, events, acknowledge}
 use Rattle.ledger.specs.Script.{Part, hears, sends, does, Answers, station}
 use Rattle.ledger.proofs.Scripts.{written}
 use Rattle.ledger.proofs.Computing.{computing}

@@ -13,7 +13,8 @@ use Rattle.rules.specs.User.{judgedParameters, judgedConfiguration}
 use Rattle.ledger.specs.Lists.{some, taken, withOutputs}
 use Rattle.ledger.specs.Ledger.{Ledger, withControl, withBuffers, diagnosisLeaves, parametersOpen, configurationOpen}
 use Rattle.ledger.specs.Deeds.{carried, diagnosisChanged}
-use Rattle.ledger.specs.User.{Told, told, refused, inRange, writable, absent, octetsOfKind, writtenOctet, takeOutputs, readOctet, writeOctet, newDiagnosis, judgeParameters, judgeConfiguration}
+use Rattle.ledger.specs.User.{Told, told, refused, absent, octetsOfKind, writtenOctet, takeOutputs, readOctet, writeOctet, newDiagnosis, judgeParameters, judgeConfiguration}
+use Rattle.rules.specs.Kinds.{inRange, writable}
 
 module _ (P : Told → Type 0) where
   -- two tests that refuse

@@ -7,7 +7,8 @@ use mathlib.Core.Bool.{true, false}
 use mathlib.Core.List.{List, [], _∷_, _++_}
 use Rattle.state.specs.declared.answer.Refusal.the-variants.{Judging, Range, Absent, Delayed}
 use Rattle.ledger.specs.Ledger.{Ledger, fresh}
-use Rattle.ledger.specs.Calls.{octet, gap, send, tick, take, read, write, hand-over, new-diagnosis, judge-parameters, judge-configuration, events, acknowledge, leave, after}
+use Rattle.rules.specs.Call.{octet, gap, send, tick, take, read, write, hand-over, new-diagnosis, judge-parameters, judge-configuration, events, acknowledge, leave}
+use Rattle.ledger.specs.Calls.{after}
 use Rattle.ledger.specs.Exchange.{Inner}
 use Rattle.ledger.specs.Script.{Part, hears, sends, does, refuses, Answers, station}
 use Rattle.ledger.specs.ReadBack.{Accepted}

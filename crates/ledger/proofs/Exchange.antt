@@ -21,8 +21,10 @@ use Rattle.ledger.specs.Lists.{some, taken, withOutputs}
 use Rattle.ledger.specs.Ledger.{Line, Ledger, withControl, withBuffers, withLine, busy, diagnosisLeaves, parametersOpen, configurationOpen}
 use Rattle.ledger.specs.Deeds.{carried, diagnosisChanged, settle}
 use Rattle.ledger.specs.Bus.{answered, lengthened, heardAs, heard}
-use Rattle.ledger.specs.User.{Told, told, refused, inRange, writable, absent, octetsOfKind, writtenOctet, takeOutputs, readOctet, writeOctet, handOver, newDiagnosis, judgeParameters, judgeConfiguration, acknowledgeEvents, leaveMaster}
-use Rattle.ledger.specs.Calls.{Call, octet, gap, send, tick, take, read, write, hand-over, new-diagnosis, judge-parameters, judge-configuration, events, acknowledge, pending, leave, step, answers, after}
+use Rattle.ledger.specs.User.{Told, told, refused, absent, octetsOfKind, writtenOctet, takeOutputs, readOctet, writeOctet, handOver, newDiagnosis, judgeParameters, judgeConfiguration, acknowledgeEvents, leaveMaster}
+use Rattle.rules.specs.Kinds.{inRange, writable}
+use Rattle.rules.specs.Call.{Call, octet, gap, send, tick, take, read, write, hand-over, new-diagnosis, judge-parameters, judge-configuration, events, acknowledge, pending, leave}
+use Rattle.ledger.specs.Calls.{step, answers, after}
 use Rattle.ledger.specs.Exchange.{Within, Inner, ofUser, Exchanged, Exchange}
 use Rattle.ledger.proofs.Runs.{after-append, answers-append, answers-length}
 use Rattle.ledger.proofs.Settling.{settle-line}

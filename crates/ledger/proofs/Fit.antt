@@ -33,12 +33,14 @@ use Rattle.ledger.specs.Ledger.{Line, Ledger, withLine, begun, busy, dia
 use Rattle.ledger.specs.Deeds.{onOutputs, onInputs, onSets, onBuffers, carried, diagnosisChanged, afterReply, settle}
 use Rattle.ledger.specs.Bus.{telegramOn, requestBy, prmBy, outcomeOf, answered, completed, brokenOff, lengthened, beginning, sendLeft, silenced, heardAs, heard, paused, sent, elapsed}
 use Rattle.ledger.specs.User.{handOver, acknowledgeEvents, leaveMaster, writtenOctet}
-use Rattle.ledger.specs.Calls.{Call, octet, gap, send, tick, take, read, write, hand-over, new-diagnosis, judge-parameters, judge-configuration, events, acknowledge, pending, leave, step, after}
+use Rattle.rules.specs.Call.{Call, octet, gap, send, tick, take, read, write, hand-over, new-diagnosis, judge-parameters, judge-configuration, events, acknowledge, pending, leave}
+use Rattle.ledger.specs.Calls.{step, after}
 use Rattle.ledger.specs.ReadBack.{Accepted, OutputsFit, InputsFit, SetsFit, DiagnosesFit, ListsFit, CountsFit, Left, Fit, Draws, Fixes, RepliesRead}
 use Rattle.ledger.proofs.Settling.{settle-line}
 use Rattle.ledger.proofs.ByCases.{take-cases, read-cases, write-cases, diagnosis-cases, parameters-cases, configuration-cases}
 use Rattle.ledger.proofs.Hearing.{last-heard}
-use Rattle.ledger.proofs.Lawful.{OutputsLaw, SetLaw, Lawful, and-left, and-right, both-ends, refilled-counts, serve-lawful, clear-lawful, settled-lawful, ticked-lawful, parameters-lawful, configuration-lawful}
+use Rattle.ledger.proofs.Lawful.{OutputsLaw, SetLaw, Lawful, both-ends, refilled-counts, serve-lawful, clear-lawful, settled-lawful, ticked-lawful, parameters-lawful, configuration-lawful}
+use Rattle.state.proofs.Choice.{and-left, and-right}
 use Rattle.ledger.proofs.ReadBack.{reply-reads, reply-left}
 
 -- ---------------------------------------------------------------------------------------------------

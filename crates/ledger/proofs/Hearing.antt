@@ -16,7 +16,8 @@ use Rattle.telegram.proofs.Framing.{framing, told}
 use Rattle.ledger.specs.Ledger.{Line, Ledger, withLine}
 use Rattle.ledger.specs.Deeds.{settle}
 use Rattle.ledger.specs.Bus.{telegramOn, answered, completed, lengthened, beginning, heard, sendTold, sendLeft, sent}
-use Rattle.ledger.specs.Calls.{send, answers, after}
+use Rattle.rules.specs.Call.{send}
+use Rattle.ledger.specs.Calls.{answers, after}
 use Rattle.ledger.specs.Hearing.{hear, begunBy, Hears, sendsOf, values, replyTo, Dialogue}
 use Rattle.ledger.proofs.Runs.{answers-append}
 use Rattle.ledger.proofs.Settling.{settle-line}

@@ -21,7 +21,8 @@ use Rattle.ledger.specs.Ledger.{Ledger, withLine, begun, busy, fresh}
 use Rattle.ledger.specs.Deeds.{onOutputs, carried, settle}
 use Rattle.ledger.specs.Bus.{telegramOn, requestBy, outcomeOf, answered, completed, brokenOff, lengthened, beginning, sendLeft, silenced, heardAs, heard, paused, sent, elapsed}
 use Rattle.ledger.specs.User.{readOctet, handOver, acknowledgeEvents, leaveMaster}
-use Rattle.ledger.specs.Calls.{Call, octet, gap, send, tick, take, read, write, hand-over, new-diagnosis, judge-parameters, judge-configuration, events, acknowledge, pending, leave, step, after}
+use Rattle.rules.specs.Call.{Call, octet, gap, send, tick, take, read, write, hand-over, new-diagnosis, judge-parameters, judge-configuration, events, acknowledge, pending, leave}
+use Rattle.ledger.specs.Calls.{step, after}
 use Rattle.ledger.proofs.Runs.{answers-append}
 use Rattle.ledger.proofs.Settling.{settle-outputs}
 use Rattle.ledger.proofs.Kept.{step-kept, after-kept}

@@ -7,7 +7,7 @@ use borrow.Author.Tests.{leb-true, eqb-true, not-false}
 use Rattle.state.specs.declared.setup.Setup.{Setup}
 use Rattle.state.specs.declared.control.Control.{Control}
 use Rattle.state.specs.declared.state.Drawn.{Drawn}
-use Rattle.telegram.proofs.Run.{no-true}
+use Rattle.state.proofs.Choice.{and-left, and-right}
 use Rattle.rules.specs.declared.request.Request.{Request}
 use Rattle.rules.specs.declared.request.Prm.{Prm}
 use Rattle.rules.specs.declared.request.Service.{Service}
@@ -61,15 +61,6 @@ refilled-counts s c r =
 zeros-law : (t : Bool) (s : Setup) (n : ℕ) → OutputsLaw (cond t outputs-deed.Zeros outputs-deed.Keep) s n
 zeros-law true s n = tt
 zeros-law false s n = tt
-
--- both tests
-pub and-left : (p q : Bool) → p && q ≡ true → p ≡ true
-and-left true q e = refl
-and-left false q e = no-true e
-
-pub and-right : (p q : Bool) → p && q ≡ true → q ≡ true
-and-right true q e = e
-and-right false q e = no-true e
 
 -- a number within a range
 pub both-ends : (low n high : ℕ) → within low n high ≡ true → (low ≤ n) × (n ≤ high)

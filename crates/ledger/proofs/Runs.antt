@@ -5,7 +5,8 @@ use mathlib.Core.List.{List, [], _∷_, _++_}
 use lib.ListN.{length}
 use Rattle.state.specs.declared.answer.Answer.{Answer}
 use Rattle.ledger.specs.Ledger.{Ledger}
-use Rattle.ledger.specs.Calls.{Call, step, answers, after}
+use Rattle.rules.specs.Call.{Call}
+use Rattle.ledger.specs.Calls.{step, answers, after}
 
 pub after-append : (l : Ledger) (cs ds : List Call) → after l (cs ++ ds) ≡ after (after l cs) ds
 after-append l [] ds = refl

@@ -23,7 +23,7 @@ use Rattle.ledger.specs.Calls.{step, answers, after}
 use Rattle.ledger.specs.Hearing.{hear, begunBy, sendsOf}
 use Rattle.ledger.specs.Script.{Part, hears, sends, does, refuses, callsOf, answersOf, Answers}
 use Rattle.ledger.proofs.Runs.{answers-append}
-use Rattle.ledger.proofs.Lawful.{and-left, and-right}
+use Rattle.state.proofs.Choice.{and-left, and-right}
 use Rattle.ledger.proofs.Hearing.{hear-answers, hears as whole}
 
 abbrev complete : Status → Bool

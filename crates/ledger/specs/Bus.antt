@@ -14,7 +14,8 @@ use Rattle.rules.specs.Requests.{masterOf, refilled, serviceOf}
 use Rattle.rules.specs.Services.{serve}
 use Rattle.rules.specs.Line.{ticked}
 use Rattle.ledger.specs.Ledger.{Line, Ledger, withLine, begun, busy, parametersOpen, configurationOpen}
-use Rattle.ledger.specs.Replies.{replyOf, diagnoses}
+use Rattle.ledger.specs.Replies.{replyOf}
+use Rattle.rules.specs.Replies.{diagnoses}
 use Rattle.ledger.specs.Deeds.{carried, onBuffers, settle}
 
 -- the telegram with these octets

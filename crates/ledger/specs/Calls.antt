@@ -1,28 +1,11 @@
--- The calls, and the answers to a list of them.
+-- The answers to a list of calls.
 use Prim.Native.Nat.{ℕ}
-use mathlib.Core.Bool.{Bool}
 use mathlib.Core.List.{List, [], _∷_}
 use Rattle.state.specs.declared.answer.Answer.{Answer}
+use Rattle.rules.specs.Call.{Call, octet, gap, send, tick, take, read, write, hand-over, new-diagnosis, judge-parameters, judge-configuration, events, acknowledge, pending, leave}
 use Rattle.ledger.specs.Ledger.{Ledger}
 use Rattle.ledger.specs.Bus.{heard, paused, sendTold, sent, elapsed}
 use Rattle.ledger.specs.User.{Told, told, takeOutputs, readOctet, writeOctet, handOver, newDiagnosis, judgeParameters, judgeConfiguration, eventWord, acknowledgeEvents, pendingEvent, leaveMaster}
-
-pub data Call : Type 0 where
-  octet : (value : ℕ) (bad : Bool) → Call
-  gap : Call
-  send : Call
-  tick : Call
-  take : Call
-  read : (kind index : ℕ) → Call
-  write : (kind index value : ℕ) → Call
-  hand-over : Call
-  new-diagnosis : (count flags : ℕ) → Call
-  judge-parameters : (judgement : ℕ) → Call
-  judge-configuration : (judgement : ℕ) → Call
-  events : Call
-  acknowledge : (mask : ℕ) → Call
-  pending : Call
-  leave : Call
 
 -- calls with no answer named answer 0
 abbrev pub step : Ledger → Call → Told

@@ -10,7 +10,8 @@ use Rattle.telegram.specs.declared.reader.Status.the-variants.{Inside}
 use Rattle.telegram.specs.Reading.{run, status}
 use Rattle.ledger.specs.Ledger.{Ledger}
 use Rattle.ledger.specs.Bus.{heard}
-use Rattle.ledger.specs.Calls.{Call, octet, gap, send, tick, take, read, write, hand-over, new-diagnosis, judge-parameters, judge-configuration, events, acknowledge, pending, leave, answers, after}
+use Rattle.rules.specs.Call.{Call, octet, gap, send, tick, take, read, write, hand-over, new-diagnosis, judge-parameters, judge-configuration, events, acknowledge, pending, leave}
+use Rattle.ledger.specs.Calls.{answers, after}
 
 -- a telegram is begun, unfinished and not broken off
 pub record Within (l : Ledger) : Type 0 where

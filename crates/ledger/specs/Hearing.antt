@@ -11,7 +11,8 @@ use Rattle.telegram.specs.Sending.{startOctet}
 use Rattle.ledger.specs.Ledger.{Ledger, withLine}
 use Rattle.ledger.specs.Deeds.{settle}
 use Rattle.ledger.specs.Bus.{beginning, completed}
-use Rattle.ledger.specs.Calls.{Call, octet, send, answers, after}
+use Rattle.rules.specs.Call.{Call, octet, send}
+use Rattle.ledger.specs.Calls.{answers, after}
 
 -- these octets one after the other, none flagged bad
 abbrev pub hear : List ℕ → List Call

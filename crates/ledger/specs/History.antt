@@ -18,7 +18,8 @@ use Rattle.rules.specs.User.{judgedParameters, judgedConfiguration}
 use Rattle.ledger.specs.Lists.{some}
 use Rattle.ledger.specs.Ledger.{Ledger, withLine, busy, parametersOpen, configurationOpen, fresh}
 use Rattle.ledger.specs.Bus.{telegramOn, requestBy, outcomeOf, completed, brokenOff, sendLeft, silenced}
-use Rattle.ledger.specs.Calls.{Call, octet, gap, send, tick, take, read, write, hand-over, new-diagnosis, judge-parameters, judge-configuration, events, acknowledge, pending, leave, step, answers, after}
+use Rattle.rules.specs.Call.{Call, octet, gap, send, tick, take, read, write, hand-over, new-diagnosis, judge-parameters, judge-configuration, events, acknowledge, pending, leave}
+use Rattle.ledger.specs.Calls.{step, answers, after}
 
 -- a Data_Exchange was accepted with these data octets; zeros were published by the station; the user took outputs
 pub data Deed : Type 0 where

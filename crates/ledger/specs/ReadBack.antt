@@ -18,9 +18,11 @@ use Rattle.rules.specs.Requests.{masterOf}
 use Rattle.ledger.specs.Lists.{Outputs, Inputs, Sets, Diagnoses, Buffers}
 use Rattle.ledger.specs.Ledger.{Ledger, fresh}
 use Rattle.ledger.specs.Deeds.{onBuffers}
-use Rattle.ledger.specs.Replies.{diagnosisOctets, exchangeFc}
+use Rattle.ledger.specs.Replies.{diagnosisOctets}
+use Rattle.rules.specs.Replies.{exchangeFc}
 use Rattle.ledger.specs.Bus.{telegramOn, requestBy, outcomeOf, completed, heard}
-use Rattle.ledger.specs.Calls.{Call, after}
+use Rattle.rules.specs.Call.{Call}
+use Rattle.ledger.specs.Calls.{after}
 use Rattle.ledger.specs.Hearing.{begunBy}
 
 -- The ranges --------------------------------------------------------------------------------------

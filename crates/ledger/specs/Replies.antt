@@ -1,6 +1,5 @@
 -- The replies, as the grammar's octets (document 01, Services).
 use Prim.Native.Nat.{ℕ, _+_, _/_, _%_}
-use mathlib.Core.Bool.{Bool, true, false, cond}
 use mathlib.Core.List.{List, [], _∷_, _++_}
 use lib.ListN.{take, drop}
 use Rattle.telegram.specs.Telegram.{Telegram, sd1, sd2, octetsOf}
@@ -10,6 +9,7 @@ use Rattle.state.specs.declared.state.Header.{Header}
 use Rattle.state.specs.declared.state.Drawn.{Drawn}
 use Rattle.state.specs.declared.state.Drawn.the-variants.{Nothing, Acknowledge, Status, Rejected, Exchange, Inputs, Outputs, Configuration, Diagnosis}
 use Rattle.rules.specs.Diagnosis.{headerOf}
+use Rattle.rules.specs.Replies.{exchangeFc}
 use Rattle.ledger.specs.Lists.{Buffers}
 
 -- octets 0 to 3 as the station makes them, 4 and 5 the ident, high first
@@ -28,10 +28,6 @@ shortReply s master fc = octetsOf (sd1 master (s .address) fc)
 abbrev pub serviceReply : Setup → ℕ → ℕ → List ℕ → List ℕ
 serviceReply s master point ds = octetsOf (sd2 (master + 128) (s .address + 128) 0x08 (0x3E ∷ point ∷ ds))
 
--- FC 08, or 0A while Diag_Flag
-abbrev pub exchangeFc : Control → ℕ
-exchangeFc c = cond (c .flags .«diag_flag») 0x0A 0x08
-
 -- the reply to a master, whole
 abbrev pub replyOf : Drawn → Setup → List ℕ → Control → Buffers → ℕ → List ℕ
 replyOf Nothing s slice c b master = []
@@ -43,15 +39,3 @@ replyOf Inputs s slice c b master = serviceReply s master 56 (b .inputs .sending
 replyOf Outputs s slice c b master = serviceReply s master 57 (b .outputs .held)
 replyOf Configuration s slice c b master = serviceReply s master 59 slice
 replyOf Diagnosis s slice c b master = serviceReply s master 60 (diagnosisOctets s c (b .diagnosis .own))
-
--- a Slave_Diag's
-abbrev pub diagnoses : Drawn → Bool
-diagnoses Nothing = false
-diagnoses Acknowledge = false
-diagnoses Status = false
-diagnoses Rejected = false
-diagnoses Exchange = false
-diagnoses Inputs = false
-diagnoses Outputs = false
-diagnoses Configuration = false
-diagnoses Diagnosis = true

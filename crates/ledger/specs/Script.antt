@@ -8,7 +8,8 @@ use Rattle.state.specs.declared.answer.Answer.{Answer}
 use Rattle.state.specs.declared.answer.Answer.the-variants.{Value, Refused}
 use Rattle.state.specs.declared.answer.Refusal.{Refusal}
 use Rattle.ledger.specs.Ledger.{Ledger}
-use Rattle.ledger.specs.Calls.{Call, answers}
+use Rattle.rules.specs.Call.{Call}
+use Rattle.ledger.specs.Calls.{answers}
 use Rattle.ledger.specs.Hearing.{hear, sendsOf, values}
 
 -- octets that come, each answered by 0; sends that answer these; a call that answers a value; a call that is refused

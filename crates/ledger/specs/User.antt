@@ -2,10 +2,9 @@
 use Prim.Native.Nat.{ℕ}
 use mathlib.Core.Bool.{Bool, true, false, cond, not, _&&_, _||_}
 use mathlib.Core.List.{List, [], _∷_}
-use lib.Dec.{eqb, leb, ltb}
+use lib.Dec.{eqb, leb}
 use lib.ListN.{length, getD}
 use Rattle.buffers.specs.Events.{acknowledged, pendingOf}
-use Rattle.state.specs.declared.setup.Setup.{Setup}
 use Rattle.state.specs.declared.answer.Answer.{Answer}
 use Rattle.state.specs.declared.answer.Answer.the-variants.{Value, Refused}
 use Rattle.state.specs.declared.answer.Refusal.{Refusal}
@@ -13,6 +12,7 @@ use Rattle.state.specs.declared.answer.Refusal.the-variants.{Judging, Range, Ab
 use Rattle.state.specs.Well.{within}
 use Rattle.rules.specs.Control.{withEvents}
 use Rattle.rules.specs.Diagnosis.{delayed, diagnosed, delaying}
+use Rattle.rules.specs.Kinds.{inRange, writable}
 use Rattle.rules.specs.Line.{clearOn}
 use Rattle.rules.specs.User.{judgedParameters, judgedConfiguration}
 use Rattle.ledger.specs.Lists.{some, taken, handedOver, writtenInput, writtenDiagnosis, Buffers, withOutputs, withInputs, withDiagnoses}
@@ -36,23 +36,6 @@ unfoldable pub takeOutputs : Ledger → Told
 takeOutputs l =
     cond (not (l .buffers .outputs .fresh)) (told 0 l)
     (told (cond (l .buffers .outputs .zeros) 2 1) (withBuffers l (withOutputs (l .buffers) (taken (l .buffers .outputs)))))
-
--- what each kind is set to hold at most; 0 where there is no such kind
-abbrev pub lengthOf : Setup → ℕ → ℕ
-lengthOf s kind =
-    cond (eqb kind 1) (s .«output_len»)
-    (cond (eqb kind 2) (s .«parameter_len»)
-    (cond (eqb kind 3) (s .«configuration_len»)
-    (cond (eqb kind 4) (s .«input_len»)
-    (cond (eqb kind 5) (s .«diagnosis_len») 0))))
-
--- kinds 4 and 5 are written
-abbrev pub writable : ℕ → Bool
-writable kind = eqb kind 4 || eqb kind 5
-
--- index from 0, for 5 from 6, below the kind's set length
-abbrev pub inRange : Setup → ℕ → ℕ → Bool
-inRange s kind index = leb (cond (eqb kind 5) 6 0) index && ltb index (lengthOf s kind)
 
 -- kind 2 or 3 with no set shown or at an index not below its count, kind 5 while a new diagnosis is delayed
 abbrev pub absent : Ledger → ℕ → ℕ → Bool

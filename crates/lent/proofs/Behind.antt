@@ -27,12 +27,12 @@ use Rattle.rules.specs.declared.request.Prm.{Prm}
 use Rattle.rules.specs.Requests.{refilled, serviceOf}
 use Rattle.rules.specs.Services.{serve}
 use Rattle.rules.specs.Line.{settled, ticked}
-use Rattle.station.specs.Safe.{Safe}
-use Rattle.station.specs.Stepped.{Stepped}
-use Rattle.station.specs.Deeds.{begun, busy, isOpen, onMemory, carried, afterReply, settle}
-use Rattle.station.specs.Reading.{storedData, storedAs, readBy, requestBy, prmAt, prmIn, outcomeOf, answered, completed, beginning, isIgnored, heardAs, heard}
-use Rattle.station.specs.Bus.{paused, silencedReader, elapsed}
-use Rattle.station.proofs.Safety.{safe-after-reply, safe-read-by, safe-beginning, safe-completed}
+use Rattle.steps.specs.Safe.{Safe}
+use Rattle.steps.specs.Stepped.{Stepped}
+use Rattle.steps.specs.Deeds.{begun, busy, isOpen, onMemory, carried, afterReply, settle}
+use Rattle.steps.specs.Reading.{storedData, storedAs, readBy, requestBy, prmAt, prmIn, outcomeOf, answered, completed, beginning, isIgnored, heardAs, heard}
+use Rattle.steps.specs.Bus.{paused, silencedReader, elapsed}
+use Rattle.steps.proofs.Safety.{safe-after-reply, safe-read-by, safe-beginning, safe-completed}
 use Rattle.lent.specs.Run.{Beat, octet, gap, tick, beat}
 
 -- what lies behind the state part

@@ -5,7 +5,7 @@ use mathlib.Core.Bool.{Bool, cond}
 use mathlib.Core.List.{List}
 use lib.IntN.{pos}
 use Rattle.state.specs.Memory.{wellMemory}
-use Rattle.ledger.specs.Calls.{Call}
+use Rattle.rules.specs.Call.{Call}
 use Rattle.lent.specs.Run.{left}
 use Rattle.lent.specs.Exports.{Returns}
 

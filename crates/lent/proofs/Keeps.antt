@@ -29,15 +29,16 @@ use Rattle.rules.specs.declared.request.Request.{Request}
 use Rattle.rules.specs.Requests.{masterOf, refilled, serviceOf}
 use Rattle.rules.specs.Line.{settled, ticked}
 use Rattle.rules.specs.Diagnosis.{delayed, diagnosed, caughtUp}
-use Rattle.ledger.proofs.Lawful.{SetLaw, Lawful, and-left, refilled-counts, serve-lawful, settled-lawful, ticked-lawful}
-use Rattle.station.specs.Safe.{Safe}
-use Rattle.station.specs.Stepped.{Stepped, unchanged}
+use Rattle.ledger.proofs.Lawful.{SetLaw, Lawful, refilled-counts, serve-lawful, settled-lawful, ticked-lawful}
+use Rattle.state.proofs.Choice.{and-left}
+use Rattle.steps.specs.Safe.{Safe}
+use Rattle.steps.specs.Stepped.{Stepped, unchanged}
 use Rattle.state.specs.With.{withIncoming, withReply}
-use Rattle.station.specs.Deeds.{begun, busy, isOpen, diagnosisLeaves, onSets, carried, diagnosisChanged, afterReply, settle}
-use Rattle.station.specs.Replies.{noReply, replyFor}
-use Rattle.station.specs.Reading.{keptOctets, storedAs, readBy, requestBy, prmIn, outcomeOf, answered, completed, beginning, isIgnored, heardAs, heard}
-use Rattle.station.specs.Bus.{paused, silencedReader, elapsed}
-use Rattle.station.proofs.Safety.{safe-carried, safe-after-reply, safe-read-by, safe-beginning, safe-completed}
+use Rattle.steps.specs.Deeds.{begun, busy, isOpen, diagnosisLeaves, onSets, carried, diagnosisChanged, afterReply, settle}
+use Rattle.steps.specs.Replies.{noReply, replyFor}
+use Rattle.steps.specs.Reading.{keptOctets, storedAs, readBy, requestBy, prmIn, outcomeOf, answered, completed, beginning, isIgnored, heardAs, heard}
+use Rattle.steps.specs.Bus.{paused, silencedReader, elapsed}
+use Rattle.steps.proofs.Safety.{safe-carried, safe-after-reply, safe-read-by, safe-beginning, safe-completed}
 use Rattle.lent.specs.Run.{Beat, octet, gap, tick, beat}
 
 -- ---- a set of parameters or of configuration after an outcome

@@ -35,10 +35,10 @@ use denote.Triple.Clauses.{ensured, lasts}
 use denote.Triple.Spec.{tripleOf}
 use denote.Triple.Walked.{says}
 use Rattle.state.specs.declared.state.State.{State}
-use Rattle.station.specs.Safe.{Safe}
-use Rattle.station.specs.Stepped.{Steps}
-use Rattle.station.specs.Reading as reading
-use Rattle.station.specs.Bus.{elapsed}
+use Rattle.steps.specs.Safe.{Safe}
+use Rattle.steps.specs.Stepped.{Steps}
+use Rattle.steps.specs.Reading as reading
+use Rattle.steps.specs.Bus.{elapsed}
 use Rattle.lent.proofs.Value.{R, value, values}
 use Rattle.lent.proofs.Again.{LentAgain, lends-again, comes-back}
 use Rattle.lent.proofs.Local.{lends-local, local-back}

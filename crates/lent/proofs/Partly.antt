@@ -9,8 +9,8 @@ use mathlib.Core.List.{List, [], _∷_, _++_}
 use lib.ListN.{length, getD, drop}
 use lib.Seq.{drop-cons, drop-length}
 use Rattle.state.specs.declared.state.State.{State}
-use Rattle.station.specs.Safe.{Safe}
-use Rattle.station.specs.Stepped.{Stepped, Steps}
+use Rattle.steps.specs.Safe.{Safe}
+use Rattle.steps.specs.Stepped.{Stepped, Steps}
 use Rattle.lent.specs.Run.{Beat, octet, tick, beat, run, received, ticks}
 use Rattle.lent.proofs.Same.{safe-beat, beat-length}
 

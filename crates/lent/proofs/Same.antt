@@ -18,16 +18,18 @@ use Rattle.state.specs.Unpack.{unpacked}
 use Rattle.state.proofs.Damage.{holds-unpacked, kept-holds}
 use Rattle.state.proofs.Front.{kept-drop}
 use Rattle.ledger.specs.Ledger.{Ledger, fresh}
-use Rattle.ledger.specs.Calls as call
-use Rattle.ledger.specs.Calls.{Call, after}
+use Rattle.rules.specs.Call as call
+use Rattle.ledger.specs.Calls as ledger
+use Rattle.rules.specs.Call.{Call}
+use Rattle.ledger.specs.Calls.{after}
 use Rattle.ledger.proofs.Runs as ledger-runs
-use Rattle.station.specs.Safe.{Safe}
-use Rattle.station.specs.Calls.{step, called, answers}
-use Rattle.station.specs.Agreement.{memoryOf}
-use Rattle.station.proofs.Safety.{safe-heard, safe-paused, safe-elapsed}
-use Rattle.station.proofs.Lengths.{step-length}
-use Rattle.station.proofs.Calling.{holds-safe, fronted, called-whole}
-use Rattle.station.proofs.Agreement.{On, does, begins-on, agreement}
+use Rattle.steps.specs.Safe.{Safe}
+use Rattle.steps.specs.Calls.{step, called, answers}
+use Rattle.agreement.specs.Agreement.{memoryOf}
+use Rattle.steps.proofs.Safety.{safe-heard, safe-paused, safe-elapsed}
+use Rattle.steps.proofs.Lengths.{step-length}
+use Rattle.steps.proofs.Holding.{holds-safe, fronted, called-whole}
+use Rattle.agreement.proofs.Agreement.{On, does, begins-on, agreement}
 use Rattle.lent.specs.Run.{Beat, octet, gap, tick, beat, run, callOf, calls, left, Same, CarriesOver}
 use Rattle.lent.proofs.Behind.{behind, alike-beat}
 use Rattle.lent.proofs.Keeps.{sound-beat}
@@ -126,8 +128,8 @@ reach : (cs : List Call) (m : List ℕ) (s : State) (l : Ledger) → On m s l �
 reach [] m s l o = (s, o)
 reach (c ∷ cs) m s l o =
     let d = does m s l o c in
-    subst (λ (p : List ℕ). (x : State) × On (left p cs) x (after (call.step l c .ledger) cs)) (sym (ap (λ (r : Called). r .memory) (d .tells)))
-    (reach cs (d .memory-after) (d .state-after) (call.step l c .ledger) (d .again))
+    subst (λ (p : List ℕ). (x : State) × On (left p cs) x (after (ledger.step l c .ledger) cs)) (sym (ap (λ (r : Called). r .memory) (d .tells)))
+    (reach cs (d .memory-after) (d .state-after) (ledger.step l c .ledger) (d .again))
 
 -- what a list of calls leaves and answers, by its parts
 left-append : (xs ys : List Call) (m : List ℕ) → left m (xs ++ ys) ≡ left (left m xs) ys
@@ -145,10 +147,10 @@ same-end p q p′ q′ e f =
 
 module _ (m : List ℕ) (s : Setup) (slice : List ℕ) (long : s .«get_cfg_len» ≡ length slice) (zero : started m s slice .answer ≡ Value 0) where
   -- the calls after some others answer as the ledger does after them
-  later : (xs ys : List Call) → answers (left (memoryOf m s slice) xs) ys ≡ call.answers (after (fresh s slice) xs) ys
+  later : (xs ys : List Call) → answers (left (memoryOf m s slice) xs) ys ≡ ledger.answers (after (fresh s slice) xs) ys
   later xs ys =
       let agree = agreement m s slice long zero .agree in
-      same-end (answers (memoryOf m s slice) xs) _ (call.answers (fresh s slice) xs) _
+      same-end (answers (memoryOf m s slice) xs) _ (ledger.answers (fresh s slice) xs) _
       (sym (answers-append xs ys (memoryOf m s slice)) ∙ agree (xs ++ ys) ∙ ledger-runs.answers-append (fresh s slice) xs ys) (agree xs)
 
   same : (pre : List Call) (bs : List Beat) → Same (left (memoryOf m s slice) pre) bs

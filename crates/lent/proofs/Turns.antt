@@ -9,12 +9,12 @@ use Rattle.state.specs.declared.state.State.{State}
 use Rattle.state.specs.Answer.{refused}
 use Rattle.state.specs.Memory.{kept, wellMemory, Holds}
 use Rattle.state.specs.Unpack.{unpacked}
-use Rattle.ledger.specs.Calls.{Call}
-use Rattle.station.specs.Safe.{Safe}
-use Rattle.station.specs.Stepped.{Stepped, Steps}
-use Rattle.station.specs.Bus.{paused}
-use Rattle.station.specs.Calls.{step, packed, called}
-use Rattle.station.proofs.Safety.{safe-steps}
+use Rattle.rules.specs.Call.{Call}
+use Rattle.steps.specs.Safe.{Safe}
+use Rattle.steps.specs.Stepped.{Stepped, Steps}
+use Rattle.steps.specs.Bus.{paused}
+use Rattle.steps.specs.Calls.{step, packed, called}
+use Rattle.steps.proofs.Safety.{safe-steps}
 use Rattle.lent.specs.Run.{Beat, gap, run, calls, left}
 use Rattle.lent.proofs.Partly.{run-append}
 use Rattle.lent.proofs.Same.{safe-run, lent-image}

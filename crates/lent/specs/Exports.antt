@@ -5,7 +5,7 @@ use mathlib.Core.Bool.{cond}
 use mathlib.Core.List.{List}
 use lib.IntN.{ℤ, pos}
 use Rattle.state.specs.Memory.{wellMemory}
-use Rattle.ledger.specs.Calls.{Call}
+use Rattle.rules.specs.Call.{Call}
 use Rattle.lent.specs.Run.{left}
 
 -- 1 for a memory m that holds a state and 0 for any other; the memory that the exported calls cs leave

@@ -10,13 +10,15 @@ use Rattle.state.specs.declared.state.State.{State}
 use Rattle.state.specs.Memory.{kept, Holds}
 use Rattle.state.specs.Unpack.{unpacked}
 use Rattle.ledger.specs.Ledger.{fresh}
-use Rattle.ledger.specs.Calls as call
-use Rattle.ledger.specs.Calls.{Call, after}
-use Rattle.station.specs.Stepped.{Stepped, unchanged}
-use Rattle.station.specs.Reading.{heard}
-use Rattle.station.specs.Bus.{paused, elapsed}
-use Rattle.station.specs.Calls.{called, answers}
-use Rattle.station.specs.Agreement.{memoryOf}
+use Rattle.rules.specs.Call as call
+use Rattle.ledger.specs.Calls as ledger
+use Rattle.rules.specs.Call.{Call}
+use Rattle.ledger.specs.Calls.{after}
+use Rattle.steps.specs.Stepped.{Stepped, unchanged}
+use Rattle.steps.specs.Reading.{heard}
+use Rattle.steps.specs.Bus.{paused, elapsed}
+use Rattle.steps.specs.Calls.{called, answers}
+use Rattle.agreement.specs.Agreement.{memoryOf}
 
 -- what the bus does
 pub data Beat : Type 0 where
@@ -78,4 +80,4 @@ pub record Same (m : List ℕ) (bs : List Beat) : Type 0 where
 pub record CarriesOver (m : List ℕ) (s : Setup) (slice : List ℕ) : Type 0 where
   pub same : (pre : List Call) (bs : List Beat) → Same (left (memoryOf m s slice) pre) bs
   pub agree : (pre : List Call) (bs : List Beat) (cs : List Call)
-      → answers (packedRun (left (memoryOf m s slice) pre) bs) cs ≡ call.answers (after (fresh s slice) (pre ++ calls bs)) cs
+      → answers (packedRun (left (memoryOf m s slice) pre) bs) cs ≡ ledger.answers (after (fresh s slice) (pre ++ calls bs)) cs

@@ -10,8 +10,8 @@ use station::bus::pause;
 ghost use mathlib.Core.Path.{_≡_};
 ghost use mathlib.Core.List.{_++_};
 ghost use Rattle.state.specs.Memory.{wellMemory};
-ghost use Rattle.station.specs.Safe.{Safe};
-ghost use Rattle.station.specs.Stepped.{Steps};
+ghost use Rattle.steps.specs.Safe.{Safe};
+ghost use Rattle.steps.specs.Stepped.{Steps};
 ghost use Rattle.lent.specs.Run.{run, received, ticks, turn, calls, left};
 
 // Octets.

@@ -6,10 +6,10 @@ pub mod exports;
 use state::state::State;
 use station::bus::elapse;
 use station::reading::hear;
-ghost use Rattle.station.specs.Safe.{Safe};
-ghost use Rattle.station.specs.Stepped.{Steps};
-ghost use Rattle.station.specs.Reading.{heard};
-ghost use Rattle.station.specs.Bus.{elapsed};
+ghost use Rattle.steps.specs.Safe.{Safe};
+ghost use Rattle.steps.specs.Stepped.{Steps};
+ghost use Rattle.steps.specs.Reading.{heard};
+ghost use Rattle.steps.specs.Bus.{elapsed};
 
 // The bus's octet, flagged bad by the receiver or not.
 pub fn octet(state: &mut State, memory: &mut [u8], value: u8, bad: bool)

@@ -5,3 +5,6 @@ pub mod Services
 pub mod Diagnosis
 pub mod Line
 pub mod User
+pub mod Call
+pub mod Kinds
+pub mod Replies

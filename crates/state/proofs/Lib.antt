@@ -1,6 +1,7 @@
 pub mod Count
 pub mod Numbers
 pub mod Tests
+pub mod Choice
 pub mod Bits
 pub mod Round
 pub mod Places

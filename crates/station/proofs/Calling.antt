@@ -22,87 +22,16 @@ use Rattle.state.specs.Unpack.{unpacked}
 use Rattle.state.proofs.Damage.{holds-unpacked, holds-well, well-holds}
 use Rattle.state.specs.Well.{within}
 use Rattle.rules.specs.Diagnosis.{delayed}
-use Rattle.ledger.specs.User.{inRange, writable}
-use Rattle.ledger.specs.Calls as calls
-use Rattle.ledger.specs.Calls.{Call}
-use Rattle.station.specs.Safe.{Safe}
-use Rattle.station.specs.Stepped.{Stepped, Steps, packedAfter}
-use Rattle.station.specs.Deeds.{isOpen, diagnosisLeaves}
-use Rattle.station.specs.User.{absent, Told, told, refusing, toldOf, Tells, takeOutputs, readOctet, writeOctet, handOver, newDiagnosis, judgeParameters, judgeConfiguration, acknowledgeEvents, leaveMaster}
-use Rattle.station.specs.Calls.{step, packed, called}
+use Rattle.rules.specs.Kinds.{inRange, writable}
+use Rattle.rules.specs.Call as calls
+use Rattle.rules.specs.Call.{Call}
+use Rattle.steps.specs.Safe.{Safe}
+use Rattle.steps.specs.Stepped.{Stepped, Steps, packedAfter}
+use Rattle.steps.specs.Deeds.{isOpen, diagnosisLeaves}
+use Rattle.steps.specs.User.{absent, Told, told, refusing, toldOf, Tells, takeOutputs, readOctet, writeOctet, handOver, newDiagnosis, judgeParameters, judgeConfiguration, acknowledgeEvents, leaveMaster}
+use Rattle.steps.specs.Calls.{step, packed, called}
+use Rattle.steps.proofs.Holding.{holds-safe, fronted, called-whole}
 use Rattle.station.proofs.Reaching.{written-front}
-
--- ---- a memory that holds a state
-
--- the steps may be made on it
-pub holds-safe : (m : List ℕ) (s : State) → Holds m s → Safe s m
-holds-safe m s h =
-    let g = h .sound in
-    record {
-      outputs = g .outputs;
-      inputs = g .inputs;
-      parameters = g .parameters;
-      configuration = g .configuration;
-      reply = g .place;
-      long = g .parameter-len .0;
-      room = h .room;
-    }
-
--- it has room for the state
-pub holds-long : (m : List ℕ) (s : State) → Holds m s → stateLength ≤ length m
-holds-long m s h = let w = h .length-in in omega arith
-
--- another memory with that state's octets in front stays as it is where the state is packed again
-pub fronted : (m n : List ℕ) (s : State) → Holds m s → take stateLength n ≡ take stateLength m → n ≡ kept s n
-fronted m n s h e = sym (take-append-drop stateLength n) ∙ ap (λ (l : List ℕ). l ++ drop stateLength n) (e ∙ h .front)
-
--- ---- a refusal leaves the memory
-
--- what a step leaves, packed whatever it answers
-abbrev pub whole : Told → Called
-whole t = record { answer = t .answer; memory = kept (t .state) (t .memory) }
-
-record Packs (m : List ℕ) (t : Told) : Type 0 where
-  packed-so : packed m t ≡ whole t
-
-either : (m : List ℕ) (b : Bool) (t u : Told) → Packs m t → Packs m u → Packs m (cond b t u)
-either m true t u p q = p
-either m false t u p q = q
-
-module _ (s : State) (m : List ℕ) (same : m ≡ kept s m) where
-  refuses : (why : Refusal) → Packs m (refusing why s m)
-  refuses why = record { packed-so = ap (λ (l : List ℕ). refused l why) same }
-
-  tells : (n : ℕ) (t : State) (x : List ℕ) → Packs m (told n t x)
-  tells n t x = record { packed-so = refl }
-
-  -- two tests in front of a step
-  tested : (b : Bool) (why : Refusal) (c : Bool) (then : Refusal) (t : Told) → Packs m t
-      → Packs m (cond b (refusing why s m) (cond c (refusing then s m) t))
-  tested b why c then t p = either m b _ _ (refuses why) (either m c _ _ (refuses then) p)
-
-  -- where a step is refused, state and memory are as they were
-  packs : (c : Call) → Packs m (step s m c)
-  unfolding takeOutputs readOctet writeOctet handOver newDiagnosis judgeParameters judgeConfiguration acknowledgeEvents leaveMaster
-  packs (calls.octet b bad) = tells _ _ _
-  packs calls.gap = tells _ _ _
-  packs calls.send = tells _ _ _
-  packs calls.tick = tells _ _ _
-  packs calls.take = either m (not (s .outputs .set .fresh)) _ _ (tells _ _ _) (tells _ _ _)
-  packs (calls.read kind index) = tested (not (inRange (s .setup) kind index)) Range (absent s kind index) Absent _ (tells _ _ _)
-  packs (calls.write kind index x) =
-      tested (not (writable kind && inRange (s .setup) kind index)) Range (absent s kind index) Absent _ (tells _ _ _)
-  packs calls.hand-over = tells _ _ _
-  packs (calls.new-diagnosis count flags) =
-      tested (not (within 6 count (s .setup .«diagnosis_len») && leb flags 7)) Range (delayed (s .control)) Delayed _
-      (either m (diagnosisLeaves s) _ _ (tells _ _ _) (tells _ _ _))
-  packs (calls.judge-parameters j) = tested (not (isOpen (s .parameters))) Judging (not (leb j 1)) Range _ (tells _ _ _)
-  packs (calls.judge-configuration j) =
-      tested (not (isOpen (s .configuration) && s .control .flags .«parameters_good»)) Judging (not (leb j 1)) Range _ (tells _ _ _)
-  packs calls.events = tells _ _ _
-  packs (calls.acknowledge mask) = tells _ _ _
-  packs calls.pending = tells _ _ _
-  packs calls.leave = tells _ _ _
 
 -- ---- the call
 
@@ -120,13 +49,6 @@ pub holding : (m : List ℕ) (s : State) → Holds m (unpacked m) → s ≡ unpa
 holding m s h e = subst (Holds m) (sym e) h
 
 module _ (m : List ℕ) (s : State) (c : Call) (h : Holds m s) where
-  -- a call makes that state's step
-  pub called-whole : called m c ≡ whole (step s m c)
-  unfolding called
-  called-whole =
-      (λ i. cond (holds-well m s h i) (packed m (step (holds-unpacked m s h i) m c)) (refused m Damaged))
-      ∙ packs s m (fronted m m s h refl) c .packed-so
-
   -- as the code makes it and packs it again
   pub stepped : (a : Answer) (t : State) (n x : List ℕ) → Tells (step s m c) a t n → x ≡ kept t n → Meets (called m c) a x
   stepped a t n x r k =

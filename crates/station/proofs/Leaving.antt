@@ -19,14 +19,14 @@ use Rattle.state.specs.Layout.{outputs, inputs, diagnosis, outputsAt, inputsAt,
 use Rattle.state.specs.Memory.{kept, Holds}
 use Rattle.state.specs.With.{withIncoming, withSender}
 use Rattle.rules.specs.Diagnosis.{delayed}
-use Rattle.station.specs.Stepped.{Stepped, Steps, packedAfter}
-use Rattle.station.specs.Deeds.{settle}
-use Rattle.station.specs.Replies.{ownPlace, contentAt, isExchange, datumAt, askedFor}
-use Rattle.station.specs.Reading.{readOn, readBy}
-use Rattle.station.specs.Bus.{paused, sendTold, sendLeft}
-use Rattle.station.proofs.Idle.{idle}
-use Rattle.station.proofs.Safety.{buffer-room}
-use Rattle.station.proofs.Calling.{holds-safe, fronted}
+use Rattle.steps.specs.Stepped.{Stepped, Steps, packedAfter}
+use Rattle.steps.specs.Deeds.{settle}
+use Rattle.steps.specs.Replies.{ownPlace, contentAt, isExchange, datumAt, askedFor}
+use Rattle.steps.specs.Reading.{readOn, readBy}
+use Rattle.steps.specs.Bus.{paused, sendTold, sendLeft}
+use Rattle.steps.proofs.Idle.{idle}
+use Rattle.steps.proofs.Safety.{buffer-room}
+use Rattle.steps.proofs.Holding.{holds-safe, fronted}
 
 -- ---- the buffers that a reply is read from
 

@@ -24,13 +24,13 @@ use Rattle.state.specs.Unpack.{unpacked}
 use Rattle.state.specs.With.{withIncoming, withData}
 use Rattle.state.proofs.Damage.{holds-unpacked}
 use Rattle.state.proofs.Places.{inside}
-use Rattle.station.specs.Stepped.{Steps, unchanged, packedAfter}
-use Rattle.station.specs.Deeds.{isInside, begun, settle}
-use Rattle.station.specs.Reading.{storedData, keptOctets, storedAs, readOn, readBy, beginning, heardAs, isIgnored, isPlain, heard}
-use Rattle.station.proofs.Calling.{holds-safe, fronted}
-use Rattle.station.proofs.Onward.{data-inside, data-goes-on, data-changes}
-use Rattle.station.proofs.Safety.{stored-data-length}
-use Rattle.station.proofs.Settles.{and-left, and-right}
+use Rattle.steps.specs.Stepped.{Steps, unchanged, packedAfter}
+use Rattle.steps.specs.Deeds.{isInside, begun, settle}
+use Rattle.steps.specs.Reading.{storedData, keptOctets, storedAs, readOn, readBy, beginning, heardAs, isIgnored, isPlain, heard}
+use Rattle.steps.proofs.Holding.{holds-safe, fronted}
+use Rattle.telegram.proofs.Onward.{data-inside, data-goes-on, data-changes}
+use Rattle.steps.proofs.Safety.{stored-data-length}
+use Rattle.state.proofs.Choice.{and-left, and-right}
 
 is-inside : (x : Status) → isInside x ≡ true → x ≡ Inside
 is-inside Fresh e = no-true e

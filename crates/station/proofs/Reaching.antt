@@ -15,10 +15,10 @@ use Rattle.state.specs.Layout as layout
 use Rattle.state.specs.Layout.{stateLength, countOf, startOf, outputs, inputs, parameters, configuration, diagnosis}
 use Rattle.state.proofs.Places.{inside}
 use Rattle.state.proofs.Tests.{all-at}
-use Rattle.ledger.specs.User.{lengthOf, inRange, writable}
-use Rattle.station.specs.Safe.{Safe}
-use Rattle.station.specs.Replies.{userPlace}
-use Rattle.station.specs.User.{told, refusing, absent, kindAt, writeOctet}
+use Rattle.rules.specs.Kinds.{lengthOf, inRange, writable}
+use Rattle.steps.specs.Safe.{Safe}
+use Rattle.steps.specs.Replies.{userPlace}
+use Rattle.steps.specs.User.{told, refusing, absent, kindAt, writeOctet}
 
 -- the user's diagnosis buffer is one of two
 user-place-in : (swapped : Bool) → userPlace swapped < 2

@@ -14,9 +14,9 @@ use Rattle.state.specs.declared.state.Outputs.{Outputs}
 use Rattle.state.specs.declared.state.Sets.{Sets}
 use Rattle.state.specs.declared.state.State.{State}
 use Rattle.state.specs.Layout.{outputs, parameters, configuration, outputsAt, parametersAt, configurationAt}
-use Rattle.station.specs.Safe.{Safe}
-use Rattle.station.specs.Reading.{storedData}
-use Rattle.station.proofs.Safety.{buffer-room}
+use Rattle.steps.specs.Safe.{Safe}
+use Rattle.steps.specs.Reading.{storedData}
+use Rattle.steps.proofs.Safety.{buffer-room}
 
 -- the setup and the telegram that is coming, as they were read
 module _ (s : State) (m : List ℕ) (safe : Safe s m) (g : Setup) (same-setup : g ≡ s .setup) (i : Incoming) (same : i ≡ s .incoming) where

@@ -21,10 +21,10 @@ ghost use mathlib.Core.Path.{_≡_};
 ghost use Rattle.state.specs.Memory.{Holds};
 ghost use Rattle.state.specs.Unpack.{unpacked};
 ghost use Rattle.state.specs.With.{withSender};
-ghost use Rattle.station.specs.Safe.{Safe};
-ghost use Rattle.station.specs.Stepped.{Steps, packedAfter};
-ghost use Rattle.station.specs.Deeds.{settle};
-ghost use Rattle.station.specs.Bus.{paused, sentBy, sendTold, sendLeft, silencedReader, elapsed};
+ghost use Rattle.steps.specs.Safe.{Safe};
+ghost use Rattle.steps.specs.Stepped.{Steps, packedAfter};
+ghost use Rattle.steps.specs.Deeds.{settle};
+ghost use Rattle.steps.specs.Bus.{paused, sentBy, sendTold, sendLeft, silencedReader, elapsed};
 
 // A gap: the next octet may begin a telegram.
 pub fn pause(s: State, mem: &mut [u8]) -> State

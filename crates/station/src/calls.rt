@@ -10,8 +10,8 @@ use state::image::save;
 use state::load;
 use state::memory::is_well;
 ghost use Rattle.state.specs.Answer.{Meets};
-ghost use Rattle.ledger.specs.Calls.{octet, gap, send, tick, take, read, write, hand-over, new-diagnosis, judge-parameters, judge-configuration, events, acknowledge, pending, leave};
-ghost use Rattle.station.specs.Calls.{called};
+ghost use Rattle.rules.specs.Call.{octet, gap, send, tick, take, read, write, hand-over, new-diagnosis, judge-parameters, judge-configuration, events, acknowledge, pending, leave};
+ghost use Rattle.steps.specs.Calls.{called};
 
 // The bus's octet, flagged bad by the receiver or not.
 pub fn octet(mem: &mut [u8], value: u8, bad: bool) -> Answer

@@ -6,10 +6,10 @@ use rules::line::settled;
 use rules::outcome::Outcome;
 use rules::outcome::OutputsDeed;
 use rules::outcome::SetDeed;
+use rules::replies::is_diagnosis;
 use state::control::Control;
 use state::layout::outputs_at;
 use state::load;
-use state::state::Drawn;
 use state::state::Outputs;
 use state::state::Sets;
 use state::state::State;
@@ -21,10 +21,9 @@ ghost use lib.ListN.{length};
 ghost use Rattle.state.specs.Layout.{stateLength};
 ghost use Rattle.state.specs.Unpack.{unpacked};
 ghost use Rattle.rules.specs.Diagnosis.{delayed};
-ghost use Rattle.station.specs.Safe.{Safe};
-ghost use Rattle.station.specs.Stepped.{Steps};
-ghost use Rattle.ledger.specs.Replies.{diagnoses};
-ghost use Rattle.station.specs.Deeds.{isInside, begun, busy, diagnosisLeaves, isOpen, onOutputs, onInputs, receivedSet, onSets, onState, onMemory, carried, diagnosisChanged, afterReply, settle};
+ghost use Rattle.steps.specs.Safe.{Safe};
+ghost use Rattle.steps.specs.Stepped.{Steps};
+ghost use Rattle.steps.specs.Deeds.{isInside, begun, busy, diagnosisLeaves, isOpen, onOutputs, onInputs, receivedSet, onSets, onState, onMemory, carried, diagnosisChanged, afterReply, settle};
 
 pub fn is_inside(status: Status) -> bool
     ensures { λ r. ⌜ r ≡ isInside status ⌝ }
@@ -51,22 +50,6 @@ pub fn busy(s: State) -> bool
 {
     let sender = s.reply.sender;
     begun(s) | sender.left()
-}
-
-fn is_diagnosis(drawn: Drawn) -> bool
-    ensures { λ r. ⌜ r ≡ diagnoses drawn ⌝ }
-{
-    match drawn {
-        Drawn::Nothing => false,
-        Drawn::Acknowledge => false,
-        Drawn::Status => false,
-        Drawn::Rejected => false,
-        Drawn::Exchange => false,
-        Drawn::Inputs => false,
-        Drawn::Outputs => false,
-        Drawn::Configuration => false,
-        Drawn::Diagnosis => true,
-    }
 }
 
 // A Slave_Diag reply is unfinished.

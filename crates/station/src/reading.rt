@@ -24,9 +24,9 @@ ghost use Prim.Native.Nat.{_+_, _≤_};
 ghost use mathlib.Core.Path.{_≡_};
 ghost use lib.ListN.{length};
 ghost use Rattle.telegram.specs.Reading.{datumOf};
-ghost use Rattle.station.specs.Safe.{Safe};
-ghost use Rattle.station.specs.Stepped.{Steps};
-ghost use Rattle.station.specs.Reading.{storedData, keptOctets, storedAs, readOn, readBy, requestBy, prmAt, prmIn, outcomeOf, answered, completed, beginning, heardAs, isIgnored, heard};
+ghost use Rattle.steps.specs.Safe.{Safe};
+ghost use Rattle.steps.specs.Stepped.{Steps};
+ghost use Rattle.steps.specs.Reading.{storedData, keptOctets, storedAs, readOn, readBy, requestBy, prmAt, prmIn, outcomeOf, answered, completed, beginning, heardAs, isIgnored, heard};
 
 // The part of the memory that is the fill buffer is lent on to the step that stores an octet.
 fn store_data(s: State, mem: &mut [u8], k: u8, b: u8)

@@ -1,6 +1,6 @@
 // The reply in progress: how it is drawn, and where its data octets are read.
 use rules::diagnosis::header_of;
-use state::control::Control;
+use rules::replies::exchange_fc;
 use state::layout::diagnosis_at;
 use state::layout::get_cfg_at;
 use state::layout::inputs_at;
@@ -20,8 +20,7 @@ ghost use lib.ListN.{length, getD};
 ghost use Rattle.octets.specs.Part.{part};
 ghost use Rattle.state.specs.Memory.{Holds};
 ghost use Rattle.state.specs.Unpack.{unpacked};
-ghost use Rattle.ledger.specs.Replies.{exchangeFc};
-ghost use Rattle.station.specs.Replies.{noReply, servicing, senderFor, replyFor, ownPlace, userPlace, headerAt, contentAt, pointOf, isExchange, datumAt, askedFor};
+ghost use Rattle.steps.specs.Replies.{noReply, servicing, senderFor, replyFor, ownPlace, userPlace, headerAt, contentAt, pointOf, isExchange, datumAt, askedFor};
 
 // Nothing to send.
 pub fn no_reply() -> Reply
@@ -38,16 +37,6 @@ pub fn no_reply() -> Reply
             master: 0,
         },
     }
-}
-
-// FC 08, or 0A while Diag_Flag.
-fn exchange_fc(control: Control) -> u8
-    ensures { λ r. ⌜ r ≡ exchangeFc control ⌝ }
-{
-    if control.flags.diag_flag {
-        return 0x0A;
-    }
-    0x08
 }
 
 // SD2 with bit 7 in both addresses: DSAP and SSAP stand before n data octets.

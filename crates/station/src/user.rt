@@ -8,6 +8,7 @@ use crate::replies::user_place;
 use rules::diagnosis::delayed;
 use rules::diagnosis::delaying;
 use rules::diagnosis::diagnosed;
+use rules::kinds::in_range;
 use rules::line::clear_on;
 use rules::user::judged_configuration;
 use rules::user::judged_parameters;
@@ -19,7 +20,6 @@ use state::layout::inputs_at;
 use state::layout::outputs_at;
 use state::layout::parameters_at;
 use state::load;
-use state::setup::Setup;
 use state::state::Outputs;
 use state::state::State;
 ghost use Prim.Native.Nat.{ℕ};
@@ -27,11 +27,10 @@ ghost use mathlib.Core.Bool.{cond};
 ghost use mathlib.Core.List.{List};
 ghost use mathlib.Core.Path.{_≡_};
 ghost use lib.Dec.{eqb, leb};
-ghost use Rattle.ledger.specs.User.{lengthOf, inRange};
 ghost use Rattle.state.specs.Memory.{Holds};
 ghost use Rattle.state.specs.Unpack.{unpacked};
-ghost use Rattle.station.specs.Safe.{Safe};
-ghost use Rattle.station.specs.User.{Tells, told, refusing, absent, kindAt, takeOutputs, readOctet, writeOctet, handOver, newDiagnosis, judgeParameters, judgeConfiguration, acknowledgeEvents, leaveMaster};
+ghost use Rattle.steps.specs.Safe.{Safe};
+ghost use Rattle.steps.specs.User.{Tells, told, refusing, absent, kindAt, takeOutputs, readOctet, writeOctet, handOver, newDiagnosis, judgeParameters, judgeConfiguration, acknowledgeEvents, leaveMaster};
 
 // What a call answers, and the state after it.
 pub struct UserStep {
@@ -83,45 +82,6 @@ pub fn take_outputs(mut s: State) -> UserStep
     };
     s.outputs = outputs;
     told(new_number(zeros), s)
-}
-
-// What each kind is set to hold at most; 0 where there is no such kind.
-fn length_of(setup: Setup, kind: u32) -> u8
-    ensures { λ r. ⌜ r ≡ lengthOf setup kind ⌝ }
-{
-    if kind == 1 {
-        return setup.output_len;
-    }
-    if kind == 2 {
-        return setup.parameter_len;
-    }
-    if kind == 3 {
-        return setup.configuration_len;
-    }
-    if kind == 4 {
-        return setup.input_len;
-    }
-    if kind == 5 {
-        return setup.diagnosis_len;
-    }
-    0
-}
-
-// The first index of a kind: 0, and 6 for kind 5.
-fn first_of(kind: u32) -> u32
-    ensures { λ r. ⌜ r ≡ cond (eqb kind 5) 6 0 ⌝ }
-{
-    if kind == 5 {
-        return 6;
-    }
-    0
-}
-
-// Index from the first one, below the kind's set length.
-fn in_range(setup: Setup, kind: u32, index: u32) -> bool
-    ensures { λ r. ⌜ r ≡ inRange setup kind index ⌝ }
-{
-    (first_of(kind) <= index) & (index < length_of(setup, kind) as u32)
 }
 
 // An index is not below a count.

@@ -10,3 +10,4 @@ mod Sums
 pub mod Framing
 pub mod Sends
 mod Bench
+pub mod Onward

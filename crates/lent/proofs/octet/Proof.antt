@@ -44,9 +44,9 @@ use denote.Triple.Table.{entered, cited}
 use denote.Triple.Walked.{says, needs, Stays, stay-ref, stay-none, gave-slice, walkOf, goes-ref, goes-none, goes-gave-slice, Walks, ends-at, walked, walk-meets}
 use denote.Exit.{yes}
 use Rattle.state.specs.declared.state.State.{State}
-use Rattle.station.specs.Safe.{Safe}
-use Rattle.station.specs.Stepped.{Steps}
-use Rattle.station.specs.Reading as reading
+use Rattle.steps.specs.Safe.{Safe}
+use Rattle.steps.specs.Stepped.{Steps}
+use Rattle.steps.specs.Reading as reading
 use Rattle.station.proofs.reading.hear as core
 use Rattle.station.proofs.reading.hear.Symbol as core-def
 use Rattle.station.proofs.reading.hear.Symbol.{name as #station·hear}

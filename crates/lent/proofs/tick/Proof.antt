@@ -41,9 +41,9 @@ use denote.Triple.Spec.{Meets, tripleOf}
 use denote.Triple.Table.{entered, cited}
 use denote.Triple.Walked.{says, needs, Stays, stay-ref, gave-slice, walkOf, goes-ref, goes-gave-slice, Walks, ends-at, walked, walk-meets}
 use Rattle.state.specs.declared.state.State.{State}
-use Rattle.station.specs.Safe.{Safe}
-use Rattle.station.specs.Stepped.{Steps}
-use Rattle.station.specs.Bus.{elapsed}
+use Rattle.steps.specs.Safe.{Safe}
+use Rattle.steps.specs.Stepped.{Steps}
+use Rattle.steps.specs.Bus.{elapsed}
 use Rattle.station.proofs.bus.elapse as core
 use Rattle.station.proofs.bus.elapse.Symbol as core-def
 use Rattle.station.proofs.bus.elapse.Symbol.{name as #station·elapse}

@@ -49,9 +49,9 @@ use denote.Exit.{yes}
 use Rattle.state.specs.declared.state.State.{State}
 use Rattle.state.proofs.state.State as T
 use Rattle.state.proofs.state.State.Laws as T′
-use Rattle.station.specs.Safe.{Safe}
-use Rattle.station.specs.Stepped.{Steps}
-use Rattle.station.specs.Reading as reading
+use Rattle.steps.specs.Safe.{Safe}
+use Rattle.steps.specs.Stepped.{Steps}
+use Rattle.steps.specs.Reading as reading
 use Rattle.lent.specs.Run.{octet, run, received}
 use Rattle.lent.proofs.Value.{R, value, values, value-tells, head, typed, over}
 use Rattle.lent.proofs.Loops.{byte, word, refT, refB, sliceM, sliceE, fits-unit, by-bool, next-fits, nearer, reached}

@@ -5,11 +5,11 @@ use mathlib.Core.List.{List}
 use borrow.Author.Needs.{needs}
 use Rattle.state.specs.declared.state.State.{State}
 use Rattle.rules.specs.Line.{ticked}
-use Rattle.station.specs.Stepped.{Stepped, Steps}
-use Rattle.station.specs.Deeds.{begun, busy, carried, settle}
-use Rattle.station.specs.Reading.{beginning}
-use Rattle.station.specs.Bus.{silencedReader, elapsed}
-use Rattle.station.proofs.Safety.{safe-beginning}
+use Rattle.steps.specs.Stepped.{Stepped, Steps}
+use Rattle.steps.specs.Deeds.{begun, busy, carried, settle}
+use Rattle.steps.specs.Reading.{beginning}
+use Rattle.steps.specs.Bus.{silencedReader, elapsed}
+use Rattle.steps.proofs.Safety.{safe-beginning}
 use Rattle.station.proofs.bus.elapse.Statement.{statement}
 use Rattle.station.proofs.bus.elapse.Tie as tie
 

@@ -1,5 +1,5 @@
 -- `station::bus::gap` meets its contract.
-use Rattle.station.proofs.Calling.{holds-long, holds-safe}
+use Rattle.steps.proofs.Holding.{holds-long, holds-safe}
 use Rattle.station.proofs.Leaving.{packs, quiet-gap}
 use borrow.Author.Needs.{needs}
 use Rattle.station.proofs.bus.gap.Statement.{statement}

@@ -1,7 +1,7 @@
 -- `station::bus::go_on` meets its contract.
 use Rattle.state.specs.Unpack.{unpacked}
-use Rattle.station.proofs.Safety.{safe-reply}
-use Rattle.station.proofs.Calling.{holds-long, holds-safe}
+use Rattle.steps.proofs.Safety.{safe-reply}
+use Rattle.steps.proofs.Holding.{holds-long, holds-safe}
 use Rattle.station.proofs.Leaving.{packs, quiet-on}
 use borrow.Author.Needs.{needs}
 use Rattle.station.proofs.bus.go_on.Statement.{statement}

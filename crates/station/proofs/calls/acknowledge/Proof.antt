@@ -2,7 +2,8 @@
 use denote.Ref.{now}
 use Rattle.state.specs.Memory.{Holds}
 use Rattle.state.specs.Unpack.{unpacked}
-use Rattle.station.proofs.Calling.{damaged, found, holds-long, holding, stepped}
+use Rattle.station.proofs.Calling.{damaged, found, holding, stepped}
+use Rattle.steps.proofs.Holding.{holds-long}
 use borrow.Author.Needs.{needs}
 use Rattle.station.proofs.calls.acknowledge.Statement.{statement}
 use Rattle.station.proofs.calls.acknowledge.Tie as tie

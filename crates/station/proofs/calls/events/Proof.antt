@@ -6,7 +6,8 @@ use Rattle.state.specs.Memory.{Holds}
 use Rattle.state.specs.Unpack.{unpacked}
 use Rattle.state.specs.declared.answer.Answer.the-variants.{Value}
 use Rattle.buffers.specs.declared.events.Events.{Events}
-use Rattle.station.proofs.Calling.{damaged, found, holds-long, answered}
+use Rattle.station.proofs.Calling.{damaged, found, answered}
+use Rattle.steps.proofs.Holding.{holds-long}
 use borrow.Author.Needs.{needs}
 use Rattle.station.proofs.calls.events.Statement.{statement}
 use Rattle.station.proofs.calls.events.Tie as tie

@@ -3,7 +3,8 @@ use mathlib.Core.Path.{refl}
 use denote.Ref.{now}
 use Rattle.state.specs.Memory.{Holds}
 use Rattle.state.specs.Unpack.{unpacked}
-use Rattle.station.proofs.Calling.{damaged, found, holds-safe, holds-long, holding, stepped, bus-tells}
+use Rattle.station.proofs.Calling.{damaged, found, holding, stepped, bus-tells}
+use Rattle.steps.proofs.Holding.{holds-safe, holds-long}
 use borrow.Author.Needs.{needs}
 use Rattle.station.proofs.calls.tick.Statement.{statement}
 use Rattle.station.proofs.calls.tick.Tie as tie

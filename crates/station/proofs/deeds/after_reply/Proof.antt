@@ -1,5 +1,5 @@
 use borrow.Author.Needs.{needs}
-use Rattle.station.specs.Deeds.{afterReply}
+use Rattle.steps.specs.Deeds.{afterReply}
 use Rattle.station.proofs.deeds.after_reply.Statement.{statement}
 use Rattle.station.proofs.deeds.after_reply.Tie as tie
 

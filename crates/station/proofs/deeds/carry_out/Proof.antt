@@ -1,5 +1,5 @@
 use borrow.Author.Needs.{needs}
-use Rattle.station.specs.Deeds.{carried}
+use Rattle.steps.specs.Deeds.{carried}
 use Rattle.station.proofs.deeds.carry_out.Statement.{statement}
 use Rattle.station.proofs.deeds.carry_out.Tie as tie
 

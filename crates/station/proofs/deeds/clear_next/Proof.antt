@@ -1,6 +1,6 @@
 use borrow.Author.Needs.{needs}
 use Rattle.state.specs.Layout.{outputs}
-use Rattle.station.proofs.Safety.{buffer-room}
+use Rattle.steps.proofs.Safety.{buffer-room}
 use Rattle.station.proofs.deeds.clear_next.Statement.{statement}
 use Rattle.station.proofs.deeds.clear_next.Tie as tie
 

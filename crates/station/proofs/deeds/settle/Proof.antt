@@ -1,4 +1,4 @@
-use Rattle.station.proofs.Idle.{unsettled}
+use Rattle.steps.proofs.Idle.{unsettled}
 use mathlib.Core.Path.{sym, ap, _∙_}
 use borrow.Author.Tests.{not-true}
 use mathlib.Core.Bool.{_||_}

@@ -1,6 +1,6 @@
 use borrow.Author.Needs.{needs}
-use Rattle.station.specs.Deeds.{settle}
-use Rattle.station.proofs.Safety.{safe-after-reply}
+use Rattle.steps.specs.Deeds.{settle}
+use Rattle.steps.proofs.Safety.{safe-after-reply}
 use Rattle.station.proofs.deeds.settle_waiting.Statement.{statement}
 use Rattle.station.proofs.deeds.settle_waiting.Tie as tie
 

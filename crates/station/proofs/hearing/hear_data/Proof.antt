@@ -7,7 +7,7 @@ use Rattle.telegram.specs.Reading.{takesData}
 use Rattle.state.specs.declared.state.Incoming.{Incoming}
 use Rattle.state.specs.Memory.{Holds}
 use Rattle.state.specs.Unpack.{unpacked}
-use Rattle.station.proofs.Calling.{holds-long}
+use Rattle.steps.proofs.Holding.{holds-long}
 use Rattle.station.proofs.OverMemory.{stored-holds, leaves-data}
 use borrow.Author.Needs.{needs}
 use Rattle.station.proofs.hearing.hear_data.Statement.{statement}

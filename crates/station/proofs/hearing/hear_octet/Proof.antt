@@ -5,9 +5,9 @@ use denote.Ref.{now}
 use Rattle.telegram.specs.Reading.{takesData}
 use Rattle.state.specs.declared.state.Incoming.{Incoming}
 use Rattle.state.specs.Unpack.{unpacked}
-use Rattle.station.specs.Stepped.{packedAfter}
-use Rattle.station.specs.Reading.{heard}
-use Rattle.station.proofs.Calling.{holds-long}
+use Rattle.steps.specs.Stepped.{packedAfter}
+use Rattle.steps.specs.Reading.{heard}
+use Rattle.steps.proofs.Holding.{holds-long}
 use borrow.Author.Needs.{needs}
 use Rattle.station.proofs.hearing.hear_octet.Statement.{statement}
 use Rattle.station.proofs.hearing.hear_octet.Tie as tie

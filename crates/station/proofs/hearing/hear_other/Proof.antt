@@ -1,7 +1,8 @@
 -- `station::hearing::hear_other` meets its contract.
 use denote.Ref.{now}
 use Rattle.state.specs.Unpack.{unpacked}
-use Rattle.station.proofs.Calling.{holds-safe, holds-long, holding}
+use Rattle.steps.proofs.Holding.{holds-safe, holds-long}
+use Rattle.station.proofs.Calling.{holding}
 use Rattle.station.proofs.OverMemory.{leaves-ignored, leaves-plain, leaves-other}
 use borrow.Author.Needs.{needs}
 use Rattle.station.proofs.hearing.hear_other.Statement.{statement}

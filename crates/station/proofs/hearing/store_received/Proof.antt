@@ -1,7 +1,7 @@
 -- `station::hearing::store_received` meets its contract.
 use denote.Ref.{now}
 use Rattle.state.specs.Unpack.{unpacked}
-use Rattle.station.proofs.Calling.{holds-safe, holds-long}
+use Rattle.steps.proofs.Holding.{holds-safe, holds-long}
 use Rattle.station.proofs.Receives.{outputs-room, leaves-outputs, parameters-room, leaves-parameters, configuration-room, leaves-configuration, leaves-none}
 use borrow.Author.Needs.{needs}
 use Rattle.station.proofs.hearing.store_received.Statement.{statement}

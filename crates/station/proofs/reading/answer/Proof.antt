@@ -1,5 +1,5 @@
 use borrow.Author.Needs.{needs}
-use Rattle.station.specs.Reading.{answered}
+use Rattle.steps.specs.Reading.{answered}
 use Rattle.station.proofs.reading.answer.Statement.{statement}
 use Rattle.station.proofs.reading.answer.Tie as tie
 

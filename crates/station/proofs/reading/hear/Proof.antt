@@ -1,6 +1,6 @@
 use mathlib.Core.Path.{refl}
 use borrow.Author.Needs.{needs}
-use Rattle.station.specs.Reading.{heard}
+use Rattle.steps.specs.Reading.{heard}
 use Rattle.station.proofs.reading.hear.Statement.{statement}
 use Rattle.station.proofs.reading.hear.Tie as tie
 

@@ -1,5 +1,5 @@
 use borrow.Author.Needs.{needs}
-use Rattle.station.specs.Reading.{outcomeOf}
+use Rattle.steps.specs.Reading.{outcomeOf}
 use Rattle.station.proofs.reading.outcome_of.Statement.{statement}
 use Rattle.station.proofs.reading.outcome_of.Tie as tie
 

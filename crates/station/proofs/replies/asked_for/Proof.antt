@@ -1,5 +1,5 @@
 -- `station::replies::asked_for` meets its contract.
-use Rattle.station.proofs.Calling.{holds-long}
+use Rattle.steps.proofs.Holding.{holds-long}
 use borrow.Author.Needs.{needs}
 use Rattle.station.proofs.replies.asked_for.Statement.{statement}
 use Rattle.station.proofs.replies.asked_for.Tie as tie

@@ -1,8 +1,8 @@
 -- `station::replies::datum_at` meets its contract.
 use mathlib.Core.Path.{_∙_}
 use borrow.Author.Tests.{eq-eqb, ne-eqb}
-use Rattle.station.specs.Replies.{datumAt}
-use Rattle.station.proofs.Calling.{holds-long}
+use Rattle.steps.specs.Replies.{datumAt}
+use Rattle.steps.proofs.Holding.{holds-long}
 use Rattle.station.proofs.Leaving.{datum-inside}
 use borrow.Author.Needs.{needs}
 use Rattle.station.proofs.replies.datum_at.Statement.{statement}

@@ -1,6 +1,6 @@
 -- `station::replies::get_cfg_octet` meets its contract.
-use Rattle.station.proofs.Safety.{get-cfg-room}
-use Rattle.station.proofs.Calling.{holds-long, holds-safe}
+use Rattle.steps.proofs.Safety.{get-cfg-room}
+use Rattle.steps.proofs.Holding.{holds-long, holds-safe}
 use borrow.Author.Needs.{needs}
 use Rattle.station.proofs.replies.get_cfg_octet.Statement.{statement}
 use Rattle.station.proofs.replies.get_cfg_octet.Tie as tie

@@ -1,5 +1,5 @@
 -- `station::replies::input_octet` meets its contract.
-use Rattle.station.proofs.Calling.{holds-long}
+use Rattle.steps.proofs.Holding.{holds-long}
 use Rattle.station.proofs.Leaving.{inputs-room}
 use borrow.Author.Needs.{needs}
 use Rattle.station.proofs.replies.input_octet.Statement.{statement}

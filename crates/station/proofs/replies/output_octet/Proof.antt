@@ -1,5 +1,5 @@
 -- `station::replies::output_octet` meets its contract.
-use Rattle.station.proofs.Calling.{holds-long}
+use Rattle.steps.proofs.Holding.{holds-long}
 use Rattle.station.proofs.Leaving.{outputs-room}
 use borrow.Author.Needs.{needs}
 use Rattle.station.proofs.replies.output_octet.Statement.{statement}

@@ -1,5 +1,5 @@
 use borrow.Author.Needs.{needs}
-use Rattle.station.specs.Replies.{replyFor}
+use Rattle.steps.specs.Replies.{replyFor}
 use Rattle.station.proofs.replies.reply_for.Statement.{statement}
 use Rattle.station.proofs.replies.reply_for.Tie as tie
 

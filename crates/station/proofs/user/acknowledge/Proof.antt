@@ -1,7 +1,7 @@
 -- `station::user::acknowledge` meets its contract.
 use mathlib.Core.Path.{refl}
 use Rattle.rules.specs.Control.{withEvents}
-use Rattle.station.specs.User.{acknowledgeEvents}
+use Rattle.steps.specs.User.{acknowledgeEvents}
 use Rattle.state.specs.With.{withControl}
 use borrow.Author.Needs.{needs}
 use Rattle.station.proofs.user.acknowledge.Statement.{statement}

@@ -1,6 +1,6 @@
 -- `station::user::hand_over` meets its contract.
 use mathlib.Core.Path.{refl}
-use Rattle.station.specs.User.{handOver}
+use Rattle.steps.specs.User.{handOver}
 use Rattle.state.specs.With.{withInputs}
 use borrow.Author.Needs.{needs}
 use Rattle.station.proofs.user.hand_over.Statement.{statement}

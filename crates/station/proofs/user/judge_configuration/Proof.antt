@@ -1,5 +1,5 @@
 -- `station::user::judge_configuration` meets its contract.
-use Rattle.station.specs.User.{judgeConfiguration}
+use Rattle.steps.specs.User.{judgeConfiguration}
 use borrow.Author.Needs.{needs}
 use Rattle.station.proofs.user.judge_configuration.Statement.{statement}
 use Rattle.station.proofs.user.judge_configuration.Tie as tie

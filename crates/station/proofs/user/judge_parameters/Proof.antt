@@ -1,5 +1,5 @@
 -- `station::user::judge_parameters` meets its contract.
-use Rattle.station.specs.User.{judgeParameters}
+use Rattle.steps.specs.User.{judgeParameters}
 use borrow.Author.Needs.{needs}
 use Rattle.station.proofs.user.judge_parameters.Statement.{statement}
 use Rattle.station.proofs.user.judge_parameters.Tie as tie

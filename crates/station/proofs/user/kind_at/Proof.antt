@@ -3,7 +3,7 @@ use mathlib.Core.Path.{_∙_}
 use borrow.Author.Tests.{eq-eqb, ne-eqb}
 use Rattle.buffers.specs.Triple.{heldOf}
 use Rattle.state.specs.Layout.{outputsAt, inputsAt, parametersAt, configurationAt, diagnosisAt}
-use Rattle.station.specs.Replies.{userPlace}
+use Rattle.steps.specs.Replies.{userPlace}
 use borrow.Author.Needs.{needs}
 use Rattle.station.proofs.user.kind_at.Statement.{statement}
 use Rattle.station.proofs.user.kind_at.Tie as tie

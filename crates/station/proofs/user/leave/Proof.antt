@@ -1,6 +1,6 @@
 -- `station::user::leave` meets its contract.
 use mathlib.Core.Path.{refl}
-use Rattle.station.specs.User.{leaveMaster}
+use Rattle.steps.specs.User.{leaveMaster}
 use borrow.Author.Needs.{needs}
 use Rattle.station.proofs.user.leave.Statement.{statement}
 use Rattle.station.proofs.user.leave.Tie as tie

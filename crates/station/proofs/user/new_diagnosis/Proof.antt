@@ -5,7 +5,7 @@ use mathlib.Core.List.{[], _∷_}
 use lib.Dec.{leb}
 use borrow.Author.Tests.{leb-true, not-false}
 use Rattle.state.proofs.Tests.{all-at}
-use Rattle.station.specs.User.{newDiagnosis}
+use Rattle.steps.specs.User.{newDiagnosis}
 use borrow.Author.Needs.{needs}
 use Rattle.station.proofs.user.new_diagnosis.Statement.{statement}
 use Rattle.station.proofs.user.new_diagnosis.Tie as tie

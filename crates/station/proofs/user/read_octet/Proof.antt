@@ -7,10 +7,10 @@ use denote.Ref.{now}
 use lib.ListN.{length}
 use borrow.Author.Tests.{not-true, not-false}
 use Rattle.state.specs.Unpack.{unpacked}
-use Rattle.ledger.specs.User.{inRange}
-use Rattle.station.specs.User.{readOctet}
+use Rattle.rules.specs.Kinds.{inRange}
+use Rattle.steps.specs.User.{readOctet}
 use Rattle.station.proofs.Reaching.{reached}
-use Rattle.station.proofs.Calling.{holds-safe}
+use Rattle.steps.proofs.Holding.{holds-safe}
 use borrow.Author.Needs.{needs}
 use Rattle.station.proofs.user.read_octet.Statement.{statement}
 use Rattle.station.proofs.user.read_octet.Tie as tie

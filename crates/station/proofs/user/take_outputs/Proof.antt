@@ -1,5 +1,5 @@
 -- `station::user::take_outputs` meets its contract.
-use Rattle.station.specs.User.{takeOutputs}
+use Rattle.steps.specs.User.{takeOutputs}
 use borrow.Author.Needs.{needs}
 use Rattle.station.proofs.user.take_outputs.Statement.{statement}
 use Rattle.station.proofs.user.take_outputs.Tie as tie

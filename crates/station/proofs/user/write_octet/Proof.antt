@@ -9,10 +9,10 @@ use lib.ListN.{length}
 use borrow.Author.Tests.{not-true, not-false}
 use Rattle.state.specs.Unpack.{unpacked}
 use Rattle.state.proofs.Tests.{all-at}
-use Rattle.ledger.specs.User.{inRange, writable}
-use Rattle.station.specs.User.{writeOctet}
+use Rattle.rules.specs.Kinds.{inRange, writable}
+use Rattle.steps.specs.User.{writeOctet}
 use Rattle.station.proofs.Reaching.{reached}
-use Rattle.station.proofs.Calling.{holds-safe}
+use Rattle.steps.proofs.Holding.{holds-safe}
 use borrow.Author.Needs.{needs}
 use Rattle.station.proofs.user.write_octet.Statement.{statement}
 use Rattle.station.proofs.user.write_octet.Tie as tie

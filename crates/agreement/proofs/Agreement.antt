@@ -1,0 +1,150 @@
+-- Demand 3: for every list of calls from a freshly started station the answers over the memory are the ledger's.
+use Prim.Native.Nat.{ℕ, _<_}
+use native.Mathlib.Omega.{arith}
+use mathlib.Core.Path.{_≡_, refl, sym, ap, _∙_}
+use mathlib.Core.Bool.{Bool}
+use mathlib.Core.List.{List, [], _∷_, _++_}
+use lib.ListN.{length, getD}
+use Rattle.state.specs.declared.answer.Answer.{Answer}
+use Rattle.state.specs.declared.answer.Answer.the-variants.{Value}
+use Rattle.state.specs.declared.setup.Setup.{Setup}
+use Rattle.state.specs.declared.state.State.{State}
+use Rattle.state.specs.Answer.{Called}
+use Rattle.state.specs.Memory.{Holds, kept}
+use Rattle.state.specs.Start.{initialState, started}
+use Rattle.state.proofs.Damage.{kept-holds}
+use Rattle.state.proofs.Started.{after-holds}
+use Rattle.ledger.specs.Ledger.{Ledger, fresh}
+use Rattle.ledger.specs.Calls as ledger
+use Rattle.rules.specs.Call.{Call, octet, read}
+use Rattle.ledger.specs.Calls.{after}
+use Rattle.ledger.specs.Exchange.{Exchanged}
+use Rattle.ledger.specs.History.{readable, history}
+use Rattle.ledger.specs.ReadBack.{Accepted, Fit}
+use Rattle.ledger.proofs.Exchange.{exchange}
+use Rattle.ledger.proofs.Fit.{step-fit, replies-read}
+use Rattle.ledger.proofs.History.{outputs-read}
+use Rattle.steps.specs.User.{Told}
+use Rattle.steps.specs.Calls.{step, called, answers}
+use Rattle.agreement.specs.Agreement.{memoryOf, PlacesChanged, Agreement}
+use Rattle.agreement.proofs.Steady.{Related}
+use Rattle.agreement.proofs.Follows.{Follows}
+use Rattle.agreement.proofs.Facts.{Ranges}
+use Rattle.agreement.proofs.Begins.{start-ranges}
+use Rattle.agreement.proofs.OctetSend.{all-follow, start-related}
+use Rattle.agreement.proofs.Packed.{kept-agrees, agrees-sound}
+use Rattle.steps.proofs.Holding.{called-whole}
+use Rattle.steps.proofs.Lengths.{step-length}
+
+-- the memory m holds the state s, which the ledger l is about
+pub record On (m : List ℕ) (s : State) (l : Ledger) : Type 0 where
+  pub holds : Holds m s
+  pub related : Related s m l
+  pub fit : Fit l
+
+-- what a call over the memory does
+pub record Does (m : List ℕ) (l : Ledger) (c : Call) : Type 0 where
+  pub memory-after : List ℕ
+  pub state-after : State
+  pub tells : called m c ≡ record { answer = ledger.step l c .answer; memory = memory-after }
+  pub again : On memory-after state-after (ledger.step l c .ledger)
+
+fit-ranges : {l : Ledger} → Fit l → Ranges (l .setup)
+fit-ranges f = record {
+  address = f .accepted .address;
+  outputs = f .accepted .outputs;
+  inputs = f .accepted .inputs;
+  parameters = f .accepted .parameters;
+  configuration = f .accepted .configuration;
+  diagnosis = f .accepted .diagnosis;
+  get-cfg = f .accepted .get-cfg;
+}
+
+module _ (m : List ℕ) (s : State) (l : Ledger) (o : On m s l) (c : Call) where
+  t : Told
+  t = step s m c
+
+  follow : Follows s m l c
+  follow = all-follow (o .related) (fit-ranges (o .fit)) c
+
+  after-fit : Fit (ledger.step l c .ledger)
+  after-fit = step-fit l c (o .fit)
+
+  -- the state is packed in front again
+  packs : On (kept (t .state) (t .memory)) (t .state) (ledger.step l c .ledger)
+  unfolding t
+  packs =
+      let e = step-length s m (o .related .agrees .safe) c in
+      let h = o .holds in
+      let r = follow .again in
+      record {
+        holds = kept-holds (t .state) (t .memory) (rw e (h .length-in)) (rw e (h .length-by-8)) (agrees-sound (r .agrees) after-fit) (r .agrees .safe .room);
+        related = record { agrees = kept-agrees (rw e (let w = h .length-in in omega arith)) (r .agrees); steady = r .steady; reply-steady = r .reply-steady };
+        fit = after-fit;
+      }
+
+  pub does : Does m l c
+  unfolding t
+  does = record {
+    memory-after = kept (t .state) (t .memory);
+    state-after = t .state;
+    tells = called-whole m s c (o .holds) ∙ ap (λ (a : Answer). record { answer = a; memory = kept (t .state) (t .memory) }) (follow .matches .answers);
+    again = packs;
+  }
+
+-- over a list of calls
+agrees-on : (cs : List Call) (m : List ℕ) (s : State) (l : Ledger) → On m s l → answers m cs ≡ ledger.answers l cs
+agrees-on [] m s l o = refl
+agrees-on (c ∷ cs) m s l o =
+    let d = does m s l o c in
+    ap (λ (x : Called). x .answer ∷ answers (x .memory) cs) (d .tells)
+    ∙ ap (λ (xs : List Answer). ledger.step l c .answer ∷ xs) (agrees-on cs (d .memory-after) (d .state-after) (ledger.step l c .ledger) (d .again))
+
+module _ (m : List ℕ) (s : Setup) (slice : List ℕ) (long : s .«get_cfg_len» ≡ length slice) (zero : started m s slice .answer ≡ Value 0) where
+  accepted : Accepted s slice
+  accepted =
+      let r = start-ranges m s slice long zero in
+      record {
+        address = r .address;
+        outputs = r .outputs;
+        inputs = r .inputs;
+        parameters = r .parameters;
+        configuration = r .configuration;
+        diagnosis = r .diagnosis;
+        get-cfg = r .get-cfg;
+        slice-is = sym long;
+      }
+
+  -- a freshly started station
+  pub begins-on : On (memoryOf m s slice) (initialState s) (fresh s slice)
+  begins-on = record {
+    holds = after-holds m s slice long zero;
+    related = start-related m s slice long zero;
+    fit = replies-read s slice [] accepted .fit;
+  }
+
+  agree : (cs : List Call) → answers (memoryOf m s slice) cs ≡ ledger.answers (fresh s slice) cs
+  agree cs = agrees-on cs (memoryOf m s slice) (initialState s) (fresh s slice) begins-on
+
+  -- what the ledger says of changed places holds of the memory
+  places : (pre post : List Call) (b : ℕ) (bad : Bool) (c : Call) → Exchanged (fresh s slice) pre post b bad c
+      → PlacesChanged (memoryOf m s slice) pre post b bad c
+  places pre post b bad c x = record {
+    earlier = x .earlier;
+    own = x .own;
+    later = x .later;
+    earlier-are = x .earlier-are;
+    later-are = x .later-are;
+    octet-first = agree (pre ++ octet b bad ∷ c ∷ post) ∙ x .octet-first;
+    call-first = agree (pre ++ c ∷ octet b bad ∷ post) ∙ x .call-first;
+  }
+
+  pub agreement : Agreement m s slice
+  agreement = record {
+    agree = agree;
+    octet-then-call = λ pre post b bad c u i. places pre post b bad c (exchange (fresh s slice) pre post b bad c .inner-first u i);
+    call-then-octet = λ pre post b bad c u i. places pre post b bad c (exchange (fresh s slice) pre post b bad c .inner-second u i);
+    outputs = λ cs index h.
+        agree (cs ++ read 1 index ∷ []) ∙ outputs-read s slice cs index [] .answers-are h
+        ∙ ap (λ (xs : List Answer). xs ++ Value (getD (readable (s .«output_len») (history (fresh s slice) cs)) index 0) ∷ []) (sym (agree cs));
+  }

@@ -1,0 +1,123 @@
+-- A step that changes only the reading and a fill buffer that data goes into: all other parts stay related.
+use Prim.Native.Nat.{ℕ, _≤_, _<_}
+use native.Mathlib.Omega.{arith}
+use mathlib.Core.Path.{_≡_, refl, sym, _∙_}
+use mathlib.Core.Bool.{Bool, true, false, cond}
+use mathlib.Core.List.{List}
+use lib.Dec.{ltb, eqb}
+use lib.ListN.{length}
+use Rattle.buffers.specs.Triple.{fillOf, nextOf, heldOf, Permutation}
+use Rattle.octets.specs.Part.{storedIn}
+use Rattle.state.specs.declared.setup.Setup.{Setup}
+use Rattle.state.specs.declared.state.Sets as station-sets
+use Rattle.state.specs.declared.state.Incoming.{Incoming}
+use Rattle.state.specs.declared.state.State.{State}
+use Rattle.state.specs.Layout.{outputs, inputs, parameters, configuration, diagnosis, getCfg, countOf, lengthOf, startOf}
+use Rattle.ledger.specs.Lists.{Sets}
+use Rattle.ledger.specs.Ledger.{Line, Ledger, withLine}
+use Rattle.steps.specs.Safe.{Safe}
+use Rattle.state.specs.With.{withIncoming}
+use Rattle.steps.specs.Reading.{storedData}
+use Rattle.agreement.proofs.Relation.{SetsAgree, ReadingAgrees, ReplyAgrees, Agrees}
+use Rattle.agreement.proofs.Elsewhere.{Elsewhere, same-elsewhere}
+use Rattle.agreement.proofs.Carries.{inputs-stay, diagnoses-stay, slice-stays, sets-stay}
+use Rattle.agreement.proofs.Facts.{Needed}
+use Rattle.agreement.proofs.Stores.{stored-elsewhere}
+
+-- buffer i of kind a is the fill buffer of a kind that data goes into
+pub record Filling (s : State) (a i : ℕ) : Type 0 where
+  pub of-outputs : a ≡ outputs → i ≡ fillOf (s .outputs .set .place)
+  pub of-parameters : a ≡ parameters → i ≡ fillOf (s .parameters .set .place)
+  pub of-configuration : a ≡ configuration → i ≡ fillOf (s .configuration .set .place)
+  pub no-inputs : a ≡ inputs → ⊥
+  pub no-diagnosis : a ≡ diagnosis → ⊥
+  pub no-slice : a ≡ getCfg → ⊥
+
+-- the memory changed in such a buffer alone
+pub record Beside (s : State) (m m′ : List ℕ) : Type 0 where
+  pub kind : ℕ
+  pub place : ℕ
+  pub filling : Filling s kind place
+  pub elsewhere : Elsewhere (s .setup) kind place m m′
+
+fills-outputs : (s : State) → Filling s outputs (fillOf (s .outputs .set .place))
+fills-outputs s = omega arith
+
+fills-parameters : (s : State) → Filling s parameters (fillOf (s .parameters .set .place))
+fills-parameters s = omega arith
+
+fills-configuration : (s : State) → Filling s configuration (fillOf (s .configuration .set .place))
+fills-configuration s = omega arith
+
+pub nowhere : (s : State) (m : List ℕ) → Beside s m m
+nowhere s m = record { kind = outputs; place = fillOf (s .outputs .set .place); filling = fills-outputs s; elsewhere = same-elsewhere }
+
+-- a data octet that comes is stored in one of them, or nowhere
+pub data-beside : (s : State) (m : List ℕ) (k b : ℕ) → Safe s m → Beside s m (storedData s m k b)
+data-beside s m k b f =
+    go (ltb (s .incoming .reader .da) 128) (eqb (s .incoming .reader .dsap) 61) (eqb (s .incoming .reader .dsap) 62)
+  where
+    into : (a i : ℕ) → i < countOf a → Filling s a i → Beside s m (storedIn m (startOf (s .setup) a i) (lengthOf (s .setup) a) k b)
+    into a i h w = record { kind = a; place = i; filling = w; elsewhere = stored-elsewhere (s .setup) m a i k b h }
+
+    go : (p q t : Bool) → Beside s m
+        (cond p (storedIn m (startOf (s .setup) outputs (fillOf (s .outputs .set .place))) (s .setup .«output_len») k b)
+        (cond q (storedIn m (startOf (s .setup) parameters (fillOf (s .parameters .set .place))) (s .setup .«parameter_len») k b)
+        (cond t (storedIn m (startOf (s .setup) configuration (fillOf (s .configuration .set .place))) (s .setup .«configuration_len») k b) m)))
+    go true q t = into outputs (fillOf (s .outputs .set .place)) (f .outputs .fill-in) (fills-outputs s)
+    go false true t = into parameters (fillOf (s .parameters .set .place)) (f .parameters .fill-in) (fills-parameters s)
+    go false false true = into configuration (fillOf (s .configuration .set .place)) (f .configuration .fill-in) (fills-configuration s)
+    go false false false = nowhere s m
+
+-- the sets shown and waiting are in the buffers held and next
+sets-beside : {g : Setup} {a i : ℕ} {m m′ : List ℕ} (e : Elsewhere g a i m m′) (b : ℕ) (x : station-sets.Sets) (y : Sets) → countOf b ≡ 3 → Permutation (x .set .place)
+    → (a ≡ b → i ≡ fillOf (x .set .place)) → length (y .shown) ≤ lengthOf g b → length (y .waiting) ≤ lengthOf g b
+    → SetsAgree (startOf g b) m x y → SetsAgree (startOf g b) m′ x y
+sets-beside e b x y c p f u v r =
+    let k = r .shown-count in
+    let w = r .waiting-count in
+    sets-stay
+    (e .other b (heldOf (x .set .place)) (x .shown) (omega arith) (omega arith) (λ z h. p .fill-held (sym (f z) ∙ h)))
+    (e .other b (nextOf (x .set .place)) (x .waiting) (omega arith) (omega arith) (λ z h. p .fill-next (sym (f z) ∙ h)))
+    r
+
+-- all parts but reading and reply agree as before
+pub reread : {s : State} {m m′ : List ℕ} {l : Ledger} (i : Incoming) (n : Line) → Needed l → Beside s m m′ → Agrees s m l
+    → ReadingAgrees (withIncoming s i) m′ n → (ds : List ℕ) × ReplyAgrees (withIncoming s i) m′ n ds → Agrees (withIncoming s i) m′ (withLine l n)
+reread {s} {m} {m′} {l} i n d w r reading reply =
+    let f = r .safe in
+    let e = w .elsewhere in
+    let h = w .filling in
+    let long = e .long in
+    let lengths = r .setup in
+    let k = s .setup .«output_len» in
+    record {
+      setup = r .setup;
+      control = r .control;
+      outputs = record {
+        held = e .other outputs (heldOf (s .outputs .set .place)) k (f .outputs .held-in) (omega arith) (λ z v. f .outputs .fill-held (sym (h .of-outputs z) ∙ v)) ∙ r .outputs .held;
+        next = e .other outputs (nextOf (s .outputs .set .place)) k (f .outputs .next-in) (omega arith) (λ z v. f .outputs .fill-next (sym (h .of-outputs z) ∙ v)) ∙ r .outputs .next;
+        fresh = r .outputs .fresh;
+        zeros = r .outputs .zeros;
+      };
+      inputs = inputs-stay e (f .inputs) (h .no-inputs) (r .inputs);
+      parameters =
+          sets-beside e parameters (s .parameters) (l .buffers .parameters) refl (f .parameters) (h .of-parameters)
+          (rw lengths (d .parameters-shown)) (rw lengths (d .parameters-waiting)) (r .parameters);
+      configuration =
+          sets-beside e configuration (s .configuration) (l .buffers .configuration) refl (f .configuration) (h .of-configuration)
+          (rw lengths (d .configuration-shown)) (rw lengths (d .configuration-waiting)) (r .configuration);
+      diagnosis = diagnoses-stay e (h .no-diagnosis) (r .diagnosis);
+      slice = slice-stays e (h .no-slice) ∙ r .slice;
+      reading = reading;
+      reply = reply;
+      safe = record {
+        outputs = f .outputs;
+        inputs = f .inputs;
+        parameters = f .parameters;
+        configuration = f .configuration;
+        reply = f .reply;
+        long = f .long;
+        room = rw long (f .room);
+      };
+    }

@@ -1,0 +1,125 @@
+-- The last octet of a telegram: both sides serve the same request with the same outcome, and draw the same reply.
+use Prim.Native.Nat.{ℕ, _+_, _≤_, _<_}
+use native.Mathlib.Nat.{mod-lt, add-zero}
+use native.Mathlib.Omega.{arith}
+use mathlib.Core.Path.{_≡_, refl, sym, ap, _∙_, subst}
+use mathlib.Core.Bool.{true, false}
+use mathlib.Core.List.{List, []}
+use lib.ListN.{length, getD}
+use Rattle.buffers.specs.Triple.{fillOf, heldOf}
+use Rattle.octets.specs.Part.{part}
+use Rattle.octets.proofs.Parts.{part-at}
+use Rattle.telegram.specs.Telegram.{Telegram, payloadOf}
+use Rattle.telegram.specs.Reading.{finished}
+use Rattle.telegram.specs.Sending.{left}
+use Rattle.state.specs.declared.setup.Setup.{Setup}
+use Rattle.state.specs.declared.control.Control.{Control}
+use Rattle.state.specs.declared.state.State.{State}
+use Rattle.state.specs.Layout.{parametersAt}
+use Rattle.rules.specs.declared.outcome.Outcome.{Outcome}
+use Rattle.rules.specs.Requests.{masterOf, refilled, serviceOf}
+use Rattle.rules.specs.Services.{serve}
+use Rattle.ledger.specs.Ledger.{Ledger, withLine}
+use Rattle.ledger.specs.Replies.{replyOf}
+use Rattle.rules.specs.Replies.{diagnoses}
+use Rattle.ledger.specs.Deeds as ledger
+use Rattle.ledger.specs.Bus as bus
+use Rattle.ledger.specs.Bus.{requestBy}
+use Rattle.steps.specs.Deeds.{isOpen, carried}
+use Rattle.steps.specs.Replies.{replyFor}
+use Rattle.steps.specs.Reading.{readBy, prmIn, outcomeOf, answered, completed}
+use Rattle.agreement.proofs.Relation.{Gathered, Agrees}
+use Rattle.agreement.proofs.Facts.{Ranges, Needed, After}
+use Rattle.agreement.proofs.SameLine.{open-agrees}
+use Rattle.agreement.proofs.Changes.{reading-changed}
+use Rattle.agreement.proofs.InOrder.{refilled-alike}
+use Rattle.agreement.proofs.OnLine.{reply-line, ignored-agrees}
+use Rattle.agreement.proofs.Replied.{replied, with-reply}
+use Rattle.agreement.proofs.Drawing.{draws}
+use Rattle.agreement.proofs.Served.{Served, headed, served, serve-same}
+use Rattle.agreement.proofs.Received.{begins-whole, received-agrees}
+
+-- Set_Prm's octets, where there are enough of them
+prm-same : (s : State) (m : List ℕ) (ds : List ℕ) → 7 ≤ length ds
+    → part m (parametersAt (s .setup) (fillOf (s .parameters .set .place))) (length ds) ≡ ds → prmIn s m ≡ bus.prmBy ds
+prm-same s m ds h e =
+    λ j. record {
+      status = (ap (λ (x : ℕ). getD m x 0) (sym (add-zero at)) ∙ octet 0 (omega arith)) j;
+      factor1 = octet 1 (omega arith) j;
+      factor2 = octet 2 (omega arith) j;
+      «ident_high» = octet 4 (omega arith) j;
+      «ident_low» = octet 5 (omega arith) j;
+      group = octet 6 (omega arith) j;
+    }
+  where
+    at : ℕ
+    at = parametersAt (s .setup) (fillOf (s .parameters .set .place))
+
+    octet : (i : ℕ) → i < length ds → getD m (at + i) 0 ≡ getD ds i 0
+    octet i g = sym (part-at m at (length ds) i g) ∙ ap (λ (l : List ℕ). getD l i 0) e
+
+-- the state that has read the telegram
+abbrev reading : State → Telegram → State
+reading s t = readBy s (finished t)
+
+-- its data is gathered, and no reply is left
+module _ {s : State} {m : List ℕ} {l : Ledger} (a : Agrees s m l) (d : Needed l) (w : Ranges (l .setup)) (t : Telegram)
+    (g : Gathered (reading s t) m (payloadOf t)) (still : left (s .reply .sender) ≡ false) where
+  -- both sides come to the same outcome
+  outcomes : outcomeOf (reading s t) m (requestBy t) ≡ bus.outcomeOf l (requestBy t) (payloadOf t)
+  unfolding outcomeOf
+  outcomes =
+      let r = requestBy t in
+      let ds = payloadOf t in
+      let at = parametersAt (s .setup) (fillOf (s .parameters .set .place)) in
+      serve-same (s .setup) (refilled (s .setup) (s .control) r) r (serviceOf (s .setup) r) (isOpen (s .parameters)) (isOpen (s .configuration))
+      (prmIn (reading s t) m) (bus.prmBy ds) (s .incoming .first) (s .incoming .second) (getD ds 0 0) (getD ds 1 0) (headed r (s .setup))
+      (λ da dsap low high. prm-same (reading s t) m ds low (begins-whole m at (s .setup .«parameter_len») ds high (g .parameters da dsap)))
+      (λ two. (g .first (omega arith), g .second (omega arith)))
+      ∙ (λ i. serve (serviceOf (a .setup i) r) (a .setup i) (refilled (a .setup i) (a .control i) r) (open-agrees (a .parameters) i)
+      (open-agrees (a .configuration) i) r (bus.prmBy ds) (getD ds 0 0) (getD ds 1 0))
+
+  -- which takes from the data what the header allows
+  serves : Served (s .setup) (refilled (s .setup) (s .control) (requestBy t)) (requestBy t) (outcomeOf (reading s t) m (requestBy t))
+  unfolding outcomeOf
+  serves =
+      let r = requestBy t in
+      served (s .setup) (refilled (s .setup) (s .control) r) r (serviceOf (s .setup) r) (isOpen (s .parameters)) (isOpen (s .configuration))
+      (prmIn (reading s t) m) (s .incoming .first) (s .incoming .second) (headed r (s .setup))
+
+  -- octets are ignored from here on
+  ignores : Agrees (reading s t) m (withLine l (bus.brokenOff (l .line)))
+  ignores = reading-changed a (finished t) true [] (ignored-agrees refl refl refl)
+
+  module _ (o : Outcome) (v : Served (s .setup) (refilled (s .setup) (s .control) (requestBy t)) (requestBy t) o) where
+    -- the outcome carried out
+    done : After (carried (reading s t) m o (length (payloadOf t))) (ledger.carried (withLine l (bus.brokenOff (l .line))) o (payloadOf t))
+    done = received-agrees ignores o (requestBy t) (payloadOf t) (refilled (s .setup) (s .control) (requestBy t)) refl refl refl g v refl still
+
+    counts : o .control .diagnosis ≡ l .control .diagnosis
+    counts = v .counts-stay ∙ refilled-alike (s .setup) (s .control) (requestBy t) .diagnosis-same ∙ ap (λ (c : Control). c .diagnosis) (a .control)
+
+    -- and the reply drawn
+    answers : After (answered (reading s t) m o (requestBy t)) (bus.answered l o (masterOf (requestBy t)) (payloadOf t))
+    unfolding answered bus.answered carried replyFor
+    answers =
+        let h = done in
+        let ds = payloadOf t in
+        let x = carried (reading s t) m o (length (payloadOf t)) in
+        let master = masterOf (requestBy t) in
+        let b = ledger.onBuffers o (l .setup) ds (l .buffers) in
+        let xs = replyOf (o .drawn) (l .setup) (l .slice) (o .control) b master in
+        let place : heldOf (carried (reading s t) m o (length (payloadOf t)) .state .outputs .set .place) < 3 = h .safe .outputs .held-in in
+        let low : 6 ≤ o .control .diagnosis .count = rw counts (d .diagnosis-count .0) in
+        let high : o .control .diagnosis .count ≤ s .setup .«diagnosis_len» = rw (counts, a .setup) (d .diagnosis-count .1) in
+        with-reply h (replyFor (o .drawn) (x .state) master) xs (diagnoses (o .drawn)) (omega arith)
+        (reply-line
+        (draws (x .state) (x .memory) (l .slice) b master (h .safe) (subst Ranges (sym (a .setup)) w) (mod-lt (requestBy t .sa) (omega arith)) low high
+        (h .outputs .held) (h .inputs .sending) (h .diagnosis .own) (h .slice) (o .drawn))
+        (replied (bus.brokenOff (l .line)) xs (diagnoses (o .drawn)))
+        (ap (λ (y : Setup). replyOf (o .drawn) y (l .slice) (o .control) b master) (sym (a .setup))) refl)
+
+  pub completes : After (completed s m (finished t)) (bus.completed l t)
+  completes =
+      let o = outcomeOf (reading s t) m (requestBy t) in
+      subst (λ (x : Outcome). After (answered (reading s t) m o (requestBy t)) (bus.answered l x (masterOf (requestBy t)) (payloadOf t))) outcomes (answers o serves)

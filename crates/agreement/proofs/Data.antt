@@ -1,0 +1,80 @@
+-- The data octets that came stand where the header says, octet by octet.
+use Prim.Native.Nat.{ℕ, _+_, _≤_, _<_}
+use native.Mathlib.Omega.{arith}
+use mathlib.Core.Path.{_≡_, refl, sym, _∙_, subst}
+use mathlib.Core.Bool.{Bool, true, false}
+use mathlib.Core.List.{List, [], _∷_, _++_, append-nil}
+use lib.ListN.{length}
+use borrow.Author.Tests.{lt-ltb, le-ltb, eq-eqb}
+use Rattle.buffers.specs.Triple.{fillOf}
+use Rattle.telegram.specs.declared.reader.Reader.{Reader}
+use Rattle.telegram.specs.declared.reader.Status.the-variants.{Broken}
+use Rattle.telegram.specs.Reading.{start, step, run, status, takesData, gathered}
+use Rattle.telegram.proofs.Gather.{gather-snoc}
+use Rattle.state.specs.declared.state.State.{State}
+use Rattle.state.specs.Layout.{outputs, parameters, configuration, countOf, lengthOf, startOf}
+use Rattle.state.proofs.Places.{inside}
+use Rattle.steps.specs.Safe.{Safe}
+use Rattle.state.specs.With.{withIncoming}
+use Rattle.steps.specs.Reading.{storedData, keptOctets, readBy}
+use Rattle.agreement.proofs.Relation.{Gathered}
+use Rattle.agreement.proofs.Changes.{gathered-none}
+use Rattle.telegram.proofs.Onward.{inHead, Onward, step-onward, none-gathered}
+use Rattle.agreement.proofs.Stores.{begins-more, kept-octet}
+
+-- the reader went on
+pub gathered-onward : (s : State) (m : List ℕ) (q : Reader) (ds : List ℕ) → Onward (s .incoming .reader) q → Gathered s m ds → Gathered (readBy s q) m ds
+gathered-onward s m q ds o g =
+    let da = o .da in
+    let dsap = o .dsap in
+    record {
+      outputs = λ h. g .outputs (omega arith);
+      parameters = λ h e. g .parameters (omega arith) (omega arith);
+      configuration = λ h e. g .configuration (omega arith) (omega arith);
+      first = g .first;
+      second = g .second;
+    }
+
+-- a data octet came
+pub gathered-more : (s : State) (m : List ℕ) (q : Reader) (ds : List ℕ) (b : ℕ) → Safe s m → Onward (s .incoming .reader) q → Gathered s m ds
+    → Gathered (withIncoming s (keptOctets (s .incoming) q (length ds) b)) (storedData s m (length ds) b) (ds ++ b ∷ [])
+gathered-more s m q ds b f o g =
+    let da = o .da in
+    let dsap = o .dsap in
+    record {
+      outputs = λ h.
+          let plain : r .da < 128 = omega arith in
+          rw (lt-ltb (r .da) 128 plain) (begins-more m _ _ ds b (fits outputs (fillOf (s .outputs .set .place)) (f .outputs .fill-in)) (g .outputs plain));
+      parameters = λ h e.
+          let marked : 128 ≤ r .da = omega arith in
+          let point : r .dsap ≡ 61 = omega arith in
+          rw (le-ltb (r .da) 128 marked, eq-eqb (r .dsap) 61 point)
+          (begins-more m _ _ ds b (fits parameters (fillOf (s .parameters .set .place)) (f .parameters .fill-in)) (g .parameters marked point));
+      configuration = λ h e.
+          let marked : 128 ≤ r .da = omega arith in
+          let point : r .dsap ≡ 62 = omega arith in
+          rw (le-ltb (r .da) 128 marked, point)
+          (begins-more m _ _ ds b (fits configuration (fillOf (s .configuration .set .place)) (f .configuration .fill-in)) (g .configuration marked point));
+      first = kept-octet ds b 0 (s .incoming .first) (g .first);
+      second = kept-octet ds b 1 (s .incoming .second) (g .second);
+    }
+  where
+    r : Reader
+    r = s .incoming .reader
+
+    fits : (a i : ℕ) → i < countOf a → startOf (s .setup) a i + lengthOf (s .setup) a ≤ length m
+    fits a i h = let u = inside (s .setup) a i (lengthOf (s .setup) a) h (omega arith) in let v = f .room in omega arith
+
+-- an octet that is no data came, and did not break off
+pub gathered-on : (s : State) (m : List ℕ) (xs : List ℕ) (b : ℕ) → s .incoming .reader ≡ run xs → takesData (run xs) ≡ false
+    → ¬ (status (step (run xs) b) ≡ Broken) → Gathered s m (gathered start xs)
+    → Gathered (readBy s (step (run xs) b)) m (gathered start (xs ++ b ∷ []))
+gathered-on s m xs b e t n g =
+    subst (λ (ds : List ℕ). Gathered (readBy s (step (run xs) b)) m ds) (sym same) (go (inHead ((run xs) .phase)) refl)
+  where
+    same : gathered start (xs ++ b ∷ []) ≡ gathered start xs
+    same = gather-snoc xs b ∙ rw t (append-nil (gathered start xs))
+
+    go : (c : Bool) → inHead ((run xs) .phase) ≡ c → Gathered (readBy s (step (run xs) b)) m (gathered start xs)
+    go true h = rw (none-gathered xs h) (gathered-none (readBy s (step (run xs) b)) m)
+    go false h = gathered-onward s m (step (run xs) b) (gathered start xs) (rw e (step-onward (run xs) b h n)) g

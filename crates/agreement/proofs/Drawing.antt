@@ -1,0 +1,231 @@
+-- The reply drawn: the sender sends the ledger's reply, and each of its data octets is read where the station says.
+use Prim.Native.Nat.{ℕ, suc, zero, _+_, _-_, _%_, _≤_, _<_}
+use native.Mathlib.Nat.{mod-eq-of-lt}
+use native.Mathlib.Omega.{arith}
+use mathlib.Core.Path.{_≡_, refl, sym, ap, _∙_}
+use mathlib.Core.Bool.{Bool, true, false, cond}
+use mathlib.Core.List.{List, [], _∷_, _++_}
+use mathlib.Core.Logic.{inl, inr}
+use lib.Dec.{eqb, ltb}
+use lib.ListN.{length, getD, take, drop, length-append, length-take, length-drop}
+use lib.Seq.{getD-take, getD-drop, getD-append-add}
+use borrow.Author.Tests.{ltb-true, ltb-false, ne-eqb}
+use Rattle.buffers.specs.Triple.{fillOf, heldOf}
+use Rattle.octets.specs.Part.{part}
+use Rattle.octets.proofs.Parts.{part-length}
+use Rattle.telegram.specs.declared.Kind.the-variants.{Sd2}
+use Rattle.telegram.specs.Telegram.{sd1, sd2}
+use Rattle.telegram.specs.Sending.{empty, sending}
+use Rattle.telegram.specs.ToSend.{toSend}
+use Rattle.telegram.proofs.Sends.{none, begins, single-octet}
+use Rattle.state.specs.declared.setup.Setup.{Setup}
+use Rattle.state.specs.declared.control.Control.{Control}
+use Rattle.state.specs.declared.state.Drawn.{Drawn}
+use Rattle.state.specs.declared.state.Drawn.the-variants.{Nothing, Acknowledge, Status, Rejected, Exchange, Inputs, Outputs, Configuration, Diagnosis}
+use Rattle.state.specs.declared.state.Header.{Header}
+use Rattle.state.specs.declared.state.State.{State}
+use Rattle.state.specs.Layout.{outputs, inputs, diagnosis, outputsAt, inputsAt, diagnosisAt, getCfgAt, countOf, lengthOf, startOf}
+use Rattle.state.proofs.Places.{inside, get-cfg-inside}
+use Rattle.rules.specs.Diagnosis.{headerOf}
+use Rattle.ledger.specs.Lists.{Buffers}
+use Rattle.ledger.specs.Ledger.{Line}
+use Rattle.ledger.specs.Replies.{headerOctets, diagnosisOctets, serviceReply, replyOf}
+use Rattle.rules.specs.Replies.{diagnoses}
+use Rattle.steps.specs.Safe.{Safe}
+use Rattle.state.specs.With.{withReply}
+use Rattle.rules.specs.Replies.{exchangeFc}
+use Rattle.steps.specs.Replies.{servicing, replyFor, ownPlace, headerAt, contentAt, datumAt}
+use Rattle.agreement.proofs.Relation.{ReplyAgrees}
+use Rattle.agreement.proofs.Carries.{own-in}
+use Rattle.agreement.proofs.Facts.{Ranges}
+
+-- ---- the octets of a service's reply
+
+-- 3E and the service point stand before the data
+service-octets : (f : ℕ → ℕ) (point : ℕ) (xs : List ℕ) → ((i : ℕ) → i < length xs → f i ≡ getD xs i 0) → (k : ℕ) → k < suc (suc (length xs))
+    → cond (eqb k 0) 0x3E (cond (eqb k 1) point (f (k - 2))) ≡ getD (0x3E ∷ point ∷ xs) k 0
+service-octets f point xs h zero g = refl
+service-octets f point xs h (suc zero) g = refl
+service-octets f point xs h (suc (suc i)) g =
+    let e : suc (suc i) - 2 ≡ i = omega arith in
+    rw (ne-eqb (suc (suc i)) 0 (λ z. omega arith), ne-eqb (suc (suc i)) 1 (λ z. omega arith), e) (h i (omega arith))
+
+-- and the sender sends them, with bit 7 in both addresses
+service-left : (s : Setup) (master point n : ℕ) (xs : List ℕ) → s .address ≤ 126 → master < 128 → length xs ≡ n → n ≤ 244
+    → toSend (servicing s master n) (0x3E ∷ point ∷ xs) ≡ serviceReply s master point xs
+service-left s master point n xs a h e l =
+    let p : master + 128 < 256 = omega arith in
+    let q : s .address + 128 < 256 = omega arith in
+    let u : n + 2 < 256 = omega arith in
+    let v : n + 2 ≡ length (0x3E ∷ point ∷ xs) = omega arith in
+    rw (mod-eq-of-lt p, mod-eq-of-lt q, mod-eq-of-lt u, v)
+    (begins (sd2 (master + 128) (s .address + 128) 0x08 (0x3E ∷ point ∷ xs)) (omega arith, omega arith, inr (omega arith, omega arith, omega arith)))
+
+service-count : (n : ℕ) (xs : List ℕ) (point : ℕ) → length xs ≡ n → n ≤ 244 → length (0x3E ∷ point ∷ xs) ≡ (n + 2) % 256
+service-count n xs point e l =
+    let u : n + 2 < 256 = omega arith in
+    let v : length (0x3E ∷ point ∷ xs) ≡ n + 2 = omega arith in
+    v ∙ sym (mod-eq-of-lt u)
+
+-- ---- the diagnosis octets
+
+header-at : (h : Header) (ident : ℕ) (xs : List ℕ) (i : ℕ) → i < 6 → headerAt h ident i ≡ getD (headerOctets h ident ++ xs) i 0
+header-at h ident xs zero g = refl
+header-at h ident xs (suc zero) g = refl
+header-at h ident xs (suc (suc zero)) g = refl
+header-at h ident xs (suc (suc (suc zero))) g = refl
+header-at h ident xs (suc (suc (suc (suc zero)))) g = refl
+header-at h ident xs (suc (suc (suc (suc (suc zero))))) g = refl
+header-at h ident xs (suc (suc (suc (suc (suc (suc i)))))) g = absurd (omega arith)
+
+module _ (h : Header) (ident count : ℕ) (own : List ℕ) (low : 6 ≤ count) (high : count ≤ length own) where
+  diagnosis-length : length (headerOctets h ident ++ drop 6 (take count own)) ≡ count
+  diagnosis-length = length-append (headerOctets h ident) (drop 6 (take count own)) ∙ simp (length-drop, length-take) (omega arith)
+
+  diagnosis-at : (i : ℕ) → i < count → cond (ltb i 6) (headerAt h ident i) (getD own i 0) ≡ getD (headerOctets h ident ++ drop 6 (take count own)) i 0
+  diagnosis-at i g = go (ltb i 6) refl
+    where
+      go : (t : Bool) → ltb i 6 ≡ t → cond t (headerAt h ident i) (getD own i 0) ≡ getD (headerOctets h ident ++ drop 6 (take count own)) i 0
+      go true e = header-at h ident (drop 6 (take count own)) i (ltb-true i 6 e)
+      go false e =
+          let u : 6 ≤ i = ltb-false i 6 e in
+          let v : 6 + (i - 6) ≡ i = omega arith in
+          sym (ap (λ (k : ℕ). getD (headerOctets h ident ++ drop 6 (take count own)) k 0) (sym v)
+          ∙ getD-append-add (headerOctets h ident) (drop 6 (take count own)) (i - 6) 0
+          ∙ getD-drop 6 (take count own) (i - 6) 0
+          ∙ ap (λ (k : ℕ). getD (take count own) k 0) v
+          ∙ getD-take count own i 0 g)
+
+-- ---- each reply
+
+-- the line that is left when a telegram is complete
+abbrev pub replyLine : Setup → List ℕ → Control → Buffers → ℕ → Drawn → Line
+replyLine g slice c b master d = record { ignored = true; telegram = []; reply = replyOf d g slice c b master; diagnosing = diagnoses d }
+
+abbrev pub Replies : State → List ℕ → List ℕ → Buffers → ℕ → Drawn → Type 0
+Replies s m slice b master d =
+    (ds : List ℕ) × ReplyAgrees (withReply s (replyFor d s master)) m (replyLine (s .setup) slice (s .control) b master d) ds
+
+module _ (s : State) (m : List ℕ) (slice : List ℕ) (b : Buffers) (master : ℕ) (f : Safe s m) (w : Ranges (s .setup)) (to : master < 128)
+    (low : 6 ≤ s .control .diagnosis .count) (high : s .control .diagnosis .count ≤ s .setup .«diagnosis_len»)
+    (held : part m (outputsAt (s .setup) (heldOf (s .outputs .set .place))) (s .setup .«output_len») ≡ b .outputs .held)
+    (sent : part m (inputsAt (s .setup) (fillOf (s .inputs .place))) (s .setup .«input_len») ≡ b .inputs .sending)
+    (own : part m (diagnosisAt (s .setup) (ownPlace (s .swapped))) (s .setup .«diagnosis_len») ≡ b .diagnosis .own)
+    (slices : part m (getCfgAt (s .setup)) (s .setup .«get_cfg_len») ≡ slice) where
+  -- a buffer's list has its length
+  fills : (a i : ℕ) (xs : List ℕ) → i < countOf a → part m (startOf (s .setup) a i) (lengthOf (s .setup) a) ≡ xs → length xs ≡ lengthOf (s .setup) a
+  fills a i xs h e =
+      let u = inside (s .setup) a i (lengthOf (s .setup) a) h (omega arith) in
+      let v = f .room in
+      ap length (sym e) ∙ part-length m (startOf (s .setup) a i) (lengthOf (s .setup) a) (omega arith)
+
+  draw-nothing : Replies s m slice b master Nothing
+  unfolding replyFor
+  draw-nothing = ([], record { count = refl; octets = λ k g. absurd (omega arith); left = none empty [] refl; diagnosis = refl })
+
+  draw-acknowledge : Replies s m slice b master Acknowledge
+  unfolding replyFor
+  draw-acknowledge = ([], record { count = refl; octets = λ k g. absurd (omega arith); left = single-octet []; diagnosis = refl })
+
+  draw-status : Replies s m slice b master Status
+  unfolding replyFor
+  draw-status =
+      ([], record { count = refl; octets = λ k g. absurd (omega arith); left = begins (sd1 master (s .setup .address) 0x00) (inl (omega arith, omega arith)); diagnosis = refl })
+
+  draw-rejected : Replies s m slice b master Rejected
+  unfolding replyFor
+  draw-rejected =
+      ([], record { count = refl; octets = λ k g. absurd (omega arith); left = begins (sd1 master (s .setup .address) 0x03) (inl (omega arith, omega arith)); diagnosis = refl })
+
+  draw-exchange : Replies s m slice b master Exchange
+  unfolding replyFor datumAt
+  draw-exchange =
+      let e : length (b .inputs .sending) ≡ s .setup .«input_len» = fills inputs (fillOf (s .inputs .place)) (b .inputs .sending) (f .inputs .fill-in) sent in (
+        b .inputs .sending,
+        record {
+          count = e;
+          octets = λ k g. ap (λ (l : List ℕ). getD l k 0) sent;
+          left =
+              ap (λ (n : ℕ). toSend (sending Sd2 master (s .setup .address) (exchangeFc (s .control)) n) (b .inputs .sending)) (sym e)
+              ∙ begins (sd2 master (s .setup .address) (exchangeFc (s .control)) (b .inputs .sending)) (omega arith, omega arith, inl (omega arith, omega arith));
+          diagnosis = refl;
+        },
+      )
+
+  draw-inputs : Replies s m slice b master Inputs
+  unfolding replyFor datumAt
+  draw-inputs =
+      let xs = b .inputs .sending in
+      let e : length xs ≡ s .setup .«input_len» = fills inputs (fillOf (s .inputs .place)) xs (f .inputs .fill-in) sent in (
+        0x3E ∷ 56 ∷ xs,
+        record {
+          count = service-count (s .setup .«input_len») xs 56 e (w .inputs .1);
+          octets = service-octets (contentAt Inputs s m) 56 xs (λ i g. ap (λ (l : List ℕ). getD l i 0) sent);
+          left = service-left (s .setup) master 56 (s .setup .«input_len») xs (w .address) to e (w .inputs .1);
+          diagnosis = refl;
+        },
+      )
+
+  draw-outputs : Replies s m slice b master Outputs
+  unfolding replyFor datumAt
+  draw-outputs =
+      let xs = b .outputs .held in
+      let n = s .setup .«output_len» in
+      let e : length xs ≡ s .setup .«output_len» = fills outputs (heldOf (s .outputs .set .place)) xs (f .outputs .held-in) held in (
+        0x3E ∷ 57 ∷ xs,
+        record {
+          count = service-count n xs 57 e (w .outputs .1);
+          octets = service-octets (λ i. getD (part m (outputsAt (s .setup) (heldOf (s .outputs .set .place))) n) i 0) 57 xs (λ i g. ap (λ (l : List ℕ). getD l i 0) held);
+          left = service-left (s .setup) master 57 n xs (w .address) to e (w .outputs .1);
+          diagnosis = refl;
+        },
+      )
+
+  draw-configuration : Replies s m slice b master Configuration
+  unfolding replyFor datumAt
+  draw-configuration =
+      let n = s .setup .«get_cfg_len» in
+      let u = get-cfg-inside (s .setup) (s .setup .«get_cfg_len») (omega arith) in
+      let v = f .room in
+      let e : length slice ≡ s .setup .«get_cfg_len» = ap length (sym slices) ∙ part-length m (getCfgAt (s .setup)) n (omega arith) in (
+        0x3E ∷ 59 ∷ slice,
+        record {
+          count = service-count n slice 59 e (w .get-cfg .1);
+          octets = service-octets (contentAt Configuration s m) 59 slice (λ i g. ap (λ (l : List ℕ). getD l i 0) slices);
+          left = service-left (s .setup) master 59 n slice (w .address) to e (w .get-cfg .1);
+          diagnosis = refl;
+        },
+      )
+
+  draw-diagnosis : Replies s m slice b master Diagnosis
+  unfolding replyFor datumAt
+  draw-diagnosis =
+      let n = s .control .diagnosis .count in
+      let h = headerOf (s .control) in
+      let ident = s .setup .ident in
+      let ys = b .diagnosis .own in
+      let xs = diagnosisOctets (s .setup) (s .control) ys in
+      let u : length ys ≡ s .setup .«diagnosis_len» = fills diagnosis (ownPlace (s .swapped)) ys (own-in (s .swapped)) own in
+      let v : s .control .diagnosis .count ≤ length ys = omega arith in
+      let e : length xs ≡ s .control .diagnosis .count = diagnosis-length h ident n ys low v in (
+        0x3E ∷ 60 ∷ xs,
+        record {
+          count = service-count n xs 60 e (omega arith);
+          octets =
+              service-octets (λ i. cond (ltb i 6) (headerAt h ident i) (getD (part m (diagnosisAt (s .setup) (ownPlace (s .swapped))) (s .setup .«diagnosis_len»)) i 0)) 60 xs
+              (λ i g. ap (λ (l : List ℕ). cond (ltb i 6) (headerAt h ident i) (getD l i 0)) own ∙ diagnosis-at h ident n ys low v i (omega arith));
+          left = service-left (s .setup) master 60 n xs (w .address) to e (omega arith);
+          diagnosis = refl;
+        },
+      )
+
+  pub draws : (d : Drawn) → Replies s m slice b master d
+  draws Nothing = draw-nothing
+  draws Acknowledge = draw-acknowledge
+  draws Status = draw-status
+  draws Rejected = draw-rejected
+  draws Exchange = draw-exchange
+  draws Inputs = draw-inputs
+  draws Outputs = draw-outputs
+  draws Configuration = draw-configuration
+  draws Diagnosis = draw-diagnosis

@@ -1,0 +1,129 @@
+-- The bus's octet keeps the relation.
+use Prim.Native.Nat.{ℕ}
+use native.Mathlib.Omega.{arith}
+use mathlib.Core.Path.{_≡_, refl, sym, ap, _∙_, subst}
+use mathlib.Core.Bool.{Bool, true, false, cond}
+use mathlib.Core.List.{List, [], _∷_, _++_}
+use lib.Dec.{eqb}
+use Rattle.telegram.specs.declared.Kind.the-variants.{Sd1, Sd2, Sd3, Sd4}
+use Rattle.telegram.specs.declared.reader.Phase.the-variants.{Le, Da}
+use Rattle.telegram.specs.declared.reader.Reader.{Reader}
+use Rattle.telegram.specs.declared.reader.Status.{Status}
+use Rattle.telegram.specs.declared.reader.Status.the-variants.{Fresh, Inside, Complete, Broken}
+use Rattle.telegram.specs.Telegram.{Telegram}
+use Rattle.telegram.specs.Reading.{before, off, start, okAt, step, received, run, status, takesData, gathered, finished}
+use Rattle.telegram.proofs.Run.{no-true, inside-complete, broken-complete, run-snoc}
+use Rattle.telegram.proofs.Framing.{framing, told}
+use Rattle.state.specs.declared.state.State.{State}
+use Rattle.ledger.specs.Ledger as ledger
+use Rattle.ledger.specs.Ledger.{Ledger, withLine}
+use Rattle.ledger.specs.Deeds as ledger-deeds
+use Rattle.ledger.specs.Bus as bus
+use Rattle.steps.specs.Deeds.{begun, settle}
+use Rattle.steps.specs.Reading.{isIgnored, readBy, completed, settled, beginning, heardAs, heard}
+use Rattle.agreement.proofs.Relation.{Gathered, Agrees}
+use Rattle.agreement.proofs.Facts.{Ranges, Needed, After}
+use Rattle.agreement.proofs.SameLine.{begun-agrees}
+use Rattle.agreement.proofs.Changes.{gathered-none, reading-changed, reply-dropped}
+use Rattle.state.proofs.Choice.{both}
+use Rattle.agreement.proofs.Settles.{settle-agrees}
+use Rattle.agreement.proofs.InOrder.{closed-list}
+use Rattle.telegram.proofs.Onward.{data-goes-on}
+use Rattle.agreement.proofs.OnLine.{nothing-left, ignored-agrees}
+use Rattle.agreement.proofs.Data.{gathered-on}
+use Rattle.agreement.proofs.Inner.{inner-octet}
+use Rattle.agreement.proofs.Completes.{completes}
+
+-- no telegram is complete with its first octet
+first-never : (b : ℕ) → status (step start b) ≡ Complete → ⊥
+unfolding step
+first-never b = go (okAt (start .phase) start b) (eqb b 0x10) (eqb b 0xA2) (eqb b 0xDC)
+  where
+    go : (c p q t : Bool) → status (cond c (cond p (before Da Sd1 0) (cond q (before Da Sd3 8) (cond t (before Da Sd4 0) (before Le Sd2 0)))) off) ≡ Complete → ⊥
+    go true true q t e = inside-complete e
+    go true false true t e = inside-complete e
+    go true false false true e = inside-complete e
+    go true false false false e = inside-complete e
+    go false p q t e = broken-complete e
+
+module _ (s : State) (m : List ℕ) (l : Ledger) (b : ℕ) (d : Needed l) (w : Ranges (l .setup)) (a : Agrees s m l) where
+  -- broken off: octets are ignored until the next gap
+  breaks-off : After (settle (readBy s off) m) (ledger-deeds.settle (withLine l (bus.brokenOff (l .line))))
+  breaks-off = settle-agrees (reading-changed a off true [] (ignored-agrees refl refl refl))
+
+  abbrev r : Reader
+  r = s .incoming .reader
+
+  abbrev xs : List ℕ
+  xs = l .line .telegram
+
+  module _ (ignoring : l .line .ignored ≡ false) where
+    read : r ≡ run xs
+    read = a .reading .reading ignoring
+
+    -- nothing was read before a first octet
+    first : ledger.begun l ≡ false → step r b ≡ step start b
+    first n = ap (λ (x : Reader). step x b) (read ∙ ap run (closed-list xs n))
+
+    -- a beginning drops an unfinished reply
+    begins : ledger.begun l ≡ false → status (step r b) ≡ Inside → After (settle (beginning s (step r b)) m) (ledger-deeds.settle (withLine l (bus.beginning b)))
+    begins n e =
+        settle-agrees
+        (reply-dropped
+        (reading-changed a (step r b) false (b ∷ [])
+        (record { ignoring = ap isIgnored e; empty = λ z. no-true z; reading = λ _. first n; stored = λ _. gathered-none (readBy s (step r b)) m })))
+
+    -- the last octet is no data octet
+    no-data : status (step r b) ≡ Complete → takesData r ≡ false
+    no-data e = go (takesData r) refl
+      where
+        go : (c : Bool) → takesData r ≡ c → c ≡ false
+        go true h = absurd (inside-complete (sym (data-goes-on r b h) ∙ e))
+        go false h = refl
+
+    -- and not the first one
+    under-way : status (step r b) ≡ Complete → ledger.begun l ≡ true
+    under-way e = go (ledger.begun l) refl
+      where
+        go : (c : Bool) → ledger.begun l ≡ c → c ≡ true
+        go true h = refl
+        go false h = absurd (first-never b (ap status (sym (first h)) ∙ e))
+
+    -- it is complete, and the data octets gathered are its data
+    ends : status (step r b) ≡ Complete → After (settled (completed s m (step r b))) (ledger-deeds.settle (bus.completed l (bus.telegramOn (xs ++ b ∷ []))))
+    ends e =
+        let ys = xs ++ b ∷ [] in
+        let went : step (run xs) b ≡ run ys = sym (run-snoc xs b) in
+        let steps : step r b ≡ step (run xs) b = ap (λ (x : Reader). step x b) read in
+        let whole = framing ys .whole .0 (ap status (sym went) ∙ ap status (sym steps) ∙ e) in
+        let t = whole .0 in
+        let fields = framing ys .fields t (whole .1) (whole .2) in
+        let is : bus.telegramOn ys ≡ t = ap bus.telegramOn (sym (whole .2)) ∙ told t (whole .1) in
+        let stored = gathered-on s m xs b read (rw read at (no-data e)) (λ z. broken-complete (sym z ∙ ap status (sym steps) ∙ e)) (a .reading .stored ignoring) in
+        let moved = subst (λ (x : Reader). Gathered (readBy s x) m (gathered start ys)) (went ∙ fields .0) stored in
+        let g = subst (λ (ds : List ℕ). Gathered (readBy s (finished t)) m ds) (fields .1) moved in
+        let done = settle-agrees (completes a d w t g (nothing-left (a .reply) (d .quiet (under-way e)))) in
+        subst (λ (x : Reader). After (settled (completed s m x)) (ledger-deeds.settle (bus.completed l (bus.telegramOn ys)))) (sym (steps ∙ went ∙ fields .0))
+        (subst (λ (x : Telegram). After (settled (completed s m (finished t))) (ledger-deeds.settle (bus.completed l x))) (sym is) done)
+
+    -- by what the octets are with this one
+    hears : (bad : Bool) (x : Status) → status (received r b bad) ≡ x → After (heardAs x s m (received r b bad) b) (bus.heardAs x l b)
+    hears bad Fresh e = a
+    hears true Inside e = let z : _≡_ {A = ℕ} 0 1 = cc in absurd (omega arith)
+    hears false Inside e =
+        both After (begun s) (ledger.begun l) _ _ _ _ (begun-agrees a)
+        (λ c. inner-octet s m l b d a ignoring (sym (begun-agrees a) ∙ c) e)
+        (λ c. begins (sym (begun-agrees a) ∙ c) e)
+    hears true Complete e = absurd (broken-complete e)
+    hears false Complete e = ends e
+    hears bad Broken e = breaks-off
+
+  pub heard-agrees : (bad : Bool) → After (heard s m b bad) (bus.heard l b bad)
+  unfolding heard bus.heard
+  heard-agrees bad = both After (isIgnored (status r)) (l .line .ignored) _ _ _ _ (a .reading .ignoring) (λ _. a) (λ e. goes (sym (a .reading .ignoring) ∙ e))
+    where
+      goes : l .line .ignored ≡ false
+          → After (heardAs (status (received r b bad)) s m (received r b bad) b) (bus.heardAs (status (received (run xs) b bad)) l b)
+      goes n =
+          let q = received r b bad in
+          subst (λ (x : Status). After (heardAs (status q) s m q b) (bus.heardAs x l b)) (ap (λ (x : Reader). status (received x b bad)) (read n)) (hears n bad (status q) refl)

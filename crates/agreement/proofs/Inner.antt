@@ -1,0 +1,80 @@
+-- An inner octet only lengthens the telegram, on both sides.
+use Prim.Native.Nat.{ℕ}
+use native.Mathlib.Omega.{arith}
+use mathlib.Core.Path.{_≡_, refl, sym, ap, _∙_, subst}
+use mathlib.Core.Bool.{Bool, true, false, cond}
+use mathlib.Core.List.{List, [], _∷_, _++_}
+use lib.ListN.{length}
+use Rattle.telegram.specs.declared.Datum.the-variants.{Number, Nothing}
+use Rattle.telegram.specs.declared.reader.Reader.{Reader}
+use Rattle.telegram.specs.declared.reader.Status.{Status}
+use Rattle.telegram.specs.declared.reader.Status.the-variants.{Inside, Broken}
+use Rattle.telegram.specs.Reading.{start, step, run, status, takesData, datumOf, gathered}
+use Rattle.telegram.proofs.Run.{no-true, run-snoc}
+use Rattle.telegram.proofs.Gather.{gather-snoc, counts, data-inside}
+use Rattle.state.specs.declared.state.Incoming.{Incoming}
+use Rattle.state.specs.declared.state.State.{State}
+use Rattle.ledger.specs.Ledger.{Ledger, withLine, begun}
+use Rattle.ledger.specs.Bus.{lengthened}
+use Rattle.state.specs.With.{withIncoming}
+use Rattle.steps.specs.Reading.{isIgnored, storedData, keptOctets, readBy, storedAs}
+use Rattle.agreement.proofs.Relation.{Gathered, Agrees}
+use Rattle.agreement.proofs.Facts.{Needed, After}
+use Rattle.agreement.proofs.Stays.{reply-stays}
+use Rattle.telegram.proofs.Onward.{step-onward, data-behind}
+use Rattle.agreement.proofs.Beside.{Beside, nowhere, data-beside, reread}
+use Rattle.agreement.proofs.OnLine.{reply-line, nothing-left}
+use Rattle.agreement.proofs.Data.{gathered-more, gathered-on}
+
+inside-broken : {x : Status} → x ≡ Inside → x ≡ Broken → ⊥
+inside-broken e f = let z : _≡_ {A = ℕ} 0 1 = cc in omega arith
+
+module _ (s : State) (m : List ℕ) (l : Ledger) (b : ℕ) (d : Needed l) (a : Agrees s m l)
+    (ignoring : l .line .ignored ≡ false) (coming : begun l ≡ true) (inside : status (step (s .incoming .reader) b) ≡ Inside) where
+  abbrev xs : List ℕ
+  xs = l .line .telegram
+
+  abbrev r : Reader
+  r = s .incoming .reader
+
+  read : r ≡ run xs
+  read = a .reading .reading ignoring
+
+  -- the reader went on, and the data is as the relation wants it
+  longer : (i : Incoming) (m′ : List ℕ) → i .reader ≡ step r b → Beside s m m′ → Gathered (withIncoming s i) m′ (gathered start (xs ++ b ∷ []))
+      → Agrees (withIncoming s i) m′ (withLine l (lengthened (l .line) b))
+  longer i m′ e u g =
+      reread i (lengthened (l .line) b) d u a
+      (record {
+        ignoring = ap (λ (x : Reader). isIgnored (status x)) e ∙ ap isIgnored inside;
+        empty = λ z. no-true z;
+        reading = λ _. e ∙ ap (λ (x : Reader). step x b) read ∙ sym (run-snoc xs b);
+        stored = λ _. g;
+      })
+      (reply-stays s (withIncoming s i) m m′ refl (lengthened (l .line) b) (λ h. no-true (sym (nothing-left (a .reply) (d .quiet coming)) ∙ h))
+      (reply-line (a .reply) (lengthened (l .line) b) refl refl))
+
+  -- it is no data octet
+  inner-plain : takesData r ≡ false → Agrees (readBy s (step r b)) m (withLine l (lengthened (l .line) b))
+  inner-plain t =
+      longer (record { reader = step r b; first = s .incoming .first; second = s .incoming .second }) m refl (nowhere s m)
+      (rw read (gathered-on s m xs b read (rw read at t) (inside-broken (rw read at inside)) (a .reading .stored ignoring)))
+
+  -- it is data octet number r .at
+  inner-data : takesData r ≡ true → Agrees (withIncoming s (keptOctets (s .incoming) (step r b) (r .at) b)) (storedData s m (r .at) b) (withLine l (lengthened (l .line) b))
+  inner-data t =
+      let t′ : takesData (run xs) ≡ true = rw read at t in
+      let n : ¬ (status (run xs) ≡ Broken) = inside-broken (data-inside xs t′) in
+      let count : r .at ≡ length (gathered start xs) = ap (λ (x : Reader). x .at) read ∙ counts xs n in
+      let more : gathered start (xs ++ b ∷ []) ≡ gathered start xs ++ b ∷ [] = gather-snoc xs b ∙ rw t′ in
+      longer (keptOctets (s .incoming) (step r b) (r .at) b) (storedData s m (r .at) b) refl (data-beside s m (r .at) b (a .safe))
+      (subst (λ (k : ℕ). Gathered (withIncoming s (keptOctets (s .incoming) (step r b) k b)) (storedData s m k b) (gathered start (xs ++ b ∷ []))) (sym count)
+      (rw more
+      (gathered-more s m (step r b) (gathered start xs) b (a .safe) (step-onward r b (data-behind r b t) (inside-broken inside)) (a .reading .stored ignoring))))
+
+  pub inner-octet : After (storedAs (datumOf r) s m (step r b) b) (withLine l (lengthened (l .line) b))
+  inner-octet = go (takesData r) refl
+    where
+      go : (c : Bool) → takesData r ≡ c → After (storedAs (cond c (Number (r .at)) Nothing) s m (step r b) b) (withLine l (lengthened (l .line) b))
+      go true e = inner-data e
+      go false e = inner-plain e

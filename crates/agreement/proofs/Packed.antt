@@ -1,0 +1,148 @@
+-- The state packed in front of the memory again: every buffer is as it was, and the state is sound.
+use Prim.Native.Nat.{ℕ, _≤_, _<_}
+use native.Mathlib.Omega.{arith}
+use mathlib.Core.Path.{_≡_, refl, sym, ap, _∙_}
+use mathlib.Core.Bool.{Bool, true, false, not}
+use mathlib.Core.List.{List, [], _∷_}
+use mathlib.Core.Logic.{_⊎_, inl, inr}
+use lib.Dec.{eqb}
+use borrow.Author.Tests.{ne-eqb}
+use lib.ListN.{length}
+use Rattle.buffers.specs.Triple.{fillOf, nextOf, heldOf}
+use Rattle.octets.specs.Part.{part}
+use Rattle.state.specs.declared.setup.Setup.{Setup}
+use Rattle.state.specs.declared.state.Sets as station-sets
+use Rattle.state.specs.declared.state.State.{State}
+use Rattle.state.specs.Layout.{stateLength, outputs, inputs, parameters, configuration, diagnosis, countOf, startOf, getCfgAt}
+use Rattle.state.specs.Memory.{kept}
+use Rattle.state.specs.Sound.{NoneOr, Sound}
+use Rattle.state.proofs.Places.{inside, get-cfg-inside}
+use Rattle.state.proofs.Front.{kept-part, kept-length}
+use Rattle.ledger.specs.Lists.{some, Sets}
+use Rattle.ledger.specs.Ledger.{Ledger}
+use Rattle.ledger.specs.ReadBack as ledger
+use Rattle.ledger.specs.ReadBack.{Fit}
+use Rattle.steps.specs.Replies.{ownPlace, userPlace}
+use Rattle.agreement.proofs.Relation.{SetsAgree, Agrees}
+use Rattle.agreement.proofs.Stays.{SameSource, SameFills, reply-stays, reading-stays}
+use Rattle.steps.proofs.Safety.{safe-length}
+
+own-place : (b : Bool) → ownPlace b < 2
+own-place true = omega arith
+own-place false = omega arith
+
+user-place : (b : Bool) → userPlace b < 2
+user-place true = omega arith
+user-place false = omega arith
+
+-- the relation holds of the packed memory
+pub kept-agrees : {s : State} {m : List ℕ} {l : Ledger} → stateLength ≤ length m → Agrees s m l → Agrees s (kept s m) l
+kept-agrees {s} {m} {l} long a = record {
+  setup = a .setup;
+  control = a .control;
+  outputs = record {
+    held = same outputs (heldOf (s .outputs .set .place)) (s .setup .«output_len») (a .safe .outputs .held-in) ∙ a .outputs .held;
+    next = same outputs (nextOf (s .outputs .set .place)) (s .setup .«output_len») (a .safe .outputs .next-in) ∙ a .outputs .next;
+    fresh = a .outputs .fresh;
+    zeros = a .outputs .zeros;
+  };
+  inputs = record {
+    sending = same inputs (fillOf (s .inputs .place)) (s .setup .«input_len») (a .safe .inputs .fill-in) ∙ a .inputs .sending;
+    next = same inputs (nextOf (s .inputs .place)) (s .setup .«input_len») (a .safe .inputs .next-in) ∙ a .inputs .next;
+    held = same inputs (heldOf (s .inputs .place)) (s .setup .«input_len») (a .safe .inputs .held-in) ∙ a .inputs .held;
+    fresh = a .inputs .fresh;
+  };
+  parameters = record {
+    shown = same parameters (heldOf (s .parameters .set .place)) (s .parameters .shown) (a .safe .parameters .held-in) ∙ a .parameters .shown;
+    waiting = same parameters (nextOf (s .parameters .set .place)) (s .parameters .waiting) (a .safe .parameters .next-in) ∙ a .parameters .waiting;
+    shown-count = a .parameters .shown-count;
+    waiting-count = a .parameters .waiting-count;
+    fresh = a .parameters .fresh;
+  };
+  configuration = record {
+    shown = same configuration (heldOf (s .configuration .set .place)) (s .configuration .shown) (a .safe .configuration .held-in) ∙ a .configuration .shown;
+    waiting = same configuration (nextOf (s .configuration .set .place)) (s .configuration .waiting) (a .safe .configuration .next-in) ∙ a .configuration .waiting;
+    shown-count = a .configuration .shown-count;
+    waiting-count = a .configuration .waiting-count;
+    fresh = a .configuration .fresh;
+  };
+  diagnosis = record {
+    own = same diagnosis (ownPlace (s .swapped)) (s .setup .«diagnosis_len») (own-place (s .swapped)) ∙ a .diagnosis .own;
+    user = same diagnosis (userPlace (s .swapped)) (s .setup .«diagnosis_len») (user-place (s .swapped)) ∙ a .diagnosis .user;
+  };
+  slice = in-slice ∙ a .slice;
+  reading = reading-stays s s m (kept s m) refl fills (l .line) (a .reading);
+  reply = reply-stays s s m (kept s m) refl (l .line) (λ _. source) (a .reply);
+  safe = safe-length s m (kept s m) (kept-length s m long) (a .safe);
+}
+  where
+    g : Setup
+    g = s .setup
+
+    same : (kind i n : ℕ) → i < countOf kind → part (kept s m) (startOf g kind i) n ≡ part m (startOf g kind i) n
+    same kind i n h = kept-part s m (startOf g kind i) n (inside g kind i 0 h (omega arith) .0)
+
+    in-slice : part (kept s m) (getCfgAt g) (g .«get_cfg_len») ≡ part m (getCfgAt g) (g .«get_cfg_len»)
+    in-slice = kept-part s m (getCfgAt g) (g .«get_cfg_len») (get-cfg-inside g 0 (omega arith) .0)
+
+    fills : SameFills s m s (kept s m)
+    fills = record {
+      setup = refl;
+      outputs = λ k _. same outputs (fillOf (s .outputs .set .place)) k (a .safe .outputs .fill-in);
+      parameters = λ k _. same parameters (fillOf (s .parameters .set .place)) k (a .safe .parameters .fill-in);
+      configuration = λ k _. same configuration (fillOf (s .configuration .set .place)) k (a .safe .configuration .fill-in);
+    }
+
+    source : SameSource s m s (kept s m)
+    source = record {
+      ident = refl;
+      inputs = same inputs (fillOf (s .inputs .place)) (g .«input_len») (a .safe .inputs .fill-in);
+      outputs = λ _. same outputs (s .reply .place) (g .«output_len») (let h = a .safe .reply in omega arith);
+      slice = in-slice;
+      diagnosis = λ _. same diagnosis (ownPlace (s .swapped)) (g .«diagnosis_len») (own-place (s .swapped));
+    }
+
+-- ---- the state is sound
+
+waits : (xs : List ℕ) → some xs ≡ not (eqb (length xs) 0)
+waits [] = refl
+waits (x ∷ xs) = sym (ap not (ne-eqb (length (x ∷ xs)) 0 (λ e. omega arith)))
+
+counted : {low high n : ℕ} (xs : List ℕ) → n ≡ length xs → ledger.NoneOr low xs high → NoneOr low n high
+counted xs e (inl z) = inl (e ∙ z)
+counted xs e (inr w) = inr (rw e w)
+
+at-most : {low high n : ℕ} (xs : List ℕ) → n ≡ length xs → ledger.NoneOr low xs high → n ≤ high
+at-most xs e (inl z) = omega arith
+at-most xs e (inr w) = omega arith
+
+marked : {base : ℕ → ℕ} {m : List ℕ} {x : station-sets.Sets} {y : Sets} → SetsAgree base m x y → x .set .fresh ≡ not (eqb (x .waiting) 0)
+marked {y = y} a = a .fresh ∙ waits (y .waiting) ∙ ap (λ (n : ℕ). not (eqb n 0)) (sym (a .waiting-count))
+
+pub agrees-sound : {s : State} {m : List ℕ} {l : Ledger} → Agrees s m l → Fit l → Sound s
+agrees-sound {s} {m} {l} a f =
+    let g = a .setup in
+    let c = a .control in
+    record {
+      address = rw g (f .accepted .address);
+      output-len = rw g (f .accepted .outputs);
+      input-len = rw g (f .accepted .inputs);
+      parameter-len = rw g (f .accepted .parameters);
+      configuration-len = rw g (f .accepted .configuration);
+      diagnosis-len = rw g (f .accepted .diagnosis);
+      get-cfg-len = rw g (f .accepted .get-cfg);
+      outputs = a .safe .outputs;
+      inputs = a .safe .inputs;
+      parameters = a .safe .parameters;
+      configuration = a .safe .configuration;
+      parameters-shown = rw g (counted (l .buffers .parameters .shown) (a .parameters .shown-count) (f .lists .parameters .shown));
+      parameters-waiting = rw g (counted (l .buffers .parameters .waiting) (a .parameters .waiting-count) (f .lists .parameters .waiting));
+      configuration-shown = rw g (at-most (l .buffers .configuration .shown) (a .configuration .shown-count) (f .lists .configuration .shown));
+      configuration-waiting = rw g (at-most (l .buffers .configuration .waiting) (a .configuration .waiting-count) (f .lists .configuration .waiting));
+      parameters-fresh = marked (a .parameters);
+      configuration-fresh = marked (a .configuration);
+      diagnosis-count = rw (g, c) (f .counts .count);
+      delayed-count = rw (g, c) (f .counts .delayed);
+      delayed-flags = rw c (f .counts .flags);
+      place = a .safe .reply;
+    }

@@ -1,0 +1,52 @@
+-- Facts of every ledger that a list of calls leads to, on which the simulation rests.
+use Prim.Native.Nat.{ℕ, _≤_}
+use mathlib.Core.Path.{_≡_}
+use mathlib.Core.Bool.{true, false}
+use mathlib.Core.List.{List, []}
+use mathlib.Core.Logic.{_⊎_}
+use lib.ListN.{length}
+use Rattle.telegram.specs.Sending.{left}
+use Rattle.state.specs.declared.setup.Setup.{Setup}
+use Rattle.state.specs.declared.state.Drawn.the-variants as drawn
+use Rattle.state.specs.declared.state.State.{State}
+use Rattle.rules.specs.Control.{inExchange}
+use Rattle.rules.specs.Diagnosis.{delayed}
+use Rattle.ledger.specs.Lists.{Sets}
+use Rattle.ledger.specs.Ledger.{Ledger, begun, busy, diagnosisLeaves, parametersOpen}
+use Rattle.agreement.proofs.Relation.{Agrees}
+
+-- no set is longer than its buffers
+pub record SetsFit (n : ℕ) (x : Sets) : Type 0 where
+  pub shown : length (x .shown) ≤ n
+  pub waiting : length (x .waiting) ≤ n
+
+-- a count of diagnosis octets
+abbrev pub CountIn : Setup → ℕ → Type 0
+CountIn s n = (6 ≤ n) × (n ≤ s .«diagnosis_len»)
+
+pub record Steady (l : Ledger) : Type 0 where
+  -- in DATA_EXCH no set is open
+  pub parameters-closed : inExchange (l .control) ≡ true → l .buffers .parameters .shown ≡ []
+  pub configuration-closed : inExchange (l .control) ≡ true → l .buffers .configuration .shown ≡ []
+  -- while a parameter set is open none is judged good
+  pub unjudged : parametersOpen l ≡ true → l .control .flags .«parameters_good» ≡ false
+  pub parameters-fit : SetsFit (l .setup .«parameter_len») (l .buffers .parameters)
+  pub configuration-fit : SetsFit (l .setup .«configuration_len») (l .buffers .configuration)
+  -- diagnosis has 6 octets to the set length, and a delayed one too
+  pub count : CountIn (l .setup) (l .control .diagnosis .count)
+  pub delayed-count : (l .control .diagnosis .«delayed_count» ≡ 0) ⊎ CountIn (l .setup) (l .control .diagnosis .«delayed_count»)
+  -- while a telegram is coming no reply is left
+  pub quiet : begun l ≡ true → l .line .reply ≡ []
+  -- a clear is noted only on a busy line, and a diagnosis delayed only while a Slave_Diag reply is unfinished
+  pub noted : l .control .noted ≡ true → busy l ≡ true
+  pub delaying : delayed (l .control) ≡ true → diagnosisLeaves l ≡ true
+
+-- a Read_Outputs reply is unfinished only in DATA_EXCH
+abbrev pub ReplySteady : State → Type 0
+ReplySteady s = s .reply .drawn ≡ drawn.Outputs → left (s .reply .sender) ≡ true → inExchange (s .control) ≡ true
+
+-- all that is known of a station and its ledger between two calls
+pub record Related (s : State) (m : List ℕ) (l : Ledger) : Type 0 where
+  pub agrees : Agrees s m l
+  pub steady : Steady l
+  pub reply-steady : ReplySteady s

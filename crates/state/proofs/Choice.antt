@@ -1,0 +1,34 @@
+-- What is chosen by a test, and two tests in one.
+use mathlib.Core.Path.{_≡_, refl, sym}
+use mathlib.Core.Bool.{Bool, true, false, cond, _&&_, _||_}
+use Rattle.telegram.proofs.Run.{no-true}
+
+-- two tests that agree choose alike
+module _ {A B : Type 0} (P : A → B → Type 0) where
+  pub both : (t u : Bool) (x y : A) (v w : B) → t ≡ u → (t ≡ true → P x v) → (t ≡ false → P y w) → P (cond t x y) (cond u v w)
+  both true true x y v w e f g = f refl
+  both true false x y v w e f g = no-true (sym e)
+  both false true x y v w e f g = no-true e
+  both false false x y v w e f g = g refl
+
+-- what holds of both holds of the one that is chosen
+pub by-test : {A : Type 0} (P : A → Type 0) (t : Bool) (x y : A) → (t ≡ true → P x) → (t ≡ false → P y) → P (cond t x y)
+by-test P true x y f g = f refl
+by-test P false x y f g = g refl
+
+-- two tests in one
+pub and-right : (p q : Bool) → p && q ≡ true → q ≡ true
+and-right true q e = e
+and-right false q e = no-true e
+
+pub and-left : (p q : Bool) → p && q ≡ true → p ≡ true
+and-left true q e = refl
+and-left false q e = no-true e
+
+pub or-left : (p q : Bool) → p || q ≡ false → p ≡ false
+or-left true q e = no-true (sym e)
+or-left false q e = refl
+
+pub or-right : (p q : Bool) → p || q ≡ false → q ≡ false
+or-right true q e = no-true (sym e)
+or-right false q e = e

@@ -1,0 +1,113 @@
+-- A step over a memory that holds a state: it may be made, a refusal leaves the memory, and what it leaves is packed again.
+use Prim.Native.Nat.{ℕ, _≤_}
+use native.Mathlib.Omega.{arith}
+use mathlib.Core.Path.{_≡_, refl, sym, ap, subst, _∙_}
+use mathlib.Core.Bool.{Bool, true, false, cond, not, _&&_}
+use mathlib.Core.List.{List, _++_}
+use mir.Syntax.{w8}
+use mir.Val.{Fits}
+use lib.Dec.{leb}
+use lib.ListN.{length, getD, take, drop, take-append-drop}
+use borrow.Author.Tests.{not-true, not-false}
+use Rattle.state.specs.declared.answer.Answer.{Answer}
+use Rattle.state.specs.declared.answer.Answer.the-variants.{Value, Refused}
+use Rattle.state.specs.declared.answer.Refusal.{Refusal}
+use Rattle.state.specs.declared.answer.Refusal.the-variants.{Damaged, Judging, Range, Absent, Delayed}
+use Rattle.state.specs.declared.state.State.{State}
+use Rattle.state.specs.Answer.{Called, Meets, refused}
+use Rattle.state.specs.Layout.{stateLength}
+use Rattle.state.specs.Memory.{kept, wellMemory, Holds}
+use Rattle.state.specs.Unpack.{unpacked}
+use Rattle.state.proofs.Damage.{holds-unpacked, holds-well, well-holds}
+use Rattle.state.specs.Well.{within}
+use Rattle.rules.specs.Diagnosis.{delayed}
+use Rattle.rules.specs.Kinds.{inRange, writable}
+use Rattle.rules.specs.Call as calls
+use Rattle.rules.specs.Call.{Call}
+use Rattle.steps.specs.Safe.{Safe}
+use Rattle.steps.specs.Stepped.{Stepped, Steps, packedAfter}
+use Rattle.steps.specs.Deeds.{isOpen, diagnosisLeaves}
+use Rattle.steps.specs.User.{absent, Told, told, refusing, toldOf, Tells, takeOutputs, readOctet, writeOctet, handOver, newDiagnosis, judgeParameters, judgeConfiguration, acknowledgeEvents, leaveMaster}
+use Rattle.steps.specs.Calls.{step, packed, called}
+
+-- ---- a memory that holds a state
+
+-- the steps may be made on it
+pub holds-safe : (m : List ℕ) (s : State) → Holds m s → Safe s m
+holds-safe m s h =
+    let g = h .sound in
+    record {
+      outputs = g .outputs;
+      inputs = g .inputs;
+      parameters = g .parameters;
+      configuration = g .configuration;
+      reply = g .place;
+      long = g .parameter-len .0;
+      room = h .room;
+    }
+
+-- it has room for the state
+pub holds-long : (m : List ℕ) (s : State) → Holds m s → stateLength ≤ length m
+holds-long m s h = let w = h .length-in in omega arith
+
+-- another memory with that state's octets in front stays as it is where the state is packed again
+pub fronted : (m n : List ℕ) (s : State) → Holds m s → take stateLength n ≡ take stateLength m → n ≡ kept s n
+fronted m n s h e = sym (take-append-drop stateLength n) ∙ ap (λ (l : List ℕ). l ++ drop stateLength n) (e ∙ h .front)
+
+-- ---- a refusal leaves the memory
+
+-- what a step leaves, packed whatever it answers
+abbrev pub whole : Told → Called
+whole t = record { answer = t .answer; memory = kept (t .state) (t .memory) }
+
+record Packs (m : List ℕ) (t : Told) : Type 0 where
+  packed-so : packed m t ≡ whole t
+
+either : (m : List ℕ) (b : Bool) (t u : Told) → Packs m t → Packs m u → Packs m (cond b t u)
+either m true t u p q = p
+either m false t u p q = q
+
+module _ (s : State) (m : List ℕ) (same : m ≡ kept s m) where
+  refuses : (why : Refusal) → Packs m (refusing why s m)
+  refuses why = record { packed-so = ap (λ (l : List ℕ). refused l why) same }
+
+  tells : (n : ℕ) (t : State) (x : List ℕ) → Packs m (told n t x)
+  tells n t x = record { packed-so = refl }
+
+  -- two tests in front of a step
+  tested : (b : Bool) (why : Refusal) (c : Bool) (then : Refusal) (t : Told) → Packs m t
+      → Packs m (cond b (refusing why s m) (cond c (refusing then s m) t))
+  tested b why c then t p = either m b _ _ (refuses why) (either m c _ _ (refuses then) p)
+
+  -- where a step is refused, state and memory are as they were
+  packs : (c : Call) → Packs m (step s m c)
+  unfolding takeOutputs readOctet writeOctet handOver newDiagnosis judgeParameters judgeConfiguration acknowledgeEvents leaveMaster
+  packs (calls.octet b bad) = tells _ _ _
+  packs calls.gap = tells _ _ _
+  packs calls.send = tells _ _ _
+  packs calls.tick = tells _ _ _
+  packs calls.take = either m (not (s .outputs .set .fresh)) _ _ (tells _ _ _) (tells _ _ _)
+  packs (calls.read kind index) = tested (not (inRange (s .setup) kind index)) Range (absent s kind index) Absent _ (tells _ _ _)
+  packs (calls.write kind index x) =
+      tested (not (writable kind && inRange (s .setup) kind index)) Range (absent s kind index) Absent _ (tells _ _ _)
+  packs calls.hand-over = tells _ _ _
+  packs (calls.new-diagnosis count flags) =
+      tested (not (within 6 count (s .setup .«diagnosis_len») && leb flags 7)) Range (delayed (s .control)) Delayed _
+      (either m (diagnosisLeaves s) _ _ (tells _ _ _) (tells _ _ _))
+  packs (calls.judge-parameters j) = tested (not (isOpen (s .parameters))) Judging (not (leb j 1)) Range _ (tells _ _ _)
+  packs (calls.judge-configuration j) =
+      tested (not (isOpen (s .configuration) && s .control .flags .«parameters_good»)) Judging (not (leb j 1)) Range _ (tells _ _ _)
+  packs calls.events = tells _ _ _
+  packs (calls.acknowledge mask) = tells _ _ _
+  packs calls.pending = tells _ _ _
+  packs calls.leave = tells _ _ _
+
+-- ---- the call
+
+module _ (m : List ℕ) (s : State) (c : Call) (h : Holds m s) where
+  -- a call makes that state's step
+  pub called-whole : called m c ≡ whole (step s m c)
+  unfolding called
+  called-whole =
+      (λ i. cond (holds-well m s h i) (packed m (step (holds-unpacked m s h i) m c)) (refused m Damaged))
+      ∙ packs s m (fronted m m s h refl) c .packed-so

@@ -1,0 +1,4 @@
+pub mod Safety
+pub mod Lengths
+pub mod Idle
+pub mod Holding

@@ -1,0 +1,243 @@
+-- Every step keeps what the steps need of a state and a memory, and every buffer that they name lies in the memory.
+use Prim.Native.Nat.{ℕ, _+_, _≤_, _<_}
+use native.Mathlib.Omega.{arith}
+use mathlib.Core.Path.{_≡_, refl}
+use mathlib.Core.Bool.{Bool, true, false, cond, not, _&&_}
+use mathlib.Core.List.{List}
+use lib.Dec.{eqb, ltb}
+use lib.ListN.{length, replicate, length-replicate}
+use Rattle.buffers.specs.declared.triple.Triple.{Triple}
+use Rattle.buffers.specs.Triple.{Permutation, fillOf, nextOf, brought}
+use Rattle.buffers.proofs.Roles.{published-permutes, taken-permutes, brought-permutes, shown-permutes}
+use Rattle.octets.proofs.Parts.{pasted-length, stored-length}
+use Rattle.telegram.specs.declared.Datum.{Datum}
+use Rattle.telegram.specs.declared.Datum.the-variants.{Number, Nothing}
+use Rattle.telegram.specs.declared.reader.Reader.{Reader}
+use Rattle.telegram.specs.declared.reader.Status.{Status}
+use Rattle.telegram.specs.declared.reader.Status.the-variants.{Fresh, Inside, Complete, Broken}
+use Rattle.telegram.specs.Reading.{start, off, received, status, datumOf}
+use Rattle.telegram.specs.Sending.{left, sent}
+use Rattle.state.specs.declared.control.Control.{Control}
+use Rattle.state.specs.declared.state.Drawn.{Drawn}
+use Rattle.state.specs.declared.state.Incoming.{Incoming}
+use Rattle.state.specs.declared.state.Outputs.{Outputs}
+use Rattle.state.specs.declared.state.Reply.{Reply}
+use Rattle.state.specs.declared.state.Sets.{Sets}
+use Rattle.state.specs.declared.state.State.{State}
+use Rattle.state.specs.Layout.{outputs, parameters, countOf, lengthOf, startOf, outputsAt, parametersAt, getCfgAt}
+use Rattle.state.proofs.Places.{inside, get-cfg-inside}
+use Rattle.rules.specs.declared.outcome.OutputsDeed.{OutputsDeed}
+use Rattle.rules.specs.declared.outcome.OutputsDeed.the-variants as outputs-deed
+use Rattle.rules.specs.declared.outcome.SetDeed.{SetDeed}
+use Rattle.rules.specs.declared.outcome.SetDeed.the-variants as set-deed
+use Rattle.rules.specs.declared.outcome.Outcome.{Outcome}
+use Rattle.rules.specs.declared.request.Request.{Request}
+use Rattle.rules.specs.Requests.{masterOf}
+use Rattle.rules.specs.Line.{settled, ticked}
+use Rattle.rules.specs.Diagnosis.{delayed, caughtUp}
+use Rattle.steps.specs.Safe.{Safe}
+use Rattle.steps.specs.Stepped.{Stepped, Steps, unchanged}
+use Rattle.state.specs.With.{withIncoming, withReply}
+use Rattle.steps.specs.Replies.{noReply, replyFor, askedFor}
+use Rattle.steps.specs.Reading.{storedData, keptOctets, readBy, storedAs, requestBy, outcomeOf, answered, completed, beginning, heardAs, isIgnored, heard}
+use Rattle.steps.specs.Bus.{paused, sentBy, sendLeft, silencedReader, elapsed}
+use Rattle.steps.specs.Deeds.{begun, busy, diagnosisLeaves, isOpen, onOutputs, onInputs, receivedSet, onSets, onMemory, carried, diagnosisChanged, afterReply, settle}
+
+-- ---- the buffers lie in the memory
+
+-- buffer k of a kind
+pub buffer-room : (s : State) (m : List ℕ) (kind k : ℕ) → Safe s m → k < countOf kind
+    → startOf (s .setup) kind k + lengthOf (s .setup) kind ≤ length m
+buffer-room s m kind k h g =
+    let u = inside (s .setup) kind k (lengthOf (s .setup) kind) g (omega arith) in
+    let v = h .room in
+    omega arith
+
+-- the one for Get_Cfg
+pub get-cfg-room : (s : State) (m : List ℕ) → Safe s m → getCfgAt (s .setup) + s .setup .«get_cfg_len» ≤ length m
+get-cfg-room s m h =
+    let u = get-cfg-inside (s .setup) (s .setup .«get_cfg_len») (omega arith) in
+    let v = h .room in
+    omega arith
+
+-- the octets of Set_Prm
+pub prm-room : (s : State) (m : List ℕ) → Safe s m → parametersAt (s .setup) (fillOf (s .parameters .set .place)) + 7 ≤ length m
+prm-room s m h =
+    let u = buffer-room s m parameters (fillOf (s .parameters .set .place)) h (h .parameters .fill-in) in
+    let v = h .long in
+    omega arith
+
+-- ---- what a step makes
+
+abbrev pub Safely : Stepped → Type 0
+Safely r = Safe (r .state) (r .memory)
+
+-- a step's promise carries it to the code's state and memory
+pub safe-steps : (r : Stepped) (s : State) (m : List ℕ) → Steps r s m → Safely r → Safe s m
+safe-steps r s m e h = rw (e .states, e .leaves) h
+
+-- one of two steps
+safe-cond : (t : Bool) (a b : Stepped) → Safely a → Safely b → Safely (cond t a b)
+safe-cond true a b h g = h
+safe-cond false a b h g = g
+
+-- ---- a memory of the same length
+
+pub safe-length : (s : State) (m n : List ℕ) → length n ≡ length m → Safe s m → Safe s n
+safe-length s m n e h = omega arith
+
+-- ---- an outcome carried out
+
+outputs-permute : (d : OutputsDeed) (o : Outputs) → Permutation (o .set .place) → Permutation (onOutputs d o .set .place)
+outputs-permute outputs-deed.Keep o p = p
+outputs-permute outputs-deed.Publish o p = published-permutes (o .set) p
+outputs-permute outputs-deed.Zeros o p = p
+
+inputs-permute : (d : OutputsDeed) (t : Triple) → Permutation (t .place) → Permutation (onInputs d t .place)
+inputs-permute outputs-deed.Keep t p = p
+inputs-permute outputs-deed.Publish t p = go (t .fresh)
+  where
+    go : (b : Bool) → Permutation (cond b (brought t) t .place)
+    go true = brought-permutes t p
+    go false = p
+inputs-permute outputs-deed.Zeros t p = p
+
+received-permutes : (s : Sets) (count : ℕ) → Permutation (s .set .place) → Permutation (receivedSet s count .set .place)
+received-permutes s count p = go (isOpen s) _ _ (published-permutes (s .set) p) (shown-permutes (s .set) p)
+  where
+    go : (b : Bool) (x y : Sets) → Permutation (x .set .place) → Permutation (y .set .place) → Permutation (cond b x y .set .place)
+    go true x y g h = g
+    go false x y g h = h
+
+sets-permute : (d : SetDeed) (s : Sets) (count : ℕ) → Permutation (s .set .place) → Permutation (onSets d s count .set .place)
+sets-permute set-deed.Keep s count p = p
+sets-permute set-deed.Receive s count p = received-permutes s count p
+sets-permute set-deed.Advance s count p = taken-permutes (s .set) p
+sets-permute set-deed.Drop s count p = p
+
+-- the memory keeps its length
+pub on-memory-length : (d : OutputsDeed) (s : State) (m : List ℕ) → Safe s m → length (onMemory d s m) ≡ length m
+on-memory-length outputs-deed.Keep s m h = refl
+on-memory-length outputs-deed.Publish s m h = refl
+on-memory-length outputs-deed.Zeros s m h =
+    pasted-length m (outputsAt (s .setup) (nextOf (s .outputs .set .place))) (replicate (s .setup .«output_len») 0)
+    (rw (length-replicate {A = ℕ} (s .setup .«output_len») 0)
+    (buffer-room s m outputs (nextOf (s .outputs .set .place)) h (h .outputs .next-in)))
+
+pub safe-carried : (s : State) (m : List ℕ) (o : Outcome) (count : ℕ) → Safe s m → Safely (carried s m o count)
+unfolding carried
+safe-carried s m o count h =
+    record {
+      outputs = outputs-permute (o .outputs) (s .outputs) (h .outputs);
+      inputs = inputs-permute (o .outputs) (s .inputs) (h .inputs);
+      parameters = sets-permute (o .parameters) (s .parameters) count (h .parameters);
+      configuration = sets-permute (o .configuration) (s .configuration) count (h .configuration);
+      reply = h .reply;
+      long = h .long;
+      room = rw (on-memory-length (o .outputs) s m h) (h .room);
+    }
+
+-- ---- the line settled
+
+pub safe-diagnosis-changed : (s : State) (m : List ℕ) (c : Control) → Safe s m → Safe (diagnosisChanged s c) m
+safe-diagnosis-changed s m c h = omega arith
+
+pub safe-after-reply : (s : State) (m : List ℕ) → Safe s m → Safe (afterReply s) m
+unfolding afterReply
+safe-after-reply s m h = go (delayed (s .control) && not (diagnosisLeaves s))
+  where
+    go : (b : Bool) → Safe (cond b (diagnosisChanged s (caughtUp (s .control))) s) m
+    go true = safe-diagnosis-changed s m (caughtUp (s .control)) h
+    go false = h
+
+pub safe-settle : (s : State) (m : List ℕ) → Safe s m → Safely (settle s m)
+unfolding settle
+safe-settle s m h = safe-carried (afterReply s) m (settled (busy s) (afterReply s .control)) 0 (safe-after-reply s m h)
+
+-- ---- the reader goes on, and a reply is drawn
+
+pub safe-incoming : (s : State) (m : List ℕ) (i : Incoming) → Safe s m → Safe (withIncoming s i) m
+safe-incoming s m i h = omega arith
+
+pub safe-read-by : (s : State) (m : List ℕ) (r : Reader) → Safe s m → Safe (readBy s r) m
+safe-read-by s m r h = safe-incoming s m (record { reader = r; first = s .incoming .first; second = s .incoming .second }) h
+
+pub safe-reply : (s : State) (m : List ℕ) (r : Reply) → r .place ≤ 2 → Safe s m → Safe (withReply s r) m
+safe-reply s m r g h = omega arith
+
+pub safe-no-reply : (s : State) (m : List ℕ) → Safe s m → Safe (withReply s noReply) m
+safe-no-reply s m h = safe-reply s m noReply (omega arith) h
+
+pub safe-reply-for : (s : State) (m : List ℕ) (d : Drawn) (master : ℕ) → Safe s m → Safe (withReply s (replyFor d s master)) m
+unfolding replyFor
+safe-reply-for s m d master h = let u = h .outputs .held-in in safe-reply s m (replyFor d s master) (omega arith) h
+
+pub safe-beginning : (s : State) (m : List ℕ) (r : Reader) → Safe s m → Safe (beginning s r) m
+safe-beginning s m r h = safe-no-reply (readBy s r) m (safe-read-by s m r h)
+
+-- ---- an octet heard
+
+cond-length : (t : Bool) (a b : List ℕ) (n : ℕ) → length a ≡ n → length b ≡ n → length (cond t a b) ≡ n
+cond-length true a b n e f = e
+cond-length false a b n e f = f
+
+pub stored-data-length : (s : State) (m : List ℕ) (k b : ℕ) → length (storedData s m k b) ≡ length m
+stored-data-length s m k b =
+    cond-length (ltb (s .incoming .reader .da) 128) _ _ (length m) (stored-length m _ _ k b)
+    (cond-length (eqb (s .incoming .reader .dsap) 61) _ _ (length m) (stored-length m _ _ k b)
+    (cond-length (eqb (s .incoming .reader .dsap) 62) _ _ (length m) (stored-length m _ _ k b) refl))
+
+pub safe-stored-as : (d : Datum) (s : State) (m : List ℕ) (r : Reader) (b : ℕ) → Safe s m → Safely (storedAs d s m r b)
+safe-stored-as Nothing s m r b h = safe-read-by s m r h
+safe-stored-as (Number k) s m r b h =
+    safe-length (withIncoming s (keptOctets (s .incoming) r k b)) m (storedData s m k b) (stored-data-length s m k b)
+    (safe-incoming s m (keptOctets (s .incoming) r k b) h)
+
+pub safe-answered : (s : State) (m : List ℕ) (o : Outcome) (r : Request) → Safe s m → Safely (answered s m o r)
+unfolding answered
+safe-answered s m o r h =
+    safe-reply-for (carried s m o (r .count) .state) (carried s m o (r .count) .memory) (o .drawn) (masterOf r)
+    (safe-carried s m o (r .count) h)
+
+pub safe-completed : (s : State) (m : List ℕ) (r : Reader) → Safe s m → Safely (completed s m r)
+safe-completed s m r h =
+    safe-answered (readBy s r) m (outcomeOf (readBy s r) m (requestBy r)) (requestBy r) (safe-read-by s m r h)
+
+pub safe-heard-as : (x : Status) (s : State) (m : List ℕ) (r : Reader) (b : ℕ) → Safe s m → Safely (heardAs x s m r b)
+safe-heard-as Fresh s m r b h = h
+safe-heard-as Inside s m r b h =
+    safe-cond (begun s) (storedAs (datumOf (s .incoming .reader)) s m r b) (settle (beginning s r) m)
+    (safe-stored-as (datumOf (s .incoming .reader)) s m r b h)
+    (safe-settle (beginning s r) m (safe-beginning s m r h))
+safe-heard-as Complete s m r b h = safe-settle (completed s m r .state) (completed s m r .memory) (safe-completed s m r h)
+safe-heard-as Broken s m r b h = safe-settle (readBy s off) m (safe-read-by s m off h)
+
+pub safe-heard : (s : State) (m : List ℕ) (b : ℕ) (bad : Bool) → Safe s m → Safely (heard s m b bad)
+unfolding heard
+safe-heard s m b bad h =
+    safe-cond (isIgnored (status (s .incoming .reader))) (unchanged s m)
+    (heardAs (status (received (s .incoming .reader) b bad)) s m (received (s .incoming .reader) b bad) b)
+    h
+    (safe-heard-as (status (received (s .incoming .reader) b bad)) s m (received (s .incoming .reader) b bad) b h)
+
+-- ---- a gap, an octet sent and a Tick
+
+pub safe-paused : (s : State) (m : List ℕ) → Safe s m → Safely (paused s m)
+unfolding paused
+safe-paused s m h = safe-settle (readBy s start) m (safe-read-by s m start h)
+
+pub safe-send-left : (s : State) (m : List ℕ) → Safe s m → Safely (sendLeft s m)
+unfolding sendLeft
+safe-send-left s m h =
+    let r : Reply = sentBy (s .reply) (sent (s .reply .sender) (askedFor s m) .sender) in
+    safe-cond (left (s .reply .sender)) (settle (withReply s r) m) (unchanged s m)
+    (safe-settle (withReply s r) m (safe-reply s m r (h .reply) h))
+    h
+
+pub safe-elapsed : (s : State) (m : List ℕ) → Safe s m → Safely (elapsed s m)
+unfolding elapsed
+safe-elapsed s m h =
+    let r : Reader = silencedReader (begun s) (s .incoming .reader) in
+    safe-cond (s .control .noted) (settle (beginning s r) m) (carried s m (ticked (busy s) (s .control)) 0)
+    (safe-settle (beginning s r) m (safe-beginning s m r h))
+    (safe-carried s m (ticked (busy s) (s .control)) 0 h)

@@ -1,0 +1,122 @@
+-- An outcome of the rules carried out on the state and the buffers, and the line as the state has it.
+use Prim.Native.Nat.{ℕ}
+use mathlib.Core.Bool.{Bool, true, false, cond, not, _&&_, _||_}
+use mathlib.Core.List.{List}
+use lib.Dec.{eqb}
+use lib.ListN.{replicate}
+use Rattle.buffers.specs.declared.triple.Triple.{Triple}
+use Rattle.buffers.specs.Triple.{nextOf, published, taken, brought, shown, marked, dropped}
+use Rattle.octets.specs.Part.{pasted}
+use Rattle.telegram.specs.declared.reader.Status.{Status}
+use Rattle.telegram.specs.declared.reader.Status.the-variants.{Fresh, Inside, Complete, Broken}
+use Rattle.telegram.specs.Reading.{status}
+use Rattle.telegram.specs.Sending.{left}
+use Rattle.state.specs.declared.setup.Setup.{Setup}
+use Rattle.state.specs.declared.control.Control.{Control}
+use Rattle.state.specs.declared.state.Outputs.{Outputs}
+use Rattle.state.specs.declared.state.Sets.{Sets}
+use Rattle.state.specs.declared.state.State.{State}
+use Rattle.state.specs.Layout.{outputsAt}
+use Rattle.rules.specs.declared.outcome.OutputsDeed.{OutputsDeed}
+use Rattle.rules.specs.declared.outcome.OutputsDeed.the-variants as outputs-deed
+use Rattle.rules.specs.declared.outcome.SetDeed.{SetDeed}
+use Rattle.rules.specs.declared.outcome.SetDeed.the-variants as set-deed
+use Rattle.rules.specs.declared.outcome.Outcome.{Outcome}
+use Rattle.rules.specs.Line.{settled}
+use Rattle.rules.specs.Replies.{diagnoses}
+use Rattle.rules.specs.Diagnosis.{delayed, caughtUp}
+use Rattle.steps.specs.Stepped.{Stepped}
+
+abbrev pub isInside : Status → Bool
+isInside Fresh = false
+isInside Inside = true
+isInside Complete = false
+isInside Broken = false
+
+-- a telegram is begun and unfinished
+abbrev pub begun : State → Bool
+begun s = isInside (status (s .incoming .reader))
+
+-- a busy line: a telegram is begun or a reply is unfinished
+abbrev pub busy : State → Bool
+busy s = begun s || left (s .reply .sender)
+
+-- a Slave_Diag reply is unfinished
+abbrev pub diagnosisLeaves : State → Bool
+diagnosisLeaves s = diagnoses (s .reply .drawn) && left (s .reply .sender)
+
+-- a set is open
+abbrev pub isOpen : Sets → Bool
+isOpen s = not (eqb (s .shown) 0)
+
+-- the data received is in fill; zeros are written into next
+abbrev pub onOutputs : OutputsDeed → Outputs → Outputs
+onOutputs outputs-deed.Keep o = o
+onOutputs outputs-deed.Publish o = record { set = published (o .set); zeros = false }
+onOutputs outputs-deed.Zeros o = record { set = marked (o .set); zeros = true }
+
+-- with outputs accepted new inputs come to the buffer that is sent from
+abbrev pub onInputs : OutputsDeed → Triple → Triple
+onInputs outputs-deed.Keep t = t
+onInputs outputs-deed.Publish t = cond (t .fresh) (brought t) t
+onInputs outputs-deed.Zeros t = t
+
+-- count: of the data received, which is in fill
+abbrev pub receivedSet : Sets → ℕ → Sets
+receivedSet s count =
+    cond (isOpen s)
+    (record { set = published (s .set); shown = s .shown; waiting = count })
+    (record { set = shown (s .set); shown = count; waiting = s .waiting })
+
+abbrev pub onSets : SetDeed → Sets → ℕ → Sets
+onSets set-deed.Keep s count = s
+onSets set-deed.Receive s count = receivedSet s count
+onSets set-deed.Advance s count = record { set = taken (s .set); shown = s .waiting; waiting = 0 }
+onSets set-deed.Drop s count = record { set = dropped (s .set); shown = 0; waiting = 0 }
+
+abbrev pub onState : State → Outcome → ℕ → State
+onState s o count =
+    record {
+      setup = s .setup;
+      control = o .control;
+      outputs = onOutputs (o .outputs) (s .outputs);
+      inputs = onInputs (o .outputs) (s .inputs);
+      parameters = onSets (o .parameters) (s .parameters) count;
+      configuration = onSets (o .configuration) (s .configuration) count;
+      swapped = s .swapped;
+      incoming = s .incoming;
+      reply = s .reply;
+    }
+
+-- zeros in next, where it lies: nobody reads it, and a telegram that is coming goes on filling fill
+abbrev pub onMemory : OutputsDeed → State → List ℕ → List ℕ
+onMemory outputs-deed.Keep s m = m
+onMemory outputs-deed.Publish s m = m
+onMemory outputs-deed.Zeros s m = pasted m (outputsAt (s .setup) (nextOf (s .outputs .set .place))) (replicate (s .setup .«output_len») 0)
+
+-- an outcome carried out
+unfoldable pub carried : State → List ℕ → Outcome → ℕ → Stepped
+carried s m o count = record { state = onState s o count; memory = onMemory (o .outputs) s m }
+
+-- the two diagnosis buffers change, with that control part
+abbrev pub diagnosisChanged : State → Control → State
+diagnosisChanged s c =
+    record {
+      setup = s .setup;
+      control = c;
+      outputs = s .outputs;
+      inputs = s .inputs;
+      parameters = s .parameters;
+      configuration = s .configuration;
+      swapped = not (s .swapped);
+      incoming = s .incoming;
+      reply = s .reply;
+    }
+
+-- a delayed diagnosis takes effect when the Slave_Diag reply ended or was dropped
+unfoldable pub afterReply : State → State
+afterReply s = cond (delayed (s .control) && not (diagnosisLeaves s)) (diagnosisChanged s (caughtUp (s .control))) s
+
+-- and then a noted clear where the line is idle
+unfoldable pub settle : State → List ℕ → Stepped
+settle s m = carried (afterReply s) m (settled (busy s) (afterReply s .control)) 0

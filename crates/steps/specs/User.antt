@@ -1,0 +1,114 @@
+-- The calls of the vat program on the state and the memory.
+use Prim.Native.Nat.{ℕ, _+_}
+use mathlib.Core.Bool.{Bool, true, false, cond, not, _&&_, _||_}
+use mathlib.Core.List.{List}
+use mathlib.Core.Path.{_≡_}
+use lib.Dec.{eqb, leb, ltb}
+use lib.ListN.{getD, set}
+use Rattle.buffers.specs.Events.{acknowledged, pendingOf}
+use Rattle.buffers.specs.Triple.{heldOf, taken, handedOver}
+use Rattle.state.specs.declared.setup.Setup.{Setup}
+use Rattle.state.specs.declared.answer.Answer.{Answer}
+use Rattle.state.specs.declared.answer.Answer.the-variants.{Value, Refused}
+use Rattle.state.specs.declared.answer.Refusal.{Refusal}
+use Rattle.state.specs.declared.answer.Refusal.the-variants.{Judging, Range, Absent, Delayed}
+use Rattle.state.specs.declared.state.State.{State}
+use Rattle.state.specs.Layout.{outputsAt, inputsAt, parametersAt, configurationAt, diagnosisAt}
+use Rattle.state.specs.Well.{within}
+use Rattle.rules.specs.Control.{withEvents}
+use Rattle.rules.specs.Diagnosis.{delayed, diagnosed, delaying}
+use Rattle.rules.specs.Line.{clearOn}
+use Rattle.rules.specs.User.{judgedParameters, judgedConfiguration}
+use Rattle.rules.specs.Kinds.{lengthOf, inRange, writable}
+use Rattle.state.specs.With.{withControl, withOutputs, withInputs}
+use Rattle.steps.specs.Stepped.{Stepped, unchanged}
+use Rattle.steps.specs.Deeds.{busy, isOpen, diagnosisLeaves, diagnosisChanged, carried}
+use Rattle.steps.specs.Replies.{userPlace}
+
+-- what a call answers, and what it leaves
+pub record Told : Type 0 where
+  pub answer : Answer
+  pub state : State
+  pub memory : List ℕ
+
+abbrev pub told : ℕ → State → List ℕ → Told
+told n s m = record { answer = Value n; state = s; memory = m }
+
+abbrev pub refusing : Refusal → State → List ℕ → Told
+refusing why s m = record { answer = Refused why; state = s; memory = m }
+
+abbrev pub toldOf : ℕ → Stepped → Told
+toldOf n r = told n (r .state) (r .memory)
+
+unfoldable pub takeOutputs : State → List ℕ → Told
+takeOutputs s m =
+    cond (not (s .outputs .set .fresh)) (told 0 s m)
+    (told (cond (s .outputs .zeros) 2 1) (withOutputs s (record { set = taken (s .outputs .set); zeros = s .outputs .zeros })) m)
+
+-- kind 2 or 3 with no set shown or at an index not below its count, kind 5 while a new diagnosis is delayed
+abbrev pub absent : State → ℕ → ℕ → Bool
+absent s kind index =
+    (eqb kind 2 && leb (s .parameters .shown) index)
+    || (eqb kind 3 && leb (s .configuration .shown) index)
+    || (eqb kind 5 && delayed (s .control))
+
+-- where the octets of a kind begin
+abbrev pub kindAt : State → ℕ → ℕ
+kindAt s kind =
+    cond (eqb kind 1) (outputsAt (s .setup) (heldOf (s .outputs .set .place)))
+    (cond (eqb kind 2) (parametersAt (s .setup) (heldOf (s .parameters .set .place)))
+    (cond (eqb kind 3) (configurationAt (s .setup) (heldOf (s .configuration .set .place)))
+    (cond (eqb kind 4) (inputsAt (s .setup) (heldOf (s .inputs .place)))
+    (diagnosisAt (s .setup) (userPlace (s .swapped))))))
+
+unfoldable pub readOctet : State → List ℕ → ℕ → ℕ → Told
+readOctet s m kind index =
+    cond (not (inRange (s .setup) kind index)) (refusing Range s m)
+    (cond (absent s kind index) (refusing Absent s m) (told (getD m (kindAt s kind + index) 0) s m))
+
+unfoldable pub writeOctet : State → List ℕ → ℕ → ℕ → ℕ → Told
+writeOctet s m kind index x =
+    cond (not (writable kind && inRange (s .setup) kind index)) (refusing Range s m)
+    (cond (absent s kind index) (refusing Absent s m) (told 0 s (set m (kindAt s kind + index) x)))
+
+unfoldable pub handOver : State → List ℕ → Told
+handOver s m = told 0 (withInputs s (handedOver (s .inputs))) m
+
+unfoldable pub newDiagnosis : State → List ℕ → ℕ → ℕ → Told
+newDiagnosis s m count flags =
+    cond (not (within 6 count (s .setup .«diagnosis_len») && leb flags 7)) (refusing Range s m)
+    (cond (delayed (s .control)) (refusing Delayed s m)
+    (cond (diagnosisLeaves s) (told 0 (withControl s (delaying (s .control) count flags)) m)
+    (told 0 (diagnosisChanged s (diagnosed (s .control) count flags)) m)))
+
+unfoldable pub judgeParameters : State → List ℕ → ℕ → Told
+judgeParameters s m judgement =
+    cond (not (isOpen (s .parameters))) (refusing Judging s m)
+    (cond (not (leb judgement 1)) (refusing Range s m)
+    (toldOf (cond (s .parameters .set .fresh) 1 0)
+    (carried s m (judgedParameters (s .control) (s .parameters .set .fresh) (eqb judgement 1)) 0)))
+
+unfoldable pub judgeConfiguration : State → List ℕ → ℕ → Told
+judgeConfiguration s m judgement =
+    cond (not (isOpen (s .configuration) && s .control .flags .«parameters_good»)) (refusing Judging s m)
+    (cond (not (leb judgement 1)) (refusing Range s m)
+    (toldOf (cond (s .configuration .set .fresh) 1 0)
+    (carried s m (judgedConfiguration (s .control) (s .configuration .set .fresh) (eqb judgement 1)) 0)))
+
+abbrev pub eventWord : State → List ℕ → Told
+eventWord s m = told (s .control .events .word) s m
+
+unfoldable pub acknowledgeEvents : State → List ℕ → ℕ → Told
+acknowledgeEvents s m mask = told 0 (withControl s (withEvents (s .control) (acknowledged (s .control .events) mask))) m
+
+abbrev pub pendingEvent : State → List ℕ → Told
+pendingEvent s m = told (pendingOf (s .control .events)) s m
+
+unfoldable pub leaveMaster : State → List ℕ → Told
+leaveMaster s m = toldOf 0 (carried s m (clearOn (busy s) (s .control)) 0)
+
+-- the answer a, the state x and the memory n after the call are those
+pub record Tells (t : Told) (a : Answer) (x : State) (n : List ℕ) : Type 0 where
+  pub answers : a ≡ t .answer
+  pub states : x ≡ t .state
+  pub leaves : n ≡ t .memory
