@@ -11,7 +11,8 @@ use Rattle.state.specs.declared.setup.Setup.{Setup}
 use Rattle.state.specs.declared.state.State.{State}
 use Rattle.state.specs.Answer.{Called}
 use Rattle.state.specs.Memory.{Holds, kept}
-use Rattle.state.specs.Start.{initialState, started}
+use Rattle.state.specs.Start.{initialState}
+use Rattle.steps.specs.Calls.{started}
 use Rattle.state.proofs.Damage.{kept-holds}
 use Rattle.state.proofs.Started.{after-holds}
 use Rattle.ledger.specs.Ledger.{Ledger, fresh}
@@ -25,7 +26,8 @@ use Rattle.ledger.proofs.Exchange.{exchange}
 use Rattle.ledger.proofs.Fit.{step-fit, replies-read}
 use Rattle.ledger.proofs.History.{outputs-read}
 use Rattle.steps.specs.User.{Told}
-use Rattle.steps.specs.Calls.{step, called, answers}
+use Rattle.steps.specs.Step.{step}
+use Rattle.steps.specs.Calls.{called, answers}
 use Rattle.agreement.specs.Agreement.{memoryOf, PlacesChanged, Agreement}
 use Rattle.agreement.proofs.Steady.{Related}
 use Rattle.agreement.proofs.Follows.{Follows}

@@ -11,7 +11,8 @@ use Rattle.telegram.proofs.Sends.{none}
 use Rattle.state.specs.declared.answer.Answer.the-variants.{Value}
 use Rattle.state.specs.declared.setup.Setup.{Setup}
 use Rattle.state.specs.Layout.{outputs, inputs, diagnosis, getCfgAt}
-use Rattle.state.specs.Start.{initialState, started}
+use Rattle.state.specs.Start.{initialState}
+use Rattle.steps.specs.Calls.{started}
 use Rattle.state.proofs.Started.{after-holds, after-zeros, after-slice}
 use Rattle.ledger.specs.Ledger.{fresh}
 use Rattle.agreement.proofs.Relation.{Agrees}

@@ -22,7 +22,8 @@ use Rattle.ledger.specs.Deeds as ledger-deeds
 use Rattle.state.specs.With.{withControl, withReply}
 use Rattle.rules.specs.Replies.{diagnoses}
 use Rattle.steps.specs.Deeds.{diagnosisLeaves, diagnosisChanged}
-use Rattle.steps.specs.Replies.{noReply, ownPlace}
+use Rattle.state.specs.Start.{noReply}
+use Rattle.steps.specs.Replies.{ownPlace}
 use Rattle.steps.specs.Reading.{readBy}
 use Rattle.agreement.proofs.Relation.{DiagnosesAgree, Gathered, ReadingAgrees, Agrees}
 use Rattle.agreement.proofs.Stays.{reply-stays, reading-stays}

@@ -7,7 +7,7 @@ use Rattle.state.specs.declared.state.State.{State}
 use Rattle.ledger.specs.Ledger.{Ledger}
 use Rattle.ledger.specs.Calls as ledger
 use Rattle.rules.specs.Call.{Call, octet, gap, send, tick, take, read, write, hand-over, new-diagnosis, judge-parameters, judge-configuration, events, acknowledge, pending, leave}
-use Rattle.steps.specs.Calls.{step}
+use Rattle.steps.specs.Step.{step}
 use Rattle.agreement.proofs.Steady.{ReplySteady, Related}
 use Rattle.agreement.proofs.StaysSteady.{step-steady}
 use Rattle.agreement.proofs.KeepsReply.{gap-keeps, tick-keeps, take-keeps, read-keeps, write-keeps, hand-over-keeps, new-diagnosis-keeps, judge-parameters-keeps, judge-configuration-keeps, events-keeps, acknowledge-keeps, pending-keeps, leave-keeps}

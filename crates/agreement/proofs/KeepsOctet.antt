@@ -33,7 +33,7 @@ use Rattle.steps.specs.Deeds.{begun, isOpen, carried, settle}
 use Rattle.steps.specs.Replies.{replyFor, askedFor}
 use Rattle.steps.specs.Reading.{isIgnored, storedAs, readBy, requestBy, prmIn, outcomeOf, answered, completed, beginning, heardAs, heard}
 use Rattle.steps.specs.Bus.{sentBy, sendLeft}
-use Rattle.steps.specs.Calls.{step}
+use Rattle.steps.specs.Step.{step}
 use Rattle.agreement.proofs.Steady.{ReplySteady}
 use Rattle.state.proofs.Choice.{by-test}
 use Rattle.agreement.proofs.KeepsReply.{settle-keeps}

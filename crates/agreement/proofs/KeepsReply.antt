@@ -31,11 +31,11 @@ use Rattle.rules.specs.Call.{gap, tick, take, read, write, hand-over, new-diagn
 use Rattle.state.specs.With.{withControl, withOutputs, withReply}
 use Rattle.steps.specs.Stepped.{Stepped}
 use Rattle.steps.specs.Deeds.{begun, busy, isOpen, diagnosisLeaves, diagnosisChanged, carried, afterReply, settle}
-use Rattle.steps.specs.Replies.{noReply}
+use Rattle.state.specs.Start.{noReply}
 use Rattle.steps.specs.Reading.{readBy}
 use Rattle.steps.specs.Bus.{paused, silencedReader, elapsed}
 use Rattle.steps.specs.User.{Told, told, refusing, absent, kindAt, takeOutputs, readOctet, writeOctet, handOver, newDiagnosis, judgeParameters, judgeConfiguration, acknowledgeEvents, leaveMaster}
-use Rattle.steps.specs.Calls.{step}
+use Rattle.steps.specs.Step.{step}
 use Rattle.agreement.proofs.Steady.{ReplySteady, Related}
 use Rattle.state.proofs.Choice.{by-test, and-left, and-right}
 use Rattle.agreement.proofs.Settles.{Spared, idle-spared, after-reply-keeps}

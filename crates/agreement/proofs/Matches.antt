@@ -36,11 +36,11 @@ use Rattle.rules.specs.Call.{gap, tick, take, hand-over, new-diagnosis, judge-p
 use Rattle.state.specs.With.{withControl, withOutputs, withInputs, withReply}
 use Rattle.steps.specs.Stepped.{Stepped}
 use Rattle.steps.specs.Deeds.{begun, busy, isOpen, diagnosisLeaves, diagnosisChanged, carried, settle}
-use Rattle.steps.specs.Replies.{noReply}
+use Rattle.state.specs.Start.{noReply}
 use Rattle.steps.specs.Reading.{readBy}
 use Rattle.steps.specs.Bus.{paused, silencedReader, elapsed}
 use Rattle.steps.specs.User.{Told, told, refusing, takeOutputs, handOver, newDiagnosis, judgeParameters, judgeConfiguration, acknowledgeEvents, leaveMaster}
-use Rattle.steps.specs.Calls.{step}
+use Rattle.steps.specs.Step.{step}
 use Rattle.agreement.proofs.Relation.{SetsAgree, ReadingAgrees, Agrees}
 use Rattle.agreement.proofs.Steady.{Related}
 use Rattle.agreement.proofs.SameLine.{begun-agrees, busy-agrees, leaves-agrees, open-agrees}

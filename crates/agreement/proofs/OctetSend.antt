@@ -8,11 +8,12 @@ use Rattle.telegram.proofs.Run.{no-true}
 use Rattle.state.specs.declared.answer.Answer.the-variants.{Value}
 use Rattle.state.specs.declared.setup.Setup.{Setup}
 use Rattle.state.specs.declared.state.State.{State}
-use Rattle.state.specs.Start.{initialState, started}
+use Rattle.state.specs.Start.{initialState}
+use Rattle.steps.specs.Calls.{started}
 use Rattle.ledger.specs.Ledger.{Ledger, fresh}
 use Rattle.ledger.specs.Calls as ledger-calls
 use Rattle.rules.specs.Call.{Call, octet, send}
-use Rattle.steps.specs.Calls.{step}
+use Rattle.steps.specs.Step.{step}
 use Rattle.agreement.proofs.Steady.{ReplySteady, Related}
 use Rattle.agreement.proofs.Matches.{Matches}
 use Rattle.agreement.proofs.StaysSteady.{fresh-steady}

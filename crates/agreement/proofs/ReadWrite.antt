@@ -27,7 +27,7 @@ use Rattle.ledger.specs.Calls as ledger-calls
 use Rattle.rules.specs.Call.{read, write}
 use Rattle.steps.specs.Replies.{ownPlace, userPlace}
 use Rattle.steps.specs.User.{refusing, absent, kindAt, readOctet, writeOctet}
-use Rattle.steps.specs.Calls.{step}
+use Rattle.steps.specs.Step.{step}
 use Rattle.agreement.proofs.Relation.{InputsAgree, SetsAgree, DiagnosesAgree, Agrees}
 use Rattle.agreement.proofs.Steady.{SetsFit, Steady, Related}
 use Rattle.agreement.proofs.Elsewhere.{Elsewhere, set-elsewhere}

@@ -7,7 +7,7 @@ use lib.ListN.{length, getD}
 use Rattle.state.specs.declared.answer.Answer.{Answer}
 use Rattle.state.specs.declared.answer.Answer.the-variants.{Value}
 use Rattle.state.specs.declared.setup.Setup.{Setup}
-use Rattle.state.specs.Start.{started}
+use Rattle.steps.specs.Calls.{started}
 use Rattle.ledger.specs.Ledger.{fresh}
 use Rattle.ledger.specs.Calls as ledger
 use Rattle.rules.specs.Call.{Call, octet, read}

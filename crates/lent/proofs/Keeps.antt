@@ -35,7 +35,8 @@ use Rattle.steps.specs.Safe.{Safe}
 use Rattle.steps.specs.Stepped.{Stepped, unchanged}
 use Rattle.state.specs.With.{withIncoming, withReply}
 use Rattle.steps.specs.Deeds.{begun, busy, isOpen, diagnosisLeaves, onSets, carried, diagnosisChanged, afterReply, settle}
-use Rattle.steps.specs.Replies.{noReply, replyFor}
+use Rattle.state.specs.Start.{noReply}
+use Rattle.steps.specs.Replies.{replyFor}
 use Rattle.steps.specs.Reading.{keptOctets, storedAs, readBy, requestBy, prmIn, outcomeOf, answered, completed, beginning, isIgnored, heardAs, heard}
 use Rattle.steps.specs.Bus.{paused, silencedReader, elapsed}
 use Rattle.steps.proofs.Safety.{safe-carried, safe-after-reply, safe-read-by, safe-beginning, safe-completed}

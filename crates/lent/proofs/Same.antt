@@ -13,7 +13,8 @@ use Rattle.state.specs.Answer.{Called}
 use Rattle.state.specs.Image.{image}
 use Rattle.state.specs.Layout.{stateLength}
 use Rattle.state.specs.Memory.{kept, Holds}
-use Rattle.state.specs.Start.{initialState, started}
+use Rattle.state.specs.Start.{initialState}
+use Rattle.steps.specs.Calls.{started}
 use Rattle.state.specs.Unpack.{unpacked}
 use Rattle.state.proofs.Damage.{holds-unpacked, kept-holds}
 use Rattle.state.proofs.Front.{kept-drop}
@@ -24,7 +25,8 @@ use Rattle.rules.specs.Call.{Call}
 use Rattle.ledger.specs.Calls.{after}
 use Rattle.ledger.proofs.Runs as ledger-runs
 use Rattle.steps.specs.Safe.{Safe}
-use Rattle.steps.specs.Calls.{step, called, answers}
+use Rattle.steps.specs.Step.{step}
+use Rattle.steps.specs.Calls.{called, answers}
 use Rattle.agreement.specs.Agreement.{memoryOf}
 use Rattle.steps.proofs.Safety.{safe-heard, safe-paused, safe-elapsed}
 use Rattle.steps.proofs.Lengths.{step-length}

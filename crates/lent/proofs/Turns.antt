@@ -7,13 +7,15 @@ use borrow.Author.Tests.{not-true, not-false}
 use Rattle.state.specs.declared.answer.Refusal.the-variants.{Damaged}
 use Rattle.state.specs.declared.state.State.{State}
 use Rattle.state.specs.Answer.{refused}
-use Rattle.state.specs.Memory.{kept, wellMemory, Holds}
+use Rattle.state.specs.Memory.{kept, Holds}
+use Rattle.steps.specs.Calls.{wellMemory}
 use Rattle.state.specs.Unpack.{unpacked}
 use Rattle.rules.specs.Call.{Call}
 use Rattle.steps.specs.Safe.{Safe}
 use Rattle.steps.specs.Stepped.{Stepped, Steps}
 use Rattle.steps.specs.Bus.{paused}
-use Rattle.steps.specs.Calls.{step, packed, called}
+use Rattle.steps.specs.Step.{step, packed}
+use Rattle.steps.specs.Calls.{called}
 use Rattle.steps.proofs.Safety.{safe-steps}
 use Rattle.lent.specs.Run.{Beat, gap, run, calls, left}
 use Rattle.lent.proofs.Partly.{run-append}

@@ -4,7 +4,7 @@ use mathlib.Core.Path.{_≡_}
 use mathlib.Core.Bool.{cond}
 use mathlib.Core.List.{List}
 use lib.IntN.{ℤ, pos}
-use Rattle.state.specs.Memory.{wellMemory}
+use Rattle.steps.specs.Calls.{wellMemory}
 use Rattle.rules.specs.Call.{Call}
 use Rattle.lent.specs.Run.{left}
 

@@ -9,7 +9,7 @@ use state::state::State;
 use station::bus::pause;
 ghost use mathlib.Core.Path.{_≡_};
 ghost use mathlib.Core.List.{_++_};
-ghost use Rattle.state.specs.Memory.{wellMemory};
+ghost use Rattle.steps.specs.Calls.{wellMemory};
 ghost use Rattle.steps.specs.Safe.{Safe};
 ghost use Rattle.steps.specs.Stepped.{Steps};
 ghost use Rattle.lent.specs.Run.{run, received, ticks, turn, calls, left};

@@ -9,6 +9,6 @@ pub mod Codes
 pub mod Asking
 pub mod Front
 pub mod Wiped
-pub mod Started
+pub mod LaidOut
 pub mod Damage
 pub mod Written

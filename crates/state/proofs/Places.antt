@@ -79,6 +79,10 @@ get-cfg-inside s n h =
     let e = first-start s getCfg in
     omega arith
 
+-- the buffers end behind the state
+pub end-behind : (s : Setup) → stateLength ≤ endOf s
+end-behind s = let h = get-cfg-inside s 0 (omega arith) in omega arith
+
 -- two buffers that differ in kind or in place lie apart
 pub apart : (s : Setup) (a i n b j k : ℕ) → i < countOf a → j < countOf b → n ≤ lengthOf s a → k ≤ lengthOf s b → (a ≡ b → i ≡ j → ⊥)
     → (startOf s b j + k ≤ startOf s a i) ⊎ (startOf s a i + n ≤ startOf s b j)

@@ -20,6 +20,7 @@ use Rattle.state.specs.Unpack.{wordAt, bitAt, marksIn, setupIn, flagsIn,
 use Rattle.state.specs.Sound.{Sound}
 use Rattle.state.specs.Well.{all, setupTests, caseTests, roleTests, setTests, diagnosisTests, unusedTests, imageTests, wellImage}
 use Rattle.state.proofs.Numbers.{reading-back, reading-counted, reading-le, kind-back, kind-counted, kind-le, stage-back, stage-counted, stage-le, phase-back, phase-counted, phase-le, drawn-back, drawn-counted, drawn-le}
+use Rattle.state.proofs.Asking.{tests-ranged, ranged-tests}
 use Rattle.state.proofs.Tests.{all-at, within-true, within-holds, none-or-true, none-or-holds, beq-true, beq-holds}
 use Rattle.state.proofs.Bits.{bit-le, Marked, marked, sum-marks}
 
@@ -145,19 +146,9 @@ marks-below s =
 -- the image of a sound state, whatever lies behind it
 module _ (s : State) (h : Sound s) (r : List ℕ) where
   -- the address and the lengths pass
-  setup-well : all (setupTests (image s ++ r)) ≡ true
+  setup-well : all (setupTests (setupIn (image s ++ r) 0)) ≡ true
   unfolding image
-  setup-well =
-      λ i.
-      all
-      (le-leb (s .setup .address) 126 (h .address) i
-      ∷ within-holds 1 (s .setup .«output_len») 244 (h .output-len) i
-      ∷ within-holds 1 (s .setup .«input_len») 244 (h .input-len) i
-      ∷ within-holds 7 (s .setup .«parameter_len») 244 (h .parameter-len) i
-      ∷ within-holds 1 (s .setup .«configuration_len») 244 (h .configuration-len) i
-      ∷ within-holds 6 (s .setup .«diagnosis_len») 244 (h .diagnosis-len) i
-      ∷ within-holds 1 (s .setup .«get_cfg_len») 244 (h .get-cfg-len) i
-      ∷ [])
+  setup-well = ranged-tests (s .setup) (h .setup)
 
   -- the cases of the enums pass
   cases-well : all (caseTests (image s ++ r)) ≡ true
@@ -235,13 +226,7 @@ well-sound m h =
     let sets = all-at (imageTests m) 3 h in
     let diagnosis = all-at (imageTests m) 4 h in
     record {
-      address = leb-true (getD m 0 0) 126 (all-at (setupTests m) 0 setup);
-      output-len = within-true 1 (getD m 3 0) 244 (all-at (setupTests m) 1 setup);
-      input-len = within-true 1 (getD m 4 0) 244 (all-at (setupTests m) 2 setup);
-      parameter-len = within-true 7 (getD m 5 0) 244 (all-at (setupTests m) 3 setup);
-      configuration-len = within-true 1 (getD m 6 0) 244 (all-at (setupTests m) 4 setup);
-      diagnosis-len = within-true 6 (getD m 7 0) 244 (all-at (setupTests m) 5 setup);
-      get-cfg-len = within-true 1 (getD m 8 0) 244 (all-at (setupTests m) 6 setup);
+      setup = tests-ranged (setupIn m (wordAt m 1)) setup;
       outputs = places-permutation (getD m 19 0);
       inputs = places-permutation (getD m 20 0);
       parameters = places-permutation (getD m 21 0);

@@ -17,7 +17,7 @@ use Rattle.state.proofs.Damage.{fronted}
 -- ---- the octets lie in the memory
 
 pub in-front : {m : List ℕ} {s : State} → Holds m s → (i : ℕ) → i < stateLength → i < length m
-in-front h i lt = let w = h .length-in in omega arith
+in-front h i lt = let w = h .long in omega arith
 
 -- ---- octets written one after the other
 

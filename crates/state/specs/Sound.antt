@@ -1,10 +1,11 @@
--- A state whose roles, lengths and counts keep the rules.
+-- A setup that Start takes, and a state whose roles, lengths and counts keep the rules.
 use Prim.Native.Nat.{ℕ, _≤_}
 use mathlib.Core.Path.{_≡_}
 use mathlib.Core.Logic.{_⊎_}
 use mathlib.Core.Bool.{not}
 use lib.Dec.{eqb}
 use Rattle.buffers.specs.Triple.{Permutation}
+use Rattle.state.specs.declared.setup.Setup.{Setup}
 use Rattle.state.specs.declared.state.State.{State}
 
 -- lo to hi
@@ -15,22 +16,27 @@ Within lo x hi = (lo ≤ x) × (x ≤ hi)
 abbrev pub NoneOr : ℕ → ℕ → ℕ → Type 0
 NoneOr lo x hi = (x ≡ 0) ⊎ Within lo x hi
 
+-- what holds of every setup that Start takes
+pub record Ranged (s : Setup) : Type 0 where
+  -- the station address is 0 to 126
+  pub address : s .address ≤ 126
+  -- outputs are 1 to 244 octets
+  pub output-len : Within 1 (s .«output_len») 244
+  -- inputs are 1 to 244 octets
+  pub input-len : Within 1 (s .«input_len») 244
+  -- parameters are 7 to 244 octets
+  pub parameter-len : Within 7 (s .«parameter_len») 244
+  -- configuration is 1 to 244 octets
+  pub configuration-len : Within 1 (s .«configuration_len») 244
+  -- diagnosis is 6 to 244 octets
+  pub diagnosis-len : Within 6 (s .«diagnosis_len») 244
+  -- Get_Cfg sends 1 to 244 octets
+  pub get-cfg-len : Within 1 (s .«get_cfg_len») 244
+
 -- what holds of every state that is kept
 pub record Sound (s : State) : Type 0 where
-  -- the station address is 0 to 126
-  pub address : s .setup .address ≤ 126
-  -- outputs are 1 to 244 octets
-  pub output-len : Within 1 (s .setup .«output_len») 244
-  -- inputs are 1 to 244 octets
-  pub input-len : Within 1 (s .setup .«input_len») 244
-  -- parameters are 7 to 244 octets
-  pub parameter-len : Within 7 (s .setup .«parameter_len») 244
-  -- configuration is 1 to 244 octets
-  pub configuration-len : Within 1 (s .setup .«configuration_len») 244
-  -- diagnosis is 6 to 244 octets
-  pub diagnosis-len : Within 6 (s .setup .«diagnosis_len») 244
-  -- Get_Cfg sends 1 to 244 octets
-  pub get-cfg-len : Within 1 (s .setup .«get_cfg_len») 244
+  -- Start took its setup
+  pub setup : Ranged (s .setup)
   -- the roles of the output set are a permutation
   pub outputs : Permutation (s .outputs .set .place)
   -- so are those of the input set

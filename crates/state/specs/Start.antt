@@ -1,8 +1,8 @@
--- Start: what it checks, the first state, and what it leaves.
+-- Start: what it asks of a setup, the first state, and what it leaves. Its conditions on the whole memory are in the crate steps.
 use Prim.Native.Nat.{ℕ, _-_}
 use mathlib.Core.Bool.{Bool, false, not, cond}
-use mathlib.Core.List.{List, [], _∷_}
-use lib.ListN.{length, replicate}
+use mathlib.Core.List.{List}
+use lib.ListN.{replicate}
 use lib.Dec.{ltb}
 use Rattle.buffers.specs.Events.{noEvents}
 use Rattle.buffers.specs.Triple.{initial}
@@ -16,14 +16,12 @@ use Rattle.state.specs.declared.state.State.{State}
 use Rattle.state.specs.declared.state.Sets.{Sets}
 use Rattle.state.specs.declared.state.Reply.{Reply}
 use Rattle.state.specs.declared.state.Drawn.the-variants.{Nothing}
-use Rattle.state.specs.declared.answer.Answer.the-variants.{Value}
-use Rattle.state.specs.declared.answer.Refusal.the-variants.{MemoryLength, Address, Length, Room}
+use Rattle.state.specs.declared.answer.Refusal.the-variants.{Address, Length}
 use Rattle.state.specs.declared.start.Asked.{Asked}
 use Rattle.state.specs.declared.start.Asked.the-variants.{Accepted, Declined}
-use Rattle.state.specs.Answer.{Called, refused}
 use Rattle.state.specs.Layout.{stateLength, getCfgAt, endOf}
-use Rattle.state.specs.Memory.{lengthOk, kept}
-use Rattle.state.specs.Well.{all, within}
+use Rattle.state.specs.Memory.{kept}
+use Rattle.state.specs.Well.{all, lengthTests}
 
 -- what Start is given, n octets for Get_Cfg among it, as it is kept
 abbrev pub given : ℕ → ℕ → ℕ → ℕ → ℕ → ℕ → ℕ → ℕ → Setup
@@ -38,17 +36,6 @@ given address ident outputs inputs parameters configuration diagnosis n =
       «diagnosis_len» = diagnosis;
       «get_cfg_len» = n;
     }
-
--- "lengths for outputs and inputs (1 to 244), parameters (7 to 244), configuration (1 to 244), diagnosis (6 to 244), and a slice of 1 to 244 octets"
-abbrev pub lengthTests : Setup → List Bool
-lengthTests s =
-    within 1 (s .«output_len») 244
-    ∷ within 1 (s .«input_len») 244
-    ∷ within 7 (s .«parameter_len») 244
-    ∷ within 1 (s .«configuration_len») 244
-    ∷ within 6 (s .«diagnosis_len») 244
-    ∷ within 1 (s .«get_cfg_len») 244
-    ∷ []
 
 -- all of them are kept
 unfoldable pub lengthsOk : Setup → Bool
@@ -127,17 +114,6 @@ zeros n = replicate n 0
 unfoldable pub wiped : List ℕ → Setup → List ℕ → List ℕ
 wiped m s slice = pasted (pasted m stateLength (zeros (endOf s - stateLength))) (getCfgAt s) slice
 
--- "4 buffers end beyond the memory"; else they are wiped and the first state stands in front
-unfoldable pub laidOut : List ℕ → Setup → List ℕ → Called
-laidOut m s slice =
-    cond (ltb (length m) (endOf s)) (refused m Room)
-    (record { answer = Value 0; memory = kept (initialState s) (wiped m s slice) })
-
--- a setup is laid out, and a refusal is the answer
-abbrev pub answered : List ℕ → List ℕ → Asked → Called
-answered m slice (Accepted s) = laidOut m s slice
-answered m slice (Declined why) = refused m why
-
--- "checks go upward": 1 the memory's length here, 2 and 3 in asked, 4 in laidOut
-unfoldable pub started : List ℕ → Setup → List ℕ → Called
-started m s slice = cond (not (lengthOk (length m))) (refused m MemoryLength) (answered m slice (asked s))
+-- the first state in front of the wiped buffers
+unfoldable pub laidOut : List ℕ → Setup → List ℕ → List ℕ
+laidOut m s slice = kept (initialState s) (wiped m s slice)

@@ -4,7 +4,8 @@ use mathlib.Core.Bool.{Bool, true, not, _&&_, _||_, Bool·beq}
 use mathlib.Core.List.{List, [], _∷_}
 use lib.Dec.{leb, ltb, eqb}
 use lib.ListN.{getD}
-use Rattle.state.specs.Unpack.{marksIn, bitAt}
+use Rattle.state.specs.declared.setup.Setup.{Setup}
+use Rattle.state.specs.Unpack.{marksIn, bitAt, setupIn}
 
 -- a and each of l, as the code's `a & b & c` joins them
 abbrev pub allFrom : Bool → List Bool → Bool
@@ -24,17 +25,20 @@ within lo x hi = leb lo x && leb x hi
 abbrev pub noneOr : ℕ → ℕ → ℕ → Bool
 noneOr lo x hi = eqb x 0 || within lo x hi
 
--- the address and the lengths
-abbrev pub setupTests : List ℕ → List Bool
-setupTests m =
-    leb (getD m 0 0) 126
-    ∷ within 1 (getD m 3 0) 244
-    ∷ within 1 (getD m 4 0) 244
-    ∷ within 7 (getD m 5 0) 244
-    ∷ within 1 (getD m 6 0) 244
-    ∷ within 6 (getD m 7 0) 244
-    ∷ within 1 (getD m 8 0) 244
+-- "lengths for outputs and inputs (1 to 244), parameters (7 to 244), configuration (1 to 244), diagnosis (6 to 244), and a slice of 1 to 244 octets"
+abbrev pub lengthTests : Setup → List Bool
+lengthTests s =
+    within 1 (s .«output_len») 244
+    ∷ within 1 (s .«input_len») 244
+    ∷ within 7 (s .«parameter_len») 244
+    ∷ within 1 (s .«configuration_len») 244
+    ∷ within 6 (s .«diagnosis_len») 244
+    ∷ within 1 (s .«get_cfg_len») 244
     ∷ []
+
+-- the address (0 to 126) and the lengths of a setup
+abbrev pub setupTests : Setup → List Bool
+setupTests s = leb (s .address) 126 ∷ lengthTests s
 
 -- the cases of the enums
 abbrev pub caseTests : List ℕ → List Bool
@@ -91,7 +95,7 @@ unusedTests m =
 -- all of them
 abbrev pub imageTests : List ℕ → List Bool
 imageTests m =
-    all (setupTests m)
+    all (setupTests (setupIn m 0))
     ∷ all (caseTests m)
     ∷ all (roleTests m)
     ∷ all (setTests m)

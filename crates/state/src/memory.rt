@@ -1,22 +1,15 @@
-// The lent memory: its length, and whether it holds a state.
+// Whether a memory holds a state.
 use crate::layout;
 use crate::load;
 use crate::well;
 ghost use mathlib.Core.Path.{_≡_};
-ghost use Rattle.state.specs.Memory.{lengthOk, wellMemory};
+ghost use Rattle.state.specs.Memory.{holdsState};
 
-// 1,536 to 4,096 octets, a multiple of 8.
-pub fn length_ok(n: usize) -> bool
-    ensures { λ r. ⌜ r ≡ lengthOk n ⌝ }
+// The image of a state in front, and room for its buffers.
+pub fn holds_state(mem: &[u8]) -> bool
+    ensures { λ r. ⌜ r ≡ holdsState (now (mem .entry)) ⌝ }
 {
-    ((1536 <= n) & (n <= 4096)) & (n % 8 == 0)
-}
-
-// Whether the memory is well: else every call but Start is refused with 5.
-pub fn is_well(mem: &[u8]) -> bool
-    ensures { λ r. ⌜ r ≡ wellMemory (now (mem .entry)) ⌝ }
-{
-    if !length_ok(mem.len()) {
+    if mem.len() < layout::STATE_LENGTH {
         return false;
     }
     if !well::well(mem) {

@@ -1,5 +1,4 @@
-// Start: what it checks, the first state, and what it leaves.
-use crate::answer::Answer;
+// Start: what it asks of a setup, the first state, and what it leaves.
 use crate::answer::Refusal;
 use crate::control::Control;
 use crate::control::Diagnosis;
@@ -8,7 +7,6 @@ use crate::control::Phase;
 use crate::control::Watchdog;
 use crate::image;
 use crate::layout;
-use crate::memory;
 use crate::setup::Setup;
 use crate::state::Drawn;
 use crate::state::Header;
@@ -24,9 +22,8 @@ use telegram::sender::Sender;
 ghost use mathlib.Core.Path.{_≡_};
 ghost use Prim.Native.Nat.{_≤_};
 ghost use lib.ListN.{length};
-ghost use Rattle.state.specs.Answer.{Meets};
 ghost use Rattle.state.specs.Layout.{endOf};
-ghost use Rattle.state.specs.Start.{given, lengthsOk, asked, firstControl, noSets, noReply, initialState, wiped, laidOut, started};
+ghost use Rattle.state.specs.Start.{given, lengthsOk, asked, firstControl, noSets, noReply, initialState, wiped, laidOut};
 
 // What Start is asked for: a setup, or why there is none.
 pub enum Asked {
@@ -133,7 +130,7 @@ fn no_sets() -> Sets
 }
 
 // Nothing to send.
-fn no_reply() -> Reply
+pub fn no_reply() -> Reply
     ensures { λ r. ⌜ r ≡ noReply ⌝ }
 {
     Reply {
@@ -183,53 +180,11 @@ fn wiped(mem: &mut [u8], setup: Setup, get_cfg: &[u8])
     octets::copy_at(mem, layout::get_cfg_at(setup), get_cfg);
 }
 
-// A setup that was accepted: the buffers are wiped and the first state stands in front, if they have room.
-fn lay_out(mem: &mut [u8], setup: Setup, get_cfg: &[u8]) -> Answer
-    requires { ⌜ setup .«get_cfg_len» ≡ length (now «get_cfg») ⌝ }
-    ensures { λ r. ⌜ Meets (laidOut (now (mem .entry)) setup (now («get_cfg» .entry))) r (now (mem .exit)) ⌝ }
+// The first state in front of the wiped buffers, in a memory that has room for them.
+pub fn lay_out(mem: &mut [u8], setup: Setup, get_cfg: &[u8])
+    requires { ⌜ (endOf setup ≤ length (now mem)) × (setup .«get_cfg_len» ≡ length (now «get_cfg»)) ⌝ }
+    ensures { λ _. ⌜ now (mem .exit) ≡ laidOut (now (mem .entry)) setup (now («get_cfg» .entry)) ⌝ }
 {
-    if mem.len() < layout::end_of(setup) {
-        return Answer::Refused(Refusal::Room);
-    }
     wiped(mem, setup, get_cfg);
     image::save(initial(setup), mem);
-    Answer::Value(0)
-}
-
-// Start: the memory length, what is asked for, and the room are checked in this order.
-pub fn start(
-    mem: &mut [u8],
-    address: u32,
-    ident: u16,
-    output_len: u32,
-    input_len: u32,
-    parameter_len: u32,
-    configuration_len: u32,
-    diagnosis_len: u32,
-    get_cfg: &[u8],
-) -> Answer
-    ensures { λ r.
-        ⌜ Meets
-        (started (now (mem .entry))
-        (given address ident «output_len» «input_len» «parameter_len» «configuration_len» «diagnosis_len» (length (now («get_cfg» .entry))))
-        (now («get_cfg» .entry)))
-        r (now (mem .exit)) ⌝ }
-{
-    if !memory::length_ok(mem.len()) {
-        return Answer::Refused(Refusal::MemoryLength);
-    }
-    let found = setup_of(
-        address,
-        ident,
-        output_len,
-        input_len,
-        parameter_len,
-        configuration_len,
-        diagnosis_len,
-        get_cfg.len(),
-    );
-    match found {
-        Asked::Accepted(setup) => lay_out(mem, setup, get_cfg),
-        Asked::Declined(why) => Answer::Refused(why),
-    }
 }

@@ -4,6 +4,7 @@ ghost use mathlib.Core.Path.{_≡_};
 ghost use Prim.Native.Nat.{_≤_};
 ghost use lib.ListN.{length};
 ghost use Rattle.state.specs.Layout.{stateLength};
+ghost use Rattle.state.specs.Unpack.{setupIn};
 ghost use Rattle.state.specs.Well.{all, noneOr, setupTests, caseTests, roleTests, setTests, diagnosisTests, unusedTests, wellImage};
 
 // 0 for none, or lo to hi.
@@ -19,7 +20,7 @@ fn none_or(lo: u8, x: u8, hi: u8) -> bool
 // The address and the lengths.
 fn well_setup(mem: &[u8]) -> bool
     requires { ⌜ stateLength ≤ length (now mem) ⌝ }
-    ensures { λ r. ⌜ r ≡ all (setupTests (now (mem .entry))) ⌝ }
+    ensures { λ r. ⌜ r ≡ all (setupTests (setupIn (now (mem .entry)) 0)) ⌝ }
 {
     if !(mem[0] <= 126) {
         return false;

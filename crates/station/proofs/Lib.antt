@@ -1,5 +1,6 @@
 pub mod Reaching
-pub mod Calling
+pub mod Stepping
+pub mod Guarding
 mod OverMemory
 mod Receives
 mod Leaving

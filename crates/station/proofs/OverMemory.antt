@@ -120,8 +120,7 @@ module _ (m : List ℕ) (s : State) (h : Holds m s) where
   storing-holds k b =
       let e = stored-data-length s m k b in
       record {
-        length-in = rw e (h .length-in);
-        length-by-8 = rw e (h .length-by-8);
+        long = rw e (h .long);
         sound = h .sound;
         front = stored-front k b ∙ h .front;
         room = rw e (h .room);

@@ -1,14 +1,8 @@
-// Each call over the lent memory: refused with 5 where it is damaged, else the step is made on the state that the memory
-// holds. The calls of every octet read and write only what they need of it; the others unpack it, make the step and pack it
-// again.
-use crate::bus;
-use crate::hearing;
-use crate::user;
+// Each call over the one lent memory: refused with 5 where it is damaged, else its step.
+use crate::memory::is_well;
+use crate::over_memory;
 use state::answer::Answer;
 use state::answer::Refusal;
-use state::image::save;
-use state::load;
-use state::memory::is_well;
 ghost use Rattle.state.specs.Answer.{Meets};
 ghost use Rattle.rules.specs.Call.{octet, gap, send, tick, take, read, write, hand-over, new-diagnosis, judge-parameters, judge-configuration, events, acknowledge, pending, leave};
 ghost use Rattle.steps.specs.Calls.{called};
@@ -20,8 +14,7 @@ pub fn octet(mem: &mut [u8], value: u8, bad: bool) -> Answer
     if !is_well(&mem[..]) {
         return Answer::Refused(Refusal::Damaged);
     }
-    hearing::hear_octet(mem, value, bad);
-    Answer::Value(0)
+    over_memory::octet(mem, value, bad)
 }
 
 // A gap on the bus.
@@ -31,8 +24,7 @@ pub fn gap(mem: &mut [u8]) -> Answer
     if !is_well(&mem[..]) {
         return Answer::Refused(Refusal::Damaged);
     }
-    bus::gap(mem);
-    Answer::Value(0)
+    over_memory::gap(mem)
 }
 
 // Send: the next octet of the reply, or 256.
@@ -42,8 +34,7 @@ pub fn send(mem: &mut [u8]) -> Answer
     if !is_well(&mem[..]) {
         return Answer::Refused(Refusal::Damaged);
     }
-    let told = bus::send(mem);
-    Answer::Value(told as u32)
+    over_memory::send(mem)
 }
 
 // A Tick: 10 ms.
@@ -53,9 +44,7 @@ pub fn tick(mem: &mut [u8]) -> Answer
     if !is_well(&mem[..]) {
         return Answer::Refused(Refusal::Damaged);
     }
-    let t = bus::elapse(load::unpack(&mem[..]), mem);
-    save(t, mem);
-    Answer::Value(0)
+    over_memory::tick(mem)
 }
 
 // Take outputs: whether they are new, and whether the station published zeros.
@@ -65,9 +54,7 @@ pub fn take(mem: &mut [u8]) -> Answer
     if !is_well(&mem[..]) {
         return Answer::Refused(Refusal::Damaged);
     }
-    let step = user::take_outputs(load::unpack(&mem[..]));
-    save(step.state, mem);
-    step.answer
+    over_memory::take(mem)
 }
 
 // Read an octet of a kind.
@@ -77,7 +64,7 @@ pub fn read(mem: &mut [u8], kind: u32, index: u32) -> Answer
     if !is_well(&mem[..]) {
         return Answer::Refused(Refusal::Damaged);
     }
-    user::read_octet(&mem[..], kind, index)
+    over_memory::read(mem, kind, index)
 }
 
 // Write an octet of kind 4 or 5.
@@ -87,7 +74,7 @@ pub fn write(mem: &mut [u8], kind: u32, index: u32, value: u8) -> Answer
     if !is_well(&mem[..]) {
         return Answer::Refused(Refusal::Damaged);
     }
-    user::write_octet(mem, kind, index, value)
+    over_memory::write(mem, kind, index, value)
 }
 
 // Hand over inputs: they come next.
@@ -97,8 +84,7 @@ pub fn hand_over(mem: &mut [u8]) -> Answer
     if !is_well(&mem[..]) {
         return Answer::Refused(Refusal::Damaged);
     }
-    save(user::hand_over(load::unpack(&mem[..])), mem);
-    Answer::Value(0)
+    over_memory::hand_over(mem)
 }
 
 // New diagnosis, with its count and flags.
@@ -108,9 +94,7 @@ pub fn new_diagnosis(mem: &mut [u8], count: u32, flags: u32) -> Answer
     if !is_well(&mem[..]) {
         return Answer::Refused(Refusal::Damaged);
     }
-    let step = user::new_diagnosis(load::unpack(&mem[..]), count, flags);
-    save(step.state, mem);
-    step.answer
+    over_memory::new_diagnosis(mem, count, flags)
 }
 
 // Judge parameters: 1 good, 0 bad.
@@ -120,9 +104,7 @@ pub fn judge_parameters(mem: &mut [u8], judgement: u32) -> Answer
     if !is_well(&mem[..]) {
         return Answer::Refused(Refusal::Damaged);
     }
-    let step = user::judge_parameters(load::unpack(&mem[..]), mem, judgement);
-    save(step.state, mem);
-    step.answer
+    over_memory::judge_parameters(mem, judgement)
 }
 
 // Judge configuration: 1 good, 0 bad.
@@ -132,9 +114,7 @@ pub fn judge_configuration(mem: &mut [u8], judgement: u32) -> Answer
     if !is_well(&mem[..]) {
         return Answer::Refused(Refusal::Damaged);
     }
-    let step = user::judge_configuration(load::unpack(&mem[..]), mem, judgement);
-    save(step.state, mem);
-    step.answer
+    over_memory::judge_configuration(mem, judgement)
 }
 
 // The event word.
@@ -144,8 +124,7 @@ pub fn events(mem: &mut [u8]) -> Answer
     if !is_well(&mem[..]) {
         return Answer::Refused(Refusal::Damaged);
     }
-    let events = load::events(&mem[..]);
-    Answer::Value(events.word as u32)
+    over_memory::events(mem)
 }
 
 // Acknowledge the events of a mask.
@@ -155,8 +134,7 @@ pub fn acknowledge(mem: &mut [u8], mask: u16) -> Answer
     if !is_well(&mem[..]) {
         return Answer::Refused(Refusal::Damaged);
     }
-    save(user::acknowledge(load::unpack(&mem[..]), mask), mem);
-    Answer::Value(0)
+    over_memory::acknowledge(mem, mask)
 }
 
 // The number of an event that is set, or 16.
@@ -166,8 +144,7 @@ pub fn pending(mem: &mut [u8]) -> Answer
     if !is_well(&mem[..]) {
         return Answer::Refused(Refusal::Damaged);
     }
-    let events = load::events(&mem[..]);
-    Answer::Value(events.pending() as u32)
+    over_memory::pending(mem)
 }
 
 // Leave master: a clear.
@@ -177,6 +154,5 @@ pub fn leave(mem: &mut [u8]) -> Answer
     if !is_well(&mem[..]) {
         return Answer::Refused(Refusal::Damaged);
     }
-    save(user::leave(load::unpack(&mem[..]), mem), mem);
-    Answer::Value(0)
+    over_memory::leave(mem)
 }

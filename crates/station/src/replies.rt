@@ -20,24 +20,8 @@ ghost use lib.ListN.{length, getD};
 ghost use Rattle.octets.specs.Part.{part};
 ghost use Rattle.state.specs.Memory.{Holds};
 ghost use Rattle.state.specs.Unpack.{unpacked};
-ghost use Rattle.steps.specs.Replies.{noReply, servicing, senderFor, replyFor, ownPlace, userPlace, headerAt, contentAt, pointOf, isExchange, datumAt, askedFor};
-
-// Nothing to send.
-pub fn no_reply() -> Reply
-    ensures { λ r. ⌜ r ≡ noReply ⌝ }
-{
-    Reply {
-        drawn: Drawn::Nothing,
-        sender: Sender::empty(),
-        place: 0,
-        header: Header {
-            status1: 0,
-            status2: 0,
-            status3: 0,
-            master: 0,
-        },
-    }
-}
+ghost use Rattle.state.specs.Start.{noReply};
+ghost use Rattle.steps.specs.Replies.{servicing, senderFor, replyFor, ownPlace, userPlace, headerAt, contentAt, pointOf, isExchange, datumAt, askedFor};
 
 // SD2 with bit 7 in both addresses: DSAP and SSAP stand before n data octets.
 fn servicing(setup: Setup, master: u8, n: u8) -> Sender

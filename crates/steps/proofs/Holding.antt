@@ -16,9 +16,9 @@ use Rattle.state.specs.declared.answer.Refusal.the-variants.{Damaged, Judging, 
 use Rattle.state.specs.declared.state.State.{State}
 use Rattle.state.specs.Answer.{Called, Meets, refused}
 use Rattle.state.specs.Layout.{stateLength}
-use Rattle.state.specs.Memory.{kept, wellMemory, Holds}
+use Rattle.state.specs.Memory.{kept, Holds}
 use Rattle.state.specs.Unpack.{unpacked}
-use Rattle.state.proofs.Damage.{holds-unpacked, holds-well, well-holds}
+use Rattle.state.proofs.Damage.{holds-unpacked}
 use Rattle.state.specs.Well.{within}
 use Rattle.rules.specs.Diagnosis.{delayed}
 use Rattle.rules.specs.Kinds.{inRange, writable}
@@ -28,7 +28,7 @@ use Rattle.steps.specs.Safe.{Safe}
 use Rattle.steps.specs.Stepped.{Stepped, Steps, packedAfter}
 use Rattle.steps.specs.Deeds.{isOpen, diagnosisLeaves}
 use Rattle.steps.specs.User.{absent, Told, told, refusing, toldOf, Tells, takeOutputs, readOctet, writeOctet, handOver, newDiagnosis, judgeParameters, judgeConfiguration, acknowledgeEvents, leaveMaster}
-use Rattle.steps.specs.Calls.{step, packed, called}
+use Rattle.steps.specs.Step.{step, packed, stepOver}
 
 -- ---- a memory that holds a state
 
@@ -42,13 +42,9 @@ holds-safe m s h =
       parameters = g .parameters;
       configuration = g .configuration;
       reply = g .place;
-      long = g .parameter-len .0;
+      long = g .setup .parameter-len .0;
       room = h .room;
     }
-
--- it has room for the state
-pub holds-long : (m : List ℕ) (s : State) → Holds m s → stateLength ≤ length m
-holds-long m s h = let w = h .length-in in omega arith
 
 -- another memory with that state's octets in front stays as it is where the state is packed again
 pub fronted : (m n : List ℕ) (s : State) → Holds m s → take stateLength n ≡ take stateLength m → n ≡ kept s n
@@ -102,12 +98,10 @@ module _ (s : State) (m : List ℕ) (same : m ≡ kept s m) where
   packs calls.pending = tells _ _ _
   packs calls.leave = tells _ _ _
 
--- ---- the call
+-- ---- over the memory
 
 module _ (m : List ℕ) (s : State) (c : Call) (h : Holds m s) where
-  -- a call makes that state's step
-  pub called-whole : called m c ≡ whole (step s m c)
-  unfolding called
-  called-whole =
-      (λ i. cond (holds-well m s h i) (packed m (step (holds-unpacked m s h i) m c)) (refused m Damaged))
-      ∙ packs s m (fronted m m s h refl) c .packed-so
+  -- the state is unpacked, its step made and what it leaves packed
+  pub step-whole : stepOver m c ≡ whole (step s m c)
+  unfolding stepOver
+  step-whole = ap (λ (t : State). packed m (step t m c)) (holds-unpacked m s h) ∙ packs s m (fronted m m s h refl) c .packed-so

@@ -23,11 +23,12 @@ use Rattle.state.specs.With.{withReply}
 use Rattle.steps.specs.Safe.{Safe}
 use Rattle.steps.specs.Stepped.{Stepped, unchanged}
 use Rattle.steps.specs.Deeds.{begun, busy, isOpen, diagnosisLeaves, carried, afterReply, settle}
-use Rattle.steps.specs.Replies.{noReply, askedFor}
+use Rattle.state.specs.Start.{noReply}
+use Rattle.steps.specs.Replies.{askedFor}
 use Rattle.steps.specs.Reading.{storedAs, readBy, requestBy, outcomeOf, answered, completed, beginning, isIgnored, heardAs, heard}
 use Rattle.steps.specs.Bus.{paused, sentBy, sendLeft, silencedReader, elapsed}
 use Rattle.steps.specs.User.{Told, absent, takeOutputs, readOctet, writeOctet, handOver, newDiagnosis, judgeParameters, judgeConfiguration, acknowledgeEvents, leaveMaster}
-use Rattle.steps.specs.Calls.{step}
+use Rattle.steps.specs.Step.{step}
 use Rattle.steps.proofs.Safety.{on-memory-length, stored-data-length, safe-after-reply, safe-read-by, safe-reply, safe-no-reply, safe-completed, safe-beginning}
 
 -- what holds of both holds of the one that is chosen

@@ -2,3 +2,4 @@ pub mod Safety
 pub mod Lengths
 pub mod Idle
 pub mod Holding
+pub mod Guarded

@@ -38,7 +38,8 @@ use Rattle.rules.specs.Diagnosis.{delayed, caughtUp}
 use Rattle.steps.specs.Safe.{Safe}
 use Rattle.steps.specs.Stepped.{Stepped, Steps, unchanged}
 use Rattle.state.specs.With.{withIncoming, withReply}
-use Rattle.steps.specs.Replies.{noReply, replyFor, askedFor}
+use Rattle.state.specs.Start.{noReply}
+use Rattle.steps.specs.Replies.{replyFor, askedFor}
 use Rattle.steps.specs.Reading.{storedData, keptOctets, readBy, storedAs, requestBy, outcomeOf, answered, completed, beginning, heardAs, isIgnored, heard}
 use Rattle.steps.specs.Bus.{paused, sentBy, sendLeft, silencedReader, elapsed}
 use Rattle.steps.specs.Deeds.{begun, busy, diagnosisLeaves, isOpen, onOutputs, onInputs, receivedSet, onSets, onMemory, carried, diagnosisChanged, afterReply, settle}

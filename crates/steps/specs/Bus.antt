@@ -12,7 +12,8 @@ use Rattle.rules.specs.Line.{ticked}
 use Rattle.state.specs.With.{withReply}
 use Rattle.steps.specs.Stepped.{Stepped, unchanged}
 use Rattle.steps.specs.Deeds.{begun, busy, carried, settle}
-use Rattle.steps.specs.Replies.{noReply, askedFor}
+use Rattle.state.specs.Start.{noReply}
+use Rattle.steps.specs.Replies.{askedFor}
 use Rattle.steps.specs.Reading.{readBy}
 
 -- a gap: the next octet may begin a telegram

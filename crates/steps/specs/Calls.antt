@@ -1,49 +1,49 @@
--- Each call over the lent memory: refused with 5 where the memory is damaged, else the state is unpacked, the step made and
--- the state packed again. A call is a promise about the answer and the whole memory, refusals too.
-use Prim.Native.Nat.{ℕ}
-use mathlib.Core.Bool.{Bool, cond}
+-- The calls over the one lent memory: what each checks of the whole memory first, and then its step. A call is a promise about the
+-- answer and the whole memory, refusals too.
+use Prim.Native.Nat.{ℕ, _%_}
+use mathlib.Core.Bool.{Bool, cond, not, _&&_}
 use mathlib.Core.List.{List, [], _∷_}
+use lib.Dec.{eqb, ltb}
+use lib.ListN.{length}
 use Rattle.state.specs.declared.answer.Answer.{Answer}
-use Rattle.state.specs.declared.answer.Answer.the-variants.{Value, Refused}
-use Rattle.state.specs.declared.answer.Refusal.the-variants.{Damaged}
-use Rattle.state.specs.declared.state.State.{State}
+use Rattle.state.specs.declared.answer.Answer.the-variants.{Value}
+use Rattle.state.specs.declared.answer.Refusal.the-variants.{MemoryLength, Room, Damaged}
+use Rattle.state.specs.declared.setup.Setup.{Setup}
+use Rattle.state.specs.declared.start.Asked.{Asked}
+use Rattle.state.specs.declared.start.Asked.the-variants.{Accepted, Declined}
 use Rattle.state.specs.Answer.{Called, refused}
-use Rattle.state.specs.Memory.{wellMemory, kept}
-use Rattle.state.specs.Unpack.{unpacked}
-use Rattle.rules.specs.Call.{Call, octet, gap, send, tick, take, read, write, hand-over, new-diagnosis, judge-parameters, judge-configuration, events, acknowledge, pending, leave}
-use Rattle.steps.specs.Reading.{heard}
-use Rattle.steps.specs.Bus.{paused, sendTold, sendLeft, elapsed}
-use Rattle.steps.specs.User.{Told, toldOf, takeOutputs, readOctet, writeOctet, handOver, newDiagnosis, judgeParameters, judgeConfiguration, eventWord, acknowledgeEvents, pendingEvent, leaveMaster}
+use Rattle.state.specs.Layout.{endOf}
+use Rattle.state.specs.Memory.{holdsState}
+use Rattle.state.specs.Start.{asked, laidOut}
+use Rattle.state.specs.Well.{within}
+use Rattle.rules.specs.Call.{Call}
+use Rattle.steps.specs.Step.{stepOver}
 
--- the step that a call makes
-abbrev pub step : State → List ℕ → Call → Told
-step s m (octet b bad) = toldOf 0 (heard s m b bad)
-step s m gap = toldOf 0 (paused s m)
-step s m send = toldOf (sendTold s m) (sendLeft s m)
-step s m tick = toldOf 0 (elapsed s m)
-step s m take = takeOutputs s m
-step s m (read kind index) = readOctet s m kind index
-step s m (write kind index x) = writeOctet s m kind index x
-step s m hand-over = handOver s m
-step s m (new-diagnosis count flags) = newDiagnosis s m count flags
-step s m (judge-parameters j) = judgeParameters s m j
-step s m (judge-configuration j) = judgeConfiguration s m j
-step s m events = eventWord s m
-step s m (acknowledge mask) = acknowledgeEvents s m mask
-step s m pending = pendingEvent s m
-step s m leave = leaveMaster s m
+-- "1,536 to 4,096 octets, a multiple of 8"
+unfoldable pub lengthOk : ℕ → Bool
+lengthOk n = within 1536 n 4096 && eqb (n % 8) 0
 
--- a refusal leaves the memory as it was; else the state stands in front again
-abbrev pub packedAs : Answer → List ℕ → Told → Called
-packedAs (Value n) m t = record { answer = Value n; memory = kept (t .state) (t .memory) }
-packedAs (Refused why) m t = refused m why
+-- "4 buffers end beyond the memory"; else the buffers are wiped and the first state stands in front
+unfoldable pub startedIn : List ℕ → Setup → List ℕ → Called
+startedIn m s slice =
+    cond (ltb (length m) (endOf s)) (refused m Room) (record { answer = Value 0; memory = laidOut m s slice })
 
-abbrev pub packed : List ℕ → Told → Called
-packed m t = packedAs (t .answer) m t
+-- a setup that is accepted is laid out, and a refusal is the answer
+abbrev pub startedAs : List ℕ → List ℕ → Asked → Called
+startedAs m slice (Accepted s) = startedIn m s slice
+startedAs m slice (Declined why) = refused m why
 
--- a call over the memory: 5 if it is damaged
+-- Start; "checks go upward": 1 the memory's length here, 2 and 3 in asked, 4 in startedIn
+unfoldable pub started : List ℕ → Setup → List ℕ → Called
+started m s slice = cond (not (lengthOk (length m))) (refused m MemoryLength) (startedAs m slice (asked s))
+
+-- a memory is damaged where this fails: its length, or the state that it holds
+unfoldable pub wellMemory : List ℕ → Bool
+wellMemory m = lengthOk (length m) && holdsState m
+
+-- a call: 5 if the memory is damaged, else its step
 unfoldable pub called : List ℕ → Call → Called
-called m c = cond (wellMemory m) (packed m (step (unpacked m) m c)) (refused m Damaged)
+called m c = cond (wellMemory m) (stepOver m c) (refused m Damaged)
 
 -- the answers to a list of calls over a memory
 abbrev pub answers : List ℕ → List Call → List Answer

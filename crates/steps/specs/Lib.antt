@@ -5,4 +5,5 @@ pub mod Replies
 pub mod Reading
 pub mod Bus
 pub mod User
+pub mod Step
 pub mod Calls

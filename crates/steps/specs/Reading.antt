@@ -24,7 +24,8 @@ use Rattle.rules.specs.Services.{serve}
 use Rattle.state.specs.With.{withIncoming, withReply}
 use Rattle.steps.specs.Stepped.{Stepped, unchanged}
 use Rattle.steps.specs.Deeds.{isInside, begun, isOpen, onState, carried, settle}
-use Rattle.steps.specs.Replies.{noReply, replyFor}
+use Rattle.state.specs.Start.{noReply}
+use Rattle.steps.specs.Replies.{replyFor}
 
 -- data octet k goes into the fill buffer of the set that the header names. Storing depends on the header alone, since a
 -- user call may change all else while the telegram is coming.

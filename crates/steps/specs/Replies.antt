@@ -23,10 +23,6 @@ use Rattle.state.specs.Layout.{outputsAt, inputsAt, diagnosisAt, getCfgAt}
 use Rattle.rules.specs.Diagnosis.{headerOf}
 use Rattle.rules.specs.Replies.{exchangeFc}
 
--- nothing to send
-abbrev pub noReply : Reply
-noReply = record { drawn = Nothing; sender = empty; place = 0; header = record { status1 = 0; status2 = 0; status3 = 0; master = 0 } }
-
 -- SD2 with bit 7 in both addresses: DSAP and SSAP stand before n data octets
 abbrev pub servicing : Setup → ℕ → ℕ → Sender
 servicing s master n = sending Sd2 ((master + 128) % 256) ((s .address + 128) % 256) 0x08 ((n + 2) % 256)

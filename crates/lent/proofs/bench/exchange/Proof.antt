@@ -4,7 +4,7 @@ use mathlib.Core.List.{List, _++_}
 use borrow.Author.Needs.{needs}
 use Rattle.state.specs.Memory.{Holds}
 use Rattle.state.specs.Unpack.{unpacked}
-use Rattle.steps.proofs.Holding.{holds-safe, holds-long}
+use Rattle.steps.proofs.Holding.{holds-safe}
 use Rattle.station.proofs.Calling.{found, holding}
 use Rattle.lent.specs.Run.{Beat, turn, calls}
 use Rattle.lent.proofs.Behind.{safe-long}

@@ -4,7 +4,7 @@ use mathlib.Core.Path.{_≡_, sym, _∙_}
 use mathlib.Core.Bool.{true}
 use borrow.Author.Tests.{not-false, lt-ltb, le-ltb}
 use Rattle.state.specs.Start.{given, lengthsOk, asked}
-use Rattle.state.proofs.Asking.{lengths-say}
+use Rattle.state.proofs.Asking.{lengths-ranged}
 use borrow.Author.Needs.{needs}
 use Rattle.state.proofs.start.setup_of.Statement.{statement}
 use Rattle.state.proofs.start.setup_of.Tie as tie
@@ -29,22 +29,22 @@ cast-t13 : tie.Need-cast-t13
 cast-t13 c = search needs
 
 cast-t14 : tie.Need-cast-t14
-cast-t14 c = let h = lengths-say _ (ok c) in omega arith
+cast-t14 c = let h = lengths-ranged _ (omega arith) (ok c) in omega arith
 
 cast-t15 : tie.Need-cast-t15
-cast-t15 c = let h = lengths-say _ (ok c) in omega arith
+cast-t15 c = let h = lengths-ranged _ (omega arith) (ok c) in omega arith
 
 cast-t16 : tie.Need-cast-t16
-cast-t16 c = let h = lengths-say _ (ok c) in omega arith
+cast-t16 c = let h = lengths-ranged _ (omega arith) (ok c) in omega arith
 
 cast-t17 : tie.Need-cast-t17
-cast-t17 c = let h = lengths-say _ (ok c) in omega arith
+cast-t17 c = let h = lengths-ranged _ (omega arith) (ok c) in omega arith
 
 cast-t18 : tie.Need-cast-t18
-cast-t18 c = let h = lengths-say _ (ok c) in omega arith
+cast-t18 c = let h = lengths-ranged _ (omega arith) (ok c) in omega arith
 
 cast-t19 : tie.Need-cast-t19
-cast-t19 c = let h = lengths-say _ (ok c) in omega arith
+cast-t19 c = let h = lengths-ranged _ (omega arith) (ok c) in omega arith
 
 returns-3 : tie.Need-returns-3
 unfolding asked lengthsOk

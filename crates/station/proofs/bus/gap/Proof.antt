@@ -1,15 +1,15 @@
 -- `station::bus::gap` meets its contract.
-use Rattle.steps.proofs.Holding.{holds-long, holds-safe}
+use Rattle.steps.proofs.Holding.{holds-safe}
 use Rattle.station.proofs.Leaving.{packs, quiet-gap}
 use borrow.Author.Needs.{needs}
 use Rattle.station.proofs.bus.gap.Statement.{statement}
 use Rattle.station.proofs.bus.gap.Tie as tie
 
 waits-requires : tie.Need-waits-requires
-waits-requires c κs = holds-long _ _ (c .before .before .pre)
+waits-requires c κs = c .before .before .pre .long
 
 unpack-requires : tie.Need-unpack-requires
-unpack-requires c κs = holds-long _ _ (c .before .before .before .before .before .pre)
+unpack-requires c κs = c .before .before .before .before .before .pre .long
 
 pause-requires : tie.Need-pause-requires
 pause-requires c κs =
@@ -18,7 +18,7 @@ pause-requires c κs =
 save-requires : tie.Need-save-requires
 save-requires c κs =
     rw (c .before .before .before .pause .kept .1 .0)
-    (holds-long _ _ (c .before .before .before .before .before .before .before .before .before .before .before .pre))
+    (c .before .before .before .before .before .before .before .before .before .before .before .pre .long)
 
 same-length : tie.Need-same-length
 same-length c = search needs
@@ -31,7 +31,7 @@ returns c =
     (c .before .before .save .ensures)
 
 incoming-requires : tie.Need-incoming-requires
-incoming-requires c κs = holds-long _ _ (c .before .before .before .before .before .pre)
+incoming-requires c κs = c .before .before .before .before .before .pre .long
 
 start-requires : tie.Need-start-requires
 start-requires c κs = search needs

@@ -1,17 +1,17 @@
 -- `station::bus::go_on` meets its contract.
 use Rattle.state.specs.Unpack.{unpacked}
 use Rattle.steps.proofs.Safety.{safe-reply}
-use Rattle.steps.proofs.Holding.{holds-long, holds-safe}
+use Rattle.steps.proofs.Holding.{holds-safe}
 use Rattle.station.proofs.Leaving.{packs, quiet-on}
 use borrow.Author.Needs.{needs}
 use Rattle.station.proofs.bus.go_on.Statement.{statement}
 use Rattle.station.proofs.bus.go_on.Tie as tie
 
 waits-requires : tie.Need-waits-requires
-waits-requires c κs = holds-long _ _ (c .before .before .pre)
+waits-requires c κs = c .before .before .pre .long
 
 unpack-requires : tie.Need-unpack-requires
-unpack-requires c κs = holds-long _ _ (c .before .before .before .before .before .pre)
+unpack-requires c κs = c .before .before .before .before .before .pre .long
 
 sent-by-requires : tie.Need-sent-by-requires
 sent-by-requires c κs = search needs
@@ -24,7 +24,7 @@ settle-requires c κs =
 save-requires : tie.Need-save-requires
 save-requires c κs =
     rw (c .before .before .before .settle .kept .1 .0)
-    (holds-long _ _ (c .before .before .before .before .before .before .before .before .before .before .before .before .pre))
+    (c .before .before .before .before .before .before .before .before .before .before .before .before .pre .long)
 
 same-length : tie.Need-same-length
 same-length c = search needs

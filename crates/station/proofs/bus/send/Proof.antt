@@ -1,13 +1,12 @@
 -- `station::bus::send` meets its contract.
 use borrow.Author.Tests.{not-true, not-false}
-use Rattle.steps.proofs.Holding.{holds-long}
 use Rattle.station.proofs.Leaving.{nothing-left, octet-left}
 use borrow.Author.Needs.{needs}
 use Rattle.station.proofs.bus.send.Statement.{statement}
 use Rattle.station.proofs.bus.send.Tie as tie
 
 reply-requires : tie.Need-reply-requires
-reply-requires c κs = holds-long _ _ (c .before .before .pre)
+reply-requires c κs = c .before .before .pre .long
 
 left-requires : tie.Need-left-requires
 left-requires c κs = search needs

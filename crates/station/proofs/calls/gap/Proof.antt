@@ -1,9 +1,5 @@
 -- `station::calls::gap` meets its contract.
-use mathlib.Core.Path.{refl}
-use denote.Ref.{now}
-use Rattle.state.specs.Memory.{Holds}
-use Rattle.state.specs.Unpack.{unpacked}
-use Rattle.station.proofs.Calling.{damaged, found, on-memory}
+use Rattle.station.proofs.Guarding.{damaged, found, passed}
 use borrow.Author.Needs.{needs}
 use Rattle.station.proofs.calls.gap.Statement.{statement}
 use Rattle.station.proofs.calls.gap.Tie as tie
@@ -17,18 +13,16 @@ same-length c = search needs
 returns : tie.Need-returns
 returns c = damaged _ _ _ (c .before .is-well .ensures) (c .if1 .taken)
 
--- the memory holds a state
-there : (c : tie.Else1) → Holds (now (c .before .before .before .before .args .mem)) (unpacked (now (c .before .before .before .before .args .mem)))
-there c = found _ _ (c .before .before .before .slice-known .given) (c .before .is-well .ensures) (c .if1 .left)
-
 gap-requires : tie.Need-gap-requires
-gap-requires c κs = there (c .before)
+gap-requires c κs = found _ _ (c .before .before .before .before .slice-known .given) (c .before .before .is-well .ensures) (c .before .if1 .left)
 
 same-length-2 : tie.Need-same-length-2
 same-length-2 c = search needs
 
 returns-2 : tie.Need-returns-2
-returns-2 c = on-memory _ _ _ (there (c .before .before .before .before)) _ 0 _ _ refl refl (c .before .before .gap .ensures)
+returns-2 c =
+    let d = c .before .before .before .before in
+    passed _ _ _ (d .before .is-well .ensures) (d .if1 .left) (c .before .before .gap .ensures)
 
 pub gap-spec : {M : Type 1} → statement M
 gap-spec = tie.close (tie.spec is-well-requires same-length returns gap-requires same-length-2 returns-2)

@@ -1,9 +1,5 @@
 -- `station::calls::new_diagnosis` meets its contract.
-use denote.Ref.{now}
-use Rattle.state.specs.Memory.{Holds}
-use Rattle.state.specs.Unpack.{unpacked}
-use Rattle.station.proofs.Calling.{damaged, found, holding, stepped}
-use Rattle.steps.proofs.Holding.{holds-long}
+use Rattle.station.proofs.Guarding.{damaged, found, passed}
 use borrow.Author.Needs.{needs}
 use Rattle.station.proofs.calls.new_diagnosis.Statement.{statement}
 use Rattle.station.proofs.calls.new_diagnosis.Tie as tie
@@ -17,24 +13,16 @@ same-length c = search needs
 returns : tie.Need-returns
 returns c = damaged _ _ _ (c .before .is-well .ensures) (c .if1 .taken)
 
--- the memory holds a state
-there : (c : tie.Else1) → Holds (now (c .before .before .before .before .args .mem)) (unpacked (now (c .before .before .before .before .args .mem)))
-there c = found _ _ (c .before .before .before .slice-known .given) (c .before .is-well .ensures) (c .if1 .left)
-
-unpack-requires : tie.Need-unpack-requires
-unpack-requires c κs = holds-long _ _ (there (c .before))
-
 new-diagnosis-requires : tie.Need-new-diagnosis-requires
-new-diagnosis-requires c κs = search needs
-
-save-requires : tie.Need-save-requires
-save-requires c κs = holds-long _ _ (there (c .before .before .before .before))
+new-diagnosis-requires c κs = found _ _ (c .before .before .before .before .slice-known .given) (c .before .before .is-well .ensures) (c .before .if1 .left)
 
 same-length-2 : tie.Need-same-length-2
 same-length-2 c = search needs
 
 returns-2 : tie.Need-returns-2
-returns-2 c = let d = c .before .before .before .before in stepped _ _ _ (holding _ _ (there (d .before .before .before)) (d .before .unpack .ensures)) _ _ _ _ (d .new-diagnosis .ensures _) (c .before .before .save .ensures)
+returns-2 c =
+    let d = c .before .before .before .before in
+    passed _ _ _ (d .before .is-well .ensures) (d .if1 .left) (c .before .before .new-diagnosis .ensures)
 
 pub new-diagnosis-spec : {M : Type 1} → statement M
-new-diagnosis-spec = tie.close (tie.spec is-well-requires same-length returns unpack-requires new-diagnosis-requires save-requires same-length-2 returns-2)
+new-diagnosis-spec = tie.close (tie.spec is-well-requires same-length returns new-diagnosis-requires same-length-2 returns-2)

@@ -1,9 +1,5 @@
 -- `station::calls::octet` meets its contract.
-use mathlib.Core.Path.{refl}
-use denote.Ref.{now}
-use Rattle.state.specs.Memory.{Holds}
-use Rattle.state.specs.Unpack.{unpacked}
-use Rattle.station.proofs.Calling.{damaged, found, on-memory}
+use Rattle.station.proofs.Guarding.{damaged, found, passed}
 use borrow.Author.Needs.{needs}
 use Rattle.station.proofs.calls.octet.Statement.{statement}
 use Rattle.station.proofs.calls.octet.Tie as tie
@@ -17,18 +13,16 @@ same-length c = search needs
 returns : tie.Need-returns
 returns c = damaged _ _ _ (c .before .is-well .ensures) (c .if1 .taken)
 
--- the memory holds a state
-there : (c : tie.Else1) → Holds (now (c .before .before .before .before .args .mem)) (unpacked (now (c .before .before .before .before .args .mem)))
-there c = found _ _ (c .before .before .before .slice-known .given) (c .before .is-well .ensures) (c .if1 .left)
-
-hear-octet-requires : tie.Need-hear-octet-requires
-hear-octet-requires c κs = there (c .before)
+octet-requires : tie.Need-octet-requires
+octet-requires c κs = found _ _ (c .before .before .before .before .slice-known .given) (c .before .before .is-well .ensures) (c .before .if1 .left)
 
 same-length-2 : tie.Need-same-length-2
 same-length-2 c = search needs
 
 returns-2 : tie.Need-returns-2
-returns-2 c = on-memory _ _ _ (there (c .before .before .before .before)) _ 0 _ _ refl refl (c .before .before .hear-octet .ensures)
+returns-2 c =
+    let d = c .before .before .before .before in
+    passed _ _ _ (d .before .is-well .ensures) (d .if1 .left) (c .before .before .octet .ensures)
 
 pub octet-spec : {M : Type 1} → statement M
-octet-spec = tie.close (tie.spec is-well-requires same-length returns hear-octet-requires same-length-2 returns-2)
+octet-spec = tie.close (tie.spec is-well-requires same-length returns octet-requires same-length-2 returns-2)

@@ -7,14 +7,13 @@ use Rattle.telegram.specs.Reading.{takesData}
 use Rattle.state.specs.declared.state.Incoming.{Incoming}
 use Rattle.state.specs.Memory.{Holds}
 use Rattle.state.specs.Unpack.{unpacked}
-use Rattle.steps.proofs.Holding.{holds-long}
 use Rattle.station.proofs.OverMemory.{stored-holds, leaves-data}
 use borrow.Author.Needs.{needs}
 use Rattle.station.proofs.hearing.hear_data.Statement.{statement}
 use Rattle.station.proofs.hearing.hear_data.Tie as tie
 
 incoming-requires : tie.Need-incoming-requires
-incoming-requires c κs = holds-long _ _ (c .before .before .pre .0)
+incoming-requires c κs = c .before .before .pre .0 .long
 
 store-received-requires : tie.Need-store-received-requires
 store-received-requires c κs = c .before .before .before .before .before .pre .0

@@ -7,7 +7,6 @@ use Rattle.state.specs.declared.state.Incoming.{Incoming}
 use Rattle.state.specs.Unpack.{unpacked}
 use Rattle.steps.specs.Stepped.{packedAfter}
 use Rattle.steps.specs.Reading.{heard}
-use Rattle.steps.proofs.Holding.{holds-long}
 use borrow.Author.Needs.{needs}
 use Rattle.station.proofs.hearing.hear_octet.Statement.{statement}
 use Rattle.station.proofs.hearing.hear_octet.Tie as tie
@@ -22,7 +21,7 @@ returns : tie.Need-returns
 returns c = c .before .before .hear-other .ensures ∙ ap (λ (t : Bool). packedAfter (heard (unpacked (now (c .before .before .before .before .before .before .args .mem))) (now (c .before .before .before .before .before .before .args .mem)) (c .before .before .before .before .before .before .args .b) t)) (sym (c .before .before .before .before .if1 .taken))
 
 incoming-requires : tie.Need-incoming-requires
-incoming-requires c κs = holds-long _ _ (c .before .before .before .pre)
+incoming-requires c κs = c .before .before .before .pre .long
 
 takes-data-requires : tie.Need-takes-data-requires
 takes-data-requires c κs = search needs

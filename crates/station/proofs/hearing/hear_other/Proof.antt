@@ -1,15 +1,15 @@
 -- `station::hearing::hear_other` meets its contract.
 use denote.Ref.{now}
 use Rattle.state.specs.Unpack.{unpacked}
-use Rattle.steps.proofs.Holding.{holds-safe, holds-long}
-use Rattle.station.proofs.Calling.{holding}
+use Rattle.steps.proofs.Holding.{holds-safe}
+use Rattle.station.proofs.Stepping.{holding}
 use Rattle.station.proofs.OverMemory.{leaves-ignored, leaves-plain, leaves-other}
 use borrow.Author.Needs.{needs}
 use Rattle.station.proofs.hearing.hear_other.Statement.{statement}
 use Rattle.station.proofs.hearing.hear_other.Tie as tie
 
 incoming-requires : tie.Need-incoming-requires
-incoming-requires c κs = holds-long _ _ (c .before .before .pre)
+incoming-requires c κs = c .before .before .pre .long
 
 status-requires : tie.Need-status-requires
 status-requires c κs = search needs
@@ -45,13 +45,13 @@ status-requires-2 : tie.Need-status-requires-2
 status-requires-2 c κs = search needs
 
 unpack-requires : tie.Need-unpack-requires
-unpack-requires c κs = holds-long _ _ (c .before .before .before .before .before .before .before .before .before .before .before .before .pre)
+unpack-requires c κs = c .before .before .before .before .before .before .before .before .before .before .before .before .pre .long
 
 hear-as-requires : tie.Need-hear-as-requires
 hear-as-requires c κs = holds-safe _ _ (holding _ _ (c .before .before .before .before .before .before .before .before .before .before .before .before .before .before .pre) (c .before .unpack .ensures))
 
 save-requires : tie.Need-save-requires
-save-requires c κs = rw (c .before .before .before .hear-as .kept .1 .1 .0) (holds-long _ _ (c .before .before .before .before .before .before .before .before .before .before .before .before .before .before .before .before .before .before .pre))
+save-requires c κs = rw (c .before .before .before .hear-as .kept .1 .1 .0) (c .before .before .before .before .before .before .before .before .before .before .before .before .before .before .before .before .before .before .pre .long)
 
 same-length-3 : tie.Need-same-length-3
 same-length-3 c = search needs

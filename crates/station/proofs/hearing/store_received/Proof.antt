@@ -1,20 +1,20 @@
 -- `station::hearing::store_received` meets its contract.
 use denote.Ref.{now}
 use Rattle.state.specs.Unpack.{unpacked}
-use Rattle.steps.proofs.Holding.{holds-safe, holds-long}
+use Rattle.steps.proofs.Holding.{holds-safe}
 use Rattle.station.proofs.Receives.{outputs-room, leaves-outputs, parameters-room, leaves-parameters, configuration-room, leaves-configuration, leaves-none}
 use borrow.Author.Needs.{needs}
 use Rattle.station.proofs.hearing.store_received.Statement.{statement}
 use Rattle.station.proofs.hearing.store_received.Tie as tie
 
 setup-requires : tie.Need-setup-requires
-setup-requires c κs = holds-long _ _ (c .before .before .pre)
+setup-requires c κs = c .before .before .pre .long
 
 incoming-requires : tie.Need-incoming-requires
-incoming-requires c κs = holds-long _ _ (c .before .before .before .before .pre)
+incoming-requires c κs = c .before .before .before .before .pre .long
 
 outputs-requires : tie.Need-outputs-requires
-outputs-requires c κs = holds-long _ _ (c .before .before .before .before .before .before .before .before .pre)
+outputs-requires c κs = c .before .before .before .before .before .before .before .before .pre .long
 
 fill-requires : tie.Need-fill-requires
 fill-requires c κs = search needs
@@ -35,7 +35,7 @@ returns : tie.Need-returns
 returns c = leaves-outputs (unpacked (now (c .before .before .before .before .before .before .before .before .before .before .before .before .before .before .before .before .args .mem))) (now (c .before .before .before .before .before .before .before .before .before .before .before .before .before .before .before .before .args .mem)) (holds-safe _ _ (c .before .before .before .before .before .before .before .before .before .before .before .before .before .before .before .before .pre)) (c .before .before .before .before .before .before .before .before .before .before .before .before .before .setup .result) (c .before .before .before .before .before .before .before .before .before .before .before .before .before .setup .ensures) (c .before .before .before .before .before .before .before .before .before .before .before .incoming .result) (c .before .before .before .before .before .before .before .before .before .before .before .incoming .ensures) (c .before .before .before .before .before .before .before .outputs .result) (c .before .before .before .before .before .before .before .outputs .ensures) _ _ (c .before .before .before .before .before .before .fill .ensures) (c .before .before .before .before .before .outputs-at .ensures) _ _ _ (c .before .before .before .before .before .before .before .before .before .if1 .taken) (c .before .before .store-at .ensures)
 
 parameters-requires : tie.Need-parameters-requires
-parameters-requires c κs = holds-long _ _ (c .before .before .before .before .before .before .before .before .before .before .pre)
+parameters-requires c κs = c .before .before .before .before .before .before .before .before .before .before .pre .long
 
 fill-requires-2 : tie.Need-fill-requires-2
 fill-requires-2 c κs = search needs
@@ -56,7 +56,7 @@ returns-2 : tie.Need-returns-2
 returns-2 c = leaves-parameters (unpacked (now (c .before .before .before .before .before .before .before .before .before .before .before .before .before .before .before .before .before .before .args .mem))) (now (c .before .before .before .before .before .before .before .before .before .before .before .before .before .before .before .before .before .before .args .mem)) (holds-safe _ _ (c .before .before .before .before .before .before .before .before .before .before .before .before .before .before .before .before .before .before .pre)) (c .before .before .before .before .before .before .before .before .before .before .before .before .before .before .before .setup .result) (c .before .before .before .before .before .before .before .before .before .before .before .before .before .before .before .setup .ensures) (c .before .before .before .before .before .before .before .before .before .before .before .before .before .incoming .result) (c .before .before .before .before .before .before .before .before .before .before .before .before .before .incoming .ensures) (c .before .before .before .before .before .before .before .parameters .result) (c .before .before .before .before .before .before .before .parameters .ensures) _ _ (c .before .before .before .before .before .before .fill2 .ensures) (c .before .before .before .before .before .parameters-at .ensures) _ _ _ (c .before .before .before .before .before .before .before .before .before .before .before .if1 .left) (c .before .before .before .before .before .before .before .before .before .if2 .taken) (c .before .before .store-at2 .ensures)
 
 configuration-requires : tie.Need-configuration-requires
-configuration-requires c κs = holds-long _ _ (c .before .before .before .before .before .before .before .before .before .before .before .before .pre)
+configuration-requires c κs = c .before .before .before .before .before .before .before .before .before .before .before .before .pre .long
 
 fill-requires-3 : tie.Need-fill-requires-3
 fill-requires-3 c κs = search needs

@@ -1,11 +1,10 @@
 -- `station::replies::asked_for` meets its contract.
-use Rattle.steps.proofs.Holding.{holds-long}
 use borrow.Author.Needs.{needs}
 use Rattle.station.proofs.replies.asked_for.Statement.{statement}
 use Rattle.station.proofs.replies.asked_for.Tie as tie
 
 reply-requires : tie.Need-reply-requires
-reply-requires c κs = holds-long _ _ (c .before .pre)
+reply-requires c κs = c .before .pre .long
 
 asks-requires : tie.Need-asks-requires
 asks-requires c κs = search needs

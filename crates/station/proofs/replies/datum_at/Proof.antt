@@ -2,14 +2,13 @@
 use mathlib.Core.Path.{_∙_}
 use borrow.Author.Tests.{eq-eqb, ne-eqb}
 use Rattle.steps.specs.Replies.{datumAt}
-use Rattle.steps.proofs.Holding.{holds-long}
 use Rattle.station.proofs.Leaving.{datum-inside}
 use borrow.Author.Needs.{needs}
 use Rattle.station.proofs.replies.datum_at.Statement.{statement}
 use Rattle.station.proofs.replies.datum_at.Tie as tie
 
 reply-requires : tie.Need-reply-requires
-reply-requires c κs = holds-long _ _ (c .before .pre)
+reply-requires c κs = c .before .pre .long
 
 is-exchange-requires : tie.Need-is-exchange-requires
 is-exchange-requires c κs = search needs

@@ -1,16 +1,15 @@
 -- `station::replies::diagnosis_octet` meets its contract.
 use borrow.Author.Tests.{lt-ltb, le-ltb}
-use Rattle.steps.proofs.Holding.{holds-long}
 use Rattle.station.proofs.Leaving.{diagnosis-room}
 use borrow.Author.Needs.{needs}
 use Rattle.station.proofs.replies.diagnosis_octet.Statement.{statement}
 use Rattle.station.proofs.replies.diagnosis_octet.Tie as tie
 
 setup-requires : tie.Need-setup-requires
-setup-requires c κs = holds-long _ _ (c .before .pre)
+setup-requires c κs = c .before .pre .long
 
 reply-requires : tie.Need-reply-requires
-reply-requires c κs = holds-long _ _ (c .before .before .before .pre)
+reply-requires c κs = c .before .before .before .pre .long
 
 header-at-requires : tie.Need-header-at-requires
 header-at-requires c κs = search needs
@@ -25,7 +24,7 @@ returns c =
     )
 
 swapped-requires : tie.Need-swapped-requires
-swapped-requires c κs = holds-long _ _ (c .before .before .before .pre)
+swapped-requires c κs = c .before .before .before .pre .long
 
 own-place-requires : tie.Need-own-place-requires
 own-place-requires c κs = search needs

@@ -1,12 +1,12 @@
 -- `station::replies::get_cfg_octet` meets its contract.
 use Rattle.steps.proofs.Safety.{get-cfg-room}
-use Rattle.steps.proofs.Holding.{holds-long, holds-safe}
+use Rattle.steps.proofs.Holding.{holds-safe}
 use borrow.Author.Needs.{needs}
 use Rattle.station.proofs.replies.get_cfg_octet.Statement.{statement}
 use Rattle.station.proofs.replies.get_cfg_octet.Tie as tie
 
 setup-requires : tie.Need-setup-requires
-setup-requires c κs = holds-long _ _ (c .before .pre)
+setup-requires c κs = c .before .pre .long
 
 get-cfg-at-requires : tie.Need-get-cfg-at-requires
 get-cfg-at-requires c κs = search needs

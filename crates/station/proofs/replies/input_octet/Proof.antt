@@ -1,15 +1,14 @@
 -- `station::replies::input_octet` meets its contract.
-use Rattle.steps.proofs.Holding.{holds-long}
 use Rattle.station.proofs.Leaving.{inputs-room}
 use borrow.Author.Needs.{needs}
 use Rattle.station.proofs.replies.input_octet.Statement.{statement}
 use Rattle.station.proofs.replies.input_octet.Tie as tie
 
 setup-requires : tie.Need-setup-requires
-setup-requires c κs = holds-long _ _ (c .before .pre)
+setup-requires c κs = c .before .pre .long
 
 inputs-requires : tie.Need-inputs-requires
-inputs-requires c κs = holds-long _ _ (c .before .before .pre)
+inputs-requires c κs = c .before .before .pre .long
 
 fill-requires : tie.Need-fill-requires
 fill-requires c κs = search needs

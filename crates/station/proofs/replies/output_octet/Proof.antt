@@ -1,15 +1,14 @@
 -- `station::replies::output_octet` meets its contract.
-use Rattle.steps.proofs.Holding.{holds-long}
 use Rattle.station.proofs.Leaving.{outputs-room}
 use borrow.Author.Needs.{needs}
 use Rattle.station.proofs.replies.output_octet.Statement.{statement}
 use Rattle.station.proofs.replies.output_octet.Tie as tie
 
 setup-requires : tie.Need-setup-requires
-setup-requires c κs = holds-long _ _ (c .before .pre)
+setup-requires c κs = c .before .pre .long
 
 reply-requires : tie.Need-reply-requires
-reply-requires c κs = holds-long _ _ (c .before .before .pre)
+reply-requires c κs = c .before .before .pre .long
 
 outputs-at-requires : tie.Need-outputs-at-requires
 outputs-at-requires c κs = search needs

@@ -1,4 +1,4 @@
--- `state::start::start` meets its contract.
+-- `station::start::start` meets its contract.
 use mathlib.Core.Path.{_≡_, refl, sym, ap, _∙_}
 use mathlib.Core.Bool.{true}
 use mathlib.Core.List.{List}
@@ -6,14 +6,15 @@ use Prim.Native.Nat.{ℕ}
 use denote.Ref.{now}
 use lib.ListN.{length}
 use borrow.Author.Tests.{not-true, not-false}
 use Rattle.state.specs.declared.setup.Setup.{Setup}
 use Rattle.state.specs.declared.start.Asked.the-variants.{Accepted, Declined}
-use Rattle.state.specs.Memory.{lengthOk}
+use Rattle.steps.specs.Calls.{lengthOk}
 use Rattle.state.specs.Start.{given, asked}
-use Rattle.state.proofs.Asking.{accepts, started-short, started-declined, started-accepted}
+use Rattle.state.proofs.Asking.{accepts}
+use Rattle.steps.proofs.Guarded.{started-short, started-declined, started-accepted}
 use borrow.Author.Needs.{needs}
-use Rattle.state.proofs.start.start.Statement.{statement}
-use Rattle.state.proofs.start.start.Tie as tie
+use Rattle.station.proofs.start.start.Statement.{statement}
+use Rattle.station.proofs.start.start.Tie as tie
 
 -- the arguments
 memory : tie.After-length-ok → List ℕ
@@ -53,9 +54,9 @@ accepted : (c : tie.After-known-told) → asked (setup (c .before .before .befor
 unfolding setup slice
 accepted c = sym (c .before .before .before .setup-of .ensures) ∙ c .before .found .given .1
 
-lay-out-requires : tie.Need-lay-out-requires
+start-in-requires : tie.Need-start-in-requires
 unfolding setup slice
-lay-out-requires c κs = ap (λ (s : Setup). s .«get_cfg_len») (accepts _ _ (accepted (c .before)) .same)
+start-in-requires c κs = ap (λ (s : Setup). s .«get_cfg_len») (accepts _ _ (accepted (c .before)) .same)
 
 enum-known-found-2 : tie.Need-enum-known-found-2
 enum-known-found-2 c = search needs
@@ -68,7 +69,7 @@ unfolding memory slice setup
 returns-2 c =
     let e = c .before .before .before .before .before .before .before .before in
     let d = e .before in
-    rw (started-accepted (memory d) (setup d) (slice d) _ (ok e) (accepted (c .before .before .before .before))) (c .before .before .lay-out .ensures)
+    rw (started-accepted (memory d) (setup d) (slice d) _ (ok e) (accepted (c .before .before .before .before))) (c .before .before .start-in .ensures)
 
 -- why it was not
 declined : (c : tie.After-known-told2) → asked (setup (c .before .before .before .before .before)) ≡ Declined (c .before .found2 .given .0 .0)
@@ -91,7 +92,7 @@ start-spec =
     returns
     setup-of-requires
     enum-known-found
-    lay-out-requires
+    start-in-requires
     enum-known-found-2
     same-length
     returns-2

@@ -1,0 +1,151 @@
+-- What the conditions on the whole memory say: when a call is refused with 5, and when Start answers 0.
+use Prim.Native.Nat.{ℕ, _%_, _≤_}
+use native.Mathlib.Omega.{arith}
+use mathlib.Core.Path.{_≡_, refl, sym, ap, subst, _∙_}
+use mathlib.Core.Bool.{Bool, true, false, cond, not, _&&_}
+use mathlib.Core.List.{List, [], _∷_}
+use mir.Syntax.{w8}
+use mir.Val.{Fits}
+use lib.Dec.{eqb, ltb}
+use lib.ListN.{length, getD}
+use borrow.Author.Tests.{eqb-true, eq-eqb, ltb-false, le-ltb}
+use Rattle.state.specs.declared.answer.Answer.the-variants.{Value, Refused}
+use Rattle.state.specs.declared.answer.Refusal.{Refusal}
+use Rattle.state.specs.declared.answer.Refusal.the-variants.{MemoryLength, Room, Damaged}
+use Rattle.state.specs.declared.setup.Setup.{Setup}
+use Rattle.state.specs.declared.start.Asked.{Asked}
+use Rattle.state.specs.declared.start.Asked.the-variants.{Accepted, Declined}
+use Rattle.state.specs.declared.state.State.{State}
+use Rattle.state.specs.Answer.{Called, refused}
+use Rattle.state.specs.Layout.{endOf}
+use Rattle.state.specs.Memory.{holdsState, Holds}
+use Rattle.state.specs.Sound.{Within, Ranged}
+use Rattle.state.specs.Start.{asked, laidOut}
+use Rattle.state.specs.Unpack.{unpacked}
+use Rattle.state.specs.Well.{within}
+use Rattle.state.proofs.Asking.{accepts, ranged-asked}
+use Rattle.state.proofs.Damage.{holds-passes, passes-holds}
+use Rattle.state.proofs.Tests.{all-at, within-true, within-holds}
+use Rattle.rules.specs.Call.{Call}
+use Rattle.steps.specs.Step.{stepOver}
+use Rattle.steps.specs.Calls.{lengthOk, startedIn, startedAs, started, wellMemory, called}
+
+-- ---- the length
+
+-- 1,536 to 4,096, a multiple of 8
+pub record LengthIn (n : ℕ) : Type 0 where
+  pub within : Within 1536 n 4096
+  pub by-8 : n % 8 ≡ 0
+
+pub length-says : (n : ℕ) → lengthOk n ≡ true → LengthIn n
+unfolding lengthOk
+length-says n e =
+    let tests = within 1536 n 4096 ∷ eqb (n % 8) 0 ∷ [] in
+    record { within = within-true 1536 n 4096 (all-at tests 0 e); by-8 = eqb-true (n % 8) 0 (all-at tests 1 e) }
+
+pub length-holds : (n : ℕ) → LengthIn n → lengthOk n ≡ true
+unfolding lengthOk
+length-holds n h = λ i. within-holds 1536 n 4096 (h .within) i && eq-eqb (n % 8) 0 (h .by-8) i
+
+-- ---- a call
+
+-- a memory of that length that holds a state is well
+pub holds-well : (m : List ℕ) (s : State) → LengthIn (length m) → Holds m s → wellMemory m ≡ true
+unfolding wellMemory
+holds-well m s n h = λ i. length-holds (length m) n i && holds-passes m s h i
+
+-- a memory of octets that is well holds the state that it unpacks to
+pub well-holds : (m : List ℕ) → ((i : ℕ) → Fits w8 (getD m i 0)) → wellMemory m ≡ true → Holds m (unpacked m)
+unfolding wellMemory
+well-holds m octets e = passes-holds m (λ i. octets i .fits) (all-at (lengthOk (length m) ∷ holdsState m ∷ []) 1 e)
+
+-- a call on it makes its step
+pub called-steps : (m : List ℕ) (c : Call) → wellMemory m ≡ true → called m c ≡ stepOver m c
+unfolding called
+called-steps m c e = ap (λ (t : Bool). cond t (stepOver m c) (refused m Damaged)) e
+
+-- and on any other is refused
+pub called-damaged : (m : List ℕ) (c : Call) → wellMemory m ≡ false → called m c ≡ refused m Damaged
+unfolding called
+called-damaged m c e = ap (λ (t : Bool). cond t (stepOver m c) (refused m Damaged)) e
+
+-- ---- Start
+
+-- what Start is given keeps the rules
+pub record Begins (m : List ℕ) (s : Setup) : Type 0 where
+  pub length-in : LengthIn (length m)
+  pub ranged : Ranged s
+  pub room : endOf s ≤ length m
+
+-- what it answers and leaves then
+abbrev pub begun : List ℕ → Setup → List ℕ → Called
+begun m s slice = record { answer = Value 0; memory = laidOut m s slice }
+
+-- an answer 0 says that there is room
+laid-room : (m : List ℕ) (s : Setup) (slice : List ℕ) → startedIn m s slice .answer ≡ Value 0 → endOf s ≤ length m
+unfolding startedIn
+laid-room m s slice h = go (ltb (length m) (endOf s)) refl h
+  where
+    go : (t : Bool) → ltb (length m) (endOf s) ≡ t → cond t (refused m Room) (begun m s slice) .answer ≡ Value 0 → endOf s ≤ length m
+    go true e f = absurd (let z : _≡_ {A = ℕ} 0 1 = cc in omega arith)
+    go false e f = ltb-false (length m) (endOf s) e
+
+-- a refusal leaves the memory
+laid-same : (m : List ℕ) (s : Setup) (slice : List ℕ) (why : Refusal) → startedIn m s slice .answer ≡ Refused why → startedIn m s slice .memory ≡ m
+unfolding startedIn
+laid-same m s slice why h = go (ltb (length m) (endOf s)) h
+  where
+    go : (t : Bool) → cond t (refused m Room) (begun m s slice) .answer ≡ Refused why → cond t (refused m Room) (begun m s slice) .memory ≡ m
+    go true f = refl
+    go false f = absurd (let z : _≡_ {A = ℕ} 0 1 = cc in omega arith)
+
+module _ (m : List ℕ) (s : Setup) (slice : List ℕ) where
+  -- 1
+  pub started-short : lengthOk (length m) ≡ false → started m s slice ≡ refused m MemoryLength
+  unfolding started
+  started-short e = simp e
+
+  -- 2 and 3
+  pub started-declined : (why : Refusal) → lengthOk (length m) ≡ true → asked s ≡ Declined why → started m s slice ≡ refused m why
+  unfolding started
+  started-declined why e f = simp (e, f)
+
+  -- the rest
+  pub started-accepted : (t : Setup) → lengthOk (length m) ≡ true → asked s ≡ Accepted t → started m s slice ≡ startedIn m t slice
+  unfolding started
+  started-accepted t e f = simp (e, f)
+
+  -- an answer 0 says that the rules are kept
+  pub started-begins : started m s slice .answer ≡ Value 0 → Begins m s
+  unfolding started
+  started-begins h = go (lengthOk (length m)) refl (asked s) refl h
+    where
+      go : (p : Bool) → lengthOk (length m) ≡ p → (a : Asked) → asked s ≡ a
+          → cond (not p) (refused m MemoryLength) (startedAs m slice a) .answer ≡ Value 0 → Begins m s
+      go false e a f g = absurd (let z : _≡_ {A = ℕ} 0 1 = cc in omega arith)
+      go true e (Declined why) f g = absurd (let z : _≡_ {A = ℕ} 0 1 = cc in omega arith)
+      go true e (Accepted t) f g =
+          let a = accepts s t f in
+          record {
+            length-in = length-says (length m) e;
+            ranged = a .ranged;
+            room = subst (λ (u : Setup). endOf u ≤ length m) (a .same) (laid-room m t slice g);
+          }
+
+  -- and where they are kept it answers 0
+  pub begins-started : Begins m s → started m s slice ≡ begun m s slice
+  unfolding startedIn
+  begins-started b =
+      started-accepted s (length-holds (length m) (b .length-in)) (ranged-asked s (b .ranged))
+      ∙ ap (λ (t : Bool). cond t (refused m Room) (begun m s slice)) (le-ltb (length m) (endOf s) (b .room))
+
+  -- a refusal leaves the memory as it was
+  pub refused-same : (why : Refusal) → started m s slice .answer ≡ Refused why → started m s slice .memory ≡ m
+  unfolding started
+  refused-same why h = go (lengthOk (length m)) (asked s) h
+    where
+      go : (p : Bool) (a : Asked) → cond (not p) (refused m MemoryLength) (startedAs m slice a) .answer ≡ Refused why
+          → cond (not p) (refused m MemoryLength) (startedAs m slice a) .memory ≡ m
+      go false a f = refl
+      go true (Declined other) f = refl
+      go true (Accepted t) f = laid-same m t slice why f
