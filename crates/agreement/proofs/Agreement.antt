@@ -1,7 +1,7 @@
 -- Demand 3: for every list of calls from a freshly started station the answers over the memory are the ledger's.
-use Prim.Native.Nat.{ℕ, _<_}
+use Prim.Native.Nat.{ℕ, _≤_, _<_}
 use native.Mathlib.Omega.{arith}
-use mathlib.Core.Path.{_≡_, refl, sym, ap, _∙_}
+use mathlib.Core.Path.{_≡_, refl, sym, ap, subst, _∙_}
 use mathlib.Core.Bool.{Bool}
 use mathlib.Core.List.{List, [], _∷_, _++_}
 use lib.ListN.{length, getD}
@@ -11,10 +11,12 @@ use Rattle.state.specs.declared.setup.Setup.{Setup}
 use Rattle.state.specs.declared.state.State.{State}
 use Rattle.state.specs.Answer.{Called}
 use Rattle.state.specs.Memory.{Holds, kept}
-use Rattle.state.specs.Start.{initialState}
+use Rattle.state.specs.Layout.{stateLength}
+use Rattle.state.specs.Start.{initialState, laidOut}
 use Rattle.steps.specs.Calls.{started}
 use Rattle.state.proofs.Damage.{kept-holds}
-use Rattle.state.proofs.Started.{after-holds}
+use Rattle.state.proofs.Front.{kept-length}
+use Rattle.state.proofs.LaidOut.{laid-holds, laid-length}
 use Rattle.ledger.specs.Ledger.{Ledger, fresh}
 use Rattle.ledger.specs.Calls as ledger
 use Rattle.rules.specs.Call.{Call, octet, read}
@@ -26,16 +28,17 @@ use Rattle.ledger.proofs.Exchange.{exchange}
 use Rattle.ledger.proofs.Fit.{step-fit, replies-read}
 use Rattle.ledger.proofs.History.{outputs-read}
 use Rattle.steps.specs.User.{Told}
-use Rattle.steps.specs.Step.{step}
+use Rattle.steps.specs.Step.{step, stepOver}
 use Rattle.steps.specs.Calls.{called, answers}
 use Rattle.agreement.specs.Agreement.{memoryOf, PlacesChanged, Agreement}
 use Rattle.agreement.proofs.Steady.{Related}
 use Rattle.agreement.proofs.Follows.{Follows}
 use Rattle.agreement.proofs.Facts.{Ranges}
-use Rattle.agreement.proofs.Begins.{start-ranges}
-use Rattle.agreement.proofs.OctetSend.{all-follow, start-related}
+use Rattle.agreement.proofs.Begins.{start-related}
+use Rattle.agreement.proofs.OctetSend.{all-follow}
 use Rattle.agreement.proofs.Packed.{kept-agrees, agrees-sound}
-use Rattle.steps.proofs.Holding.{called-whole}
+use Rattle.steps.proofs.Holding.{step-whole}
+use Rattle.steps.proofs.Guarded.{LengthIn, holds-well, called-steps, Begins, started-begins, begins-started}
 use Rattle.steps.proofs.Lengths.{step-length}
 
 -- the memory m holds the state s, which the ledger l is about
@@ -44,11 +47,12 @@ pub record On (m : List ℕ) (s : State) (l : Ledger) : Type 0 where
   pub related : Related s m l
   pub fit : Fit l
 
--- what a call over the memory does
+-- what a call's step over the memory does
 pub record Does (m : List ℕ) (l : Ledger) (c : Call) : Type 0 where
   pub memory-after : List ℕ
   pub state-after : State
-  pub tells : called m c ≡ record { answer = ledger.step l c .answer; memory = memory-after }
+  pub tells : stepOver m c ≡ record { answer = ledger.step l c .answer; memory = memory-after }
+  pub same-length : length memory-after ≡ length m
   pub again : On memory-after state-after (ledger.step l c .ledger)
 
 fit-ranges : {l : Ledger} → Fit l → Ranges (l .setup)
@@ -72,16 +76,21 @@ module _ (m : List ℕ) (s : State) (l : Ledger) (o : On m s l) (c : Call) where
   after-fit : Fit (ledger.step l c .ledger)
   after-fit = step-fit l c (o .fit)
 
+  after-length : length (t .memory) ≡ length m
+  unfolding t
+  after-length = step-length s m (o .related .agrees .safe) c
+
+  long : stateLength ≤ length (t .memory)
+  long = rw after-length (o .holds .long)
+
   -- the state is packed in front again
   packs : On (kept (t .state) (t .memory)) (t .state) (ledger.step l c .ledger)
   unfolding t
   packs =
-      let e = step-length s m (o .related .agrees .safe) c in
-      let h = o .holds in
       let r = follow .again in
       record {
-        holds = kept-holds (t .state) (t .memory) (rw e (h .length-in)) (rw e (h .length-by-8)) (agrees-sound (r .agrees) after-fit) (r .agrees .safe .room);
-        related = record { agrees = kept-agrees (rw e (let w = h .length-in in omega arith)) (r .agrees); steady = r .steady; reply-steady = r .reply-steady };
+        holds = kept-holds (t .state) (t .memory) (agrees-sound (r .agrees) after-fit) (r .agrees .safe .room);
+        related = record { agrees = kept-agrees long (r .agrees); steady = r .steady; reply-steady = r .reply-steady };
         fit = after-fit;
       }
 
@@ -90,43 +99,74 @@ module _ (m : List ℕ) (s : State) (l : Ledger) (o : On m s l) (c : Call) where
   does = record {
     memory-after = kept (t .state) (t .memory);
     state-after = t .state;
-    tells = called-whole m s c (o .holds) ∙ ap (λ (a : Answer). record { answer = a; memory = kept (t .state) (t .memory) }) (follow .matches .answers);
+    tells = step-whole m s c (o .holds) ∙ ap (λ (a : Answer). record { answer = a; memory = kept (t .state) (t .memory) }) (follow .matches .answers);
+    same-length = kept-length (t .state) (t .memory) long ∙ after-length;
     again = packs;
   }
 
+-- ---- the one lent memory
+
+-- a memory of the right length that is so
+pub record Ready (m : List ℕ) (s : State) (l : Ledger) : Type 0 where
+  pub length-in : LengthIn (length m)
+  pub on : On m s l
+
+module _ (m : List ℕ) (s : State) (l : Ledger) (r : Ready m s l) (c : Call) where
+  abbrev d : Does m l c
+  d = does m s l (r .on) c
+
+  -- a call passes the check and makes its step
+  pub calls-of : called m c ≡ record { answer = ledger.step l c .answer; memory = d .memory-after }
+  calls-of = called-steps m c (holds-well m s (r .length-in) (r .on .holds)) ∙ d .tells
+
+  pub ready-again : Ready (d .memory-after) (d .state-after) (ledger.step l c .ledger)
+  ready-again = record { length-in = rw (d .same-length) (r .length-in); on = d .again }
+
 -- over a list of calls
-agrees-on : (cs : List Call) (m : List ℕ) (s : State) (l : Ledger) → On m s l → answers m cs ≡ ledger.answers l cs
-agrees-on [] m s l o = refl
-agrees-on (c ∷ cs) m s l o =
-    let d = does m s l o c in
-    ap (λ (x : Called). x .answer ∷ answers (x .memory) cs) (d .tells)
-    ∙ ap (λ (xs : List Answer). ledger.step l c .answer ∷ xs) (agrees-on cs (d .memory-after) (d .state-after) (ledger.step l c .ledger) (d .again))
+agrees-on : (cs : List Call) (m : List ℕ) (s : State) (l : Ledger) → Ready m s l → answers m cs ≡ ledger.answers l cs
+agrees-on [] m s l r = refl
+agrees-on (c ∷ cs) m s l r =
+    let d = does m s l (r .on) c in
+    ap (λ (x : Called). x .answer ∷ answers (x .memory) cs) (calls-of m s l r c)
+    ∙ ap (λ (xs : List Answer). ledger.step l c .answer ∷ xs) (agrees-on cs (d .memory-after) (d .state-after) (ledger.step l c .ledger) (ready-again m s l r c))
 
 module _ (m : List ℕ) (s : Setup) (slice : List ℕ) (long : s .«get_cfg_len» ≡ length slice) (zero : started m s slice .answer ≡ Value 0) where
+  begins : Begins m s
+  begins = started-begins m s slice zero
+
+  left-is : memoryOf m s slice ≡ laidOut m s slice
+  left-is = ap (λ (c : Called). c .memory) (begins-started m s slice begins)
+
   accepted : Accepted s slice
   accepted =
-      let r = start-ranges m s slice long zero in
+      let r = begins .ranged in
       record {
         address = r .address;
-        outputs = r .outputs;
-        inputs = r .inputs;
-        parameters = r .parameters;
-        configuration = r .configuration;
-        diagnosis = r .diagnosis;
-        get-cfg = r .get-cfg;
+        outputs = r .output-len;
+        inputs = r .input-len;
+        parameters = r .parameter-len;
+        configuration = r .configuration-len;
+        diagnosis = r .diagnosis-len;
+        get-cfg = r .get-cfg-len;
         slice-is = sym long;
       }
 
   -- a freshly started station
-  pub begins-on : On (memoryOf m s slice) (initialState s) (fresh s slice)
-  begins-on = record {
-    holds = after-holds m s slice long zero;
-    related = start-related m s slice long zero;
-    fit = replies-read s slice [] accepted .fit;
-  }
+  pub begins-ready : Ready (memoryOf m s slice) (initialState s) (fresh s slice)
+  begins-ready =
+      let b = begins in
+      subst (λ (x : List ℕ). Ready x (initialState s) (fresh s slice)) (sym left-is)
+      (record {
+        length-in = rw (laid-length m s slice long (b .room)) (b .length-in);
+        on = record {
+          holds = laid-holds m s slice long (b .room) (b .ranged);
+          related = start-related m s slice long (b .room) (b .ranged);
+          fit = replies-read s slice [] accepted .fit;
+        };
+      })
 
   agree : (cs : List Call) → answers (memoryOf m s slice) cs ≡ ledger.answers (fresh s slice) cs
-  agree cs = agrees-on cs (memoryOf m s slice) (initialState s) (fresh s slice) begins-on
+  agree cs = agrees-on cs (memoryOf m s slice) (initialState s) (fresh s slice) begins-ready
 
   -- what the ledger says of changed places holds of the memory
   places : (pre post : List Call) (b : ℕ) (bad : Bool) (c : Call) → Exchanged (fresh s slice) pre post b bad c

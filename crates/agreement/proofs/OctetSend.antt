@@ -1,24 +1,17 @@
--- The calls octet and send match, and what is known between two calls holds of the first state.
+-- The calls octet and send match.
 use Prim.Native.Nat.{ℕ}
 use mathlib.Core.Path.{_≡_, refl, ap}
 use mathlib.Core.Bool.{Bool}
 use mathlib.Core.List.{List}
-use lib.ListN.{length}
-use Rattle.telegram.proofs.Run.{no-true}
 use Rattle.state.specs.declared.answer.Answer.the-variants.{Value}
-use Rattle.state.specs.declared.setup.Setup.{Setup}
 use Rattle.state.specs.declared.state.State.{State}
-use Rattle.state.specs.Start.{initialState}
-use Rattle.steps.specs.Calls.{started}
-use Rattle.ledger.specs.Ledger.{Ledger, fresh}
+use Rattle.ledger.specs.Ledger.{Ledger}
 use Rattle.ledger.specs.Calls as ledger-calls
 use Rattle.rules.specs.Call.{Call, octet, send}
 use Rattle.steps.specs.Step.{step}
-use Rattle.agreement.proofs.Steady.{ReplySteady, Related}
+use Rattle.agreement.proofs.Steady.{Related}
 use Rattle.agreement.proofs.Matches.{Matches}
-use Rattle.agreement.proofs.StaysSteady.{fresh-steady}
 use Rattle.agreement.proofs.Facts.{Ranges, steady-needed}
-use Rattle.agreement.proofs.Begins.{start-agrees, start-ranges}
 use Rattle.agreement.proofs.SendStep.{send-told, send-agrees}
 use Rattle.agreement.proofs.Hears.{heard-agrees}
 use Rattle.agreement.proofs.KeepsOctet.{octet-keeps, send-keeps}
@@ -37,11 +30,3 @@ module _ {s : State} {m : List ℕ} {l : Ledger} (r : Related s m l) where
   pub all-follow : Ranges (l .setup) → (c : Call) → Follows s m l c
   all-follow w c =
       follows r c (λ b bad _. (sim-octet w b bad, octet-keeps s m (r .reply-steady) b bad)) (λ _. (sim-send, send-keeps s m (r .reply-steady)))
-
-module _ (m : List ℕ) (s : Setup) (slice : List ℕ) (long : s .«get_cfg_len» ≡ length slice) (zero : started m s slice .answer ≡ Value 0) where
-  no-reply : ReplySteady (initialState s)
-  unfolding initialState
-  no-reply w h = no-true h
-
-  pub start-related : Related (initialState s) (started m s slice .memory) (fresh s slice)
-  start-related = record { agrees = start-agrees m s slice long zero; steady = fresh-steady s slice (start-ranges m s slice long zero .diagnosis .0); reply-steady = no-reply }

@@ -124,13 +124,15 @@ agrees-sound {s} {m} {l} a f =
     let g = a .setup in
     let c = a .control in
     record {
-      address = rw g (f .accepted .address);
-      output-len = rw g (f .accepted .outputs);
-      input-len = rw g (f .accepted .inputs);
-      parameter-len = rw g (f .accepted .parameters);
-      configuration-len = rw g (f .accepted .configuration);
-      diagnosis-len = rw g (f .accepted .diagnosis);
-      get-cfg-len = rw g (f .accepted .get-cfg);
+      setup = rw g (record {
+        address = f .accepted .address;
+        output-len = f .accepted .outputs;
+        input-len = f .accepted .inputs;
+        parameter-len = f .accepted .parameters;
+        configuration-len = f .accepted .configuration;
+        diagnosis-len = f .accepted .diagnosis;
+        get-cfg-len = f .accepted .get-cfg;
+      });
       outputs = a .safe .outputs;
       inputs = a .safe .inputs;
       parameters = a .safe .parameters;

@@ -25,7 +25,7 @@ pub extern "C" fn dp_start(
 ) -> i64
     ensures { λ r. ⌜ Returns (started (now (memory .entry)) (given address ident «output_len» «input_len» «parameter_len» «configuration_len» «diagnosis_len» (length (now («get_cfg» .entry)))) (now («get_cfg» .entry))) r (now (memory .exit)) ⌝ }
 {
-    let answer = state::start::start(
+    let answer = station::start::start(
         memory,
         address,
         ident,

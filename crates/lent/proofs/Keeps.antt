@@ -91,13 +91,7 @@ sound-carried s m o count safe h w =
     let n : Setup = s .setup in
     let g = safe-carried s m o count safe in
     record {
-      address = h .address;
-      output-len = h .output-len;
-      input-len = h .input-len;
-      parameter-len = h .parameter-len;
-      configuration-len = h .configuration-len;
-      diagnosis-len = h .diagnosis-len;
-      get-cfg-len = h .get-cfg-len;
+      setup = h .setup;
       outputs = g .outputs;
       inputs = g .inputs;
       parameters = g .parameters;
@@ -126,13 +120,7 @@ sound-with : (s : State) (c : Control) (swapped : Bool) (i : Incoming) (r : Repl
     → r .place ≤ 2
     → Sound (record { setup = s .setup; control = c; outputs = s .outputs; inputs = s .inputs; parameters = s .parameters; configuration = s .configuration; swapped = swapped; incoming = i; reply = r })
 sound-with s c swapped i r h d p = record {
-  address = h .address;
-  output-len = h .output-len;
-  input-len = h .input-len;
-  parameter-len = h .parameter-len;
-  configuration-len = h .configuration-len;
-  diagnosis-len = h .diagnosis-len;
-  get-cfg-len = h .get-cfg-len;
+  setup = h .setup;
   outputs = h .outputs;
   inputs = h .inputs;
   parameters = h .parameters;

@@ -17,7 +17,7 @@ use Rattle.state.specs.Start.{initialState}
 use Rattle.steps.specs.Calls.{started}
 use Rattle.state.specs.Unpack.{unpacked}
 use Rattle.state.proofs.Damage.{holds-unpacked, kept-holds}
-use Rattle.state.proofs.Front.{kept-drop}
+use Rattle.state.proofs.Front.{kept-drop, kept-length}
 use Rattle.ledger.specs.Ledger.{Ledger, fresh}
 use Rattle.rules.specs.Call as call
 use Rattle.ledger.specs.Calls as ledger
@@ -25,13 +25,14 @@ use Rattle.rules.specs.Call.{Call}
 use Rattle.ledger.specs.Calls.{after}
 use Rattle.ledger.proofs.Runs as ledger-runs
 use Rattle.steps.specs.Safe.{Safe}
-use Rattle.steps.specs.Step.{step}
+use Rattle.steps.specs.Step.{stepOver}
 use Rattle.steps.specs.Calls.{called, answers}
 use Rattle.agreement.specs.Agreement.{memoryOf}
 use Rattle.steps.proofs.Safety.{safe-heard, safe-paused, safe-elapsed}
 use Rattle.steps.proofs.Lengths.{step-length}
-use Rattle.steps.proofs.Holding.{holds-safe, fronted, called-whole}
-use Rattle.agreement.proofs.Agreement.{On, does, begins-on, agreement}
+use Rattle.steps.proofs.Holding.{holds-safe, fronted, step-whole}
+use Rattle.steps.proofs.Guarded.{LengthIn, holds-well, called-steps}
+use Rattle.agreement.proofs.Agreement.{Ready, does, calls-of, ready-again, begins-ready, agreement}
 use Rattle.lent.specs.Run.{Beat, octet, gap, tick, beat, run, callOf, calls, left, Same, CarriesOver}
 use Rattle.lent.proofs.Behind.{behind, alike-beat}
 use Rattle.lent.proofs.Keeps.{sound-beat}
@@ -54,24 +55,26 @@ beat-length s m h gap = step-length s m h call.gap
 beat-length s m h tick = step-length s m h call.tick
 
 -- a call over a memory that holds s
-calls-beat : (p : List ℕ) (s : State) → Holds p s → (x : Beat)
+calls-beat : (p : List ℕ) (s : State) → LengthIn (length p) → Holds p s → (x : Beat)
     → called p (callOf x) ≡ record { answer = Value 0; memory = kept (beat s p x .state) (beat s p x .memory) }
-calls-beat p s h (octet b bad) = called-whole p s (call.octet b bad) h
-calls-beat p s h gap = called-whole p s call.gap h
-calls-beat p s h tick = called-whole p s call.tick h
+calls-beat p s n h x = called-steps p (callOf x) (holds-well p s n h) ∙ steps x
+  where
+    steps : (x : Beat) → stepOver p (callOf x) ≡ record { answer = Value 0; memory = kept (beat s p x .state) (beat s p x .memory) }
+    steps (octet b bad) = step-whole p s (call.octet b bad) h
+    steps gap = step-whole p s call.gap h
+    steps tick = step-whole p s call.tick h
 
 -- and the memory that it leaves holds the state after it
 holds-beat : (p : List ℕ) (s : State) → Holds p s → (x : Beat) → Holds (kept (beat s p x .state) (beat s p x .memory)) (beat s p x .state)
 holds-beat p s h x =
     let safe = holds-safe p s h in
-    let e = beat-length s p safe x in
-    kept-holds (beat s p x .state) (beat s p x .memory) (rw e (h .length-in)) (rw e (h .length-by-8)) (sound-beat s p safe (h .sound) x)
-    (safe-beat s p safe x .room)
+    kept-holds (beat s p x .state) (beat s p x .memory) (sound-beat s p safe (h .sound) x) (safe-beat s p safe x .room)
 
 -- ---- all of them
 
 -- p holds the state that the run is at, and agrees behind it with the run's memory
 record Beside (p : List ℕ) (s : State) (m : List ℕ) : Type 0 where
+  length-in : LengthIn (length p)
   holds : Holds p s
   safe : Safe s m
   bodies : behind p ≡ behind m
@@ -79,8 +82,11 @@ record Beside (p : List ℕ) (s : State) (m : List ℕ) : Type 0 where
 beside-beat : (p : List ℕ) (s : State) (m : List ℕ) → Beside p s m → (x : Beat)
     → Beside (kept (beat s p x .state) (beat s p x .memory)) (beat s m x .state) (beat s m x .memory)
 beside-beat p s m b x =
-    let a = alike-beat s p m (holds-safe p s (b .holds)) (b .safe) (b .bodies) x in
+    let safe = holds-safe p s (b .holds) in
+    let a = alike-beat s p m safe (b .safe) (b .bodies) x in
+    let e = beat-length s p safe x in
     record {
+      length-in = rw (kept-length (beat s p x .state) (beat s p x .memory) (rw e (b .holds .long)), e) (b .length-in);
       holds = subst (Holds (kept (beat s p x .state) (beat s p x .memory))) (a .states) (holds-beat p s (b .holds) x);
       safe = safe-beat s m (b .safe) x;
       bodies = kept-drop (beat s p x .state) (beat s p x .memory) stateLength (omega arith) ∙ a .bodies;
@@ -102,7 +108,7 @@ ends [] p s m b = record {
   holds-still = subst (λ (l : List ℕ). Holds l s) (sym (packs p s m b)) (b .holds);
 }
 ends (x ∷ bs) p s m b =
-    let e = calls-beat p s (b .holds) x in
+    let e = calls-beat p s (b .length-in) (b .holds) x in
     let r = ends bs (kept (beat s p x .state) (beat s p x .memory)) (beat s m x .state) (beat s m x .memory) (beside-beat p s m b x) in
     record {
       image-is = r .image-is ∙ ap (λ (c : Called). left (c .memory) (calls bs)) (sym e);
@@ -113,25 +119,25 @@ ends (x ∷ bs) p s m b =
     }
 
 -- for every memory that holds a state
-pub lent-same : (m : List ℕ) (s : State) → Holds m s → (bs : List Beat) → Same m bs
-lent-same m s h bs =
+pub lent-same : (m : List ℕ) (s : State) → LengthIn (length m) → Holds m s → (bs : List Beat) → Same m bs
+lent-same m s n h bs =
     let g : Holds m (unpacked m) = subst (Holds m) (sym (holds-unpacked m s h)) h in
-    let r = ends bs m (unpacked m) m (record { holds = g; safe = holds-safe m (unpacked m) g; bodies = refl }) in
+    let r = ends bs m (unpacked m) m (record { length-in = n; holds = g; safe = holds-safe m (unpacked m) g; bodies = refl }) in
     record { image-is = r .image-is; answers-are = r .answers-are; holds-still = r .holds-still }
 
 -- and with that state named
-pub lent-image : (m : List ℕ) (s : State) → Holds m s → (bs : List Beat) → kept (run s m bs .state) (run s m bs .memory) ≡ left m (calls bs)
-lent-image m s h bs = ends bs m s m (record { holds = h; safe = holds-safe m s h; bodies = refl }) .image-is
+pub lent-image : (m : List ℕ) (s : State) → LengthIn (length m) → Holds m s → (bs : List Beat) → kept (run s m bs .state) (run s m bs .memory) ≡ left m (calls bs)
+lent-image m s n h bs = ends bs m s m (record { length-in = n; holds = h; safe = holds-safe m s h; bodies = refl }) .image-is
 
 -- ---- from a freshly started station
 
 -- after any calls the memory holds a state that the ledger is about
-reach : (cs : List Call) (m : List ℕ) (s : State) (l : Ledger) → On m s l → (x : State) × On (left m cs) x (after l cs)
-reach [] m s l o = (s, o)
-reach (c ∷ cs) m s l o =
-    let d = does m s l o c in
-    subst (λ (p : List ℕ). (x : State) × On (left p cs) x (after (ledger.step l c .ledger) cs)) (sym (ap (λ (r : Called). r .memory) (d .tells)))
-    (reach cs (d .memory-after) (d .state-after) (ledger.step l c .ledger) (d .again))
+reach : (cs : List Call) (m : List ℕ) (s : State) (l : Ledger) → Ready m s l → (x : State) × Ready (left m cs) x (after l cs)
+reach [] m s l r = (s, r)
+reach (c ∷ cs) m s l r =
+    let d = does m s l (r .on) c in
+    subst (λ (p : List ℕ). (x : State) × Ready (left p cs) x (after (ledger.step l c .ledger) cs)) (sym (ap (λ (x : Called). x .memory) (calls-of m s l r c)))
+    (reach cs (d .memory-after) (d .state-after) (ledger.step l c .ledger) (ready-again m s l r c))
 
 -- what a list of calls leaves and answers, by its parts
 left-append : (xs ys : List Call) (m : List ℕ) → left m (xs ++ ys) ≡ left (left m xs) ys
@@ -157,8 +163,8 @@ module _ (m : List ℕ) (s : Setup) (slice : List ℕ) (long : s .«get_cfg_len�
 
   same : (pre : List Call) (bs : List Beat) → Same (left (memoryOf m s slice) pre) bs
   same pre bs =
-      let r = reach pre (memoryOf m s slice) (initialState s) (fresh s slice) (begins-on m s slice long zero) in
-      lent-same (left (memoryOf m s slice) pre) (r .0) (r .1 .holds) bs
+      let r = reach pre (memoryOf m s slice) (initialState s) (fresh s slice) (begins-ready m s slice long zero) in
+      lent-same (left (memoryOf m s slice) pre) (r .0) (r .1 .length-in) (r .1 .on .holds) bs
 
   pub carries-over : CarriesOver m s slice
   carries-over = record {

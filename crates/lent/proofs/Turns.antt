@@ -1,22 +1,20 @@
 -- Steps in a row are one run, and a run on the state that a memory holds, packed again, is what the exported calls leave.
 use Prim.Native.Nat.{ℕ}
 use mathlib.Core.Path.{_≡_, refl, sym, ap, _∙_}
-use mathlib.Core.Bool.{Bool, true, false, cond, not}
+use mathlib.Core.Bool.{Bool, true, false, not}
+use lib.ListN.{length}
 use mathlib.Core.List.{List, [], _∷_, _++_}
 use borrow.Author.Tests.{not-true, not-false}
-use Rattle.state.specs.declared.answer.Refusal.the-variants.{Damaged}
 use Rattle.state.specs.declared.state.State.{State}
-use Rattle.state.specs.Answer.{refused}
+use Rattle.state.specs.Answer.{Called}
 use Rattle.state.specs.Memory.{kept, Holds}
 use Rattle.steps.specs.Calls.{wellMemory}
-use Rattle.state.specs.Unpack.{unpacked}
 use Rattle.rules.specs.Call.{Call}
 use Rattle.steps.specs.Safe.{Safe}
 use Rattle.steps.specs.Stepped.{Stepped, Steps}
 use Rattle.steps.specs.Bus.{paused}
-use Rattle.steps.specs.Step.{step, packed}
-use Rattle.steps.specs.Calls.{called}
 use Rattle.steps.proofs.Safety.{safe-steps}
+use Rattle.steps.proofs.Guarded.{LengthIn, called-damaged}
 use Rattle.lent.specs.Run.{Beat, gap, run, calls, left}
 use Rattle.lent.proofs.Partly.{run-append}
 use Rattle.lent.proofs.Same.{safe-run, lent-image}
@@ -33,16 +31,14 @@ in-turn s m xs ys t zs r ws e f =
     record { states = f .states ∙ ap (λ (q : Stepped). q .state) p; leaves = f .leaves ∙ ap (λ (q : Stepped). q .memory) p }
 
 -- packed where it ends
-pub packed-again : (m : List ℕ) (s : State) (bs : List Beat) (t : State) (zs out : List ℕ) → Holds m s → Steps (run s m bs) t zs → out ≡ kept t zs
+pub packed-again : (m : List ℕ) (s : State) (bs : List Beat) (t : State) (zs out : List ℕ) → LengthIn (length m) → Holds m s → Steps (run s m bs) t zs → out ≡ kept t zs
     → out ≡ left m (calls bs)
-packed-again m s bs t zs out h e k = k ∙ (λ i. kept (e .states i) (e .leaves i)) ∙ lent-image m s h bs
+packed-again m s bs t zs out n h e k = k ∙ (λ i. kept (e .states i) (e .leaves i)) ∙ lent-image m s n h bs
 
 -- a memory that holds no state is left as it is
 left-damaged : (cs : List Call) (m : List ℕ) → wellMemory m ≡ false → m ≡ left m cs
-unfolding called
 left-damaged [] m e = refl
-left-damaged (c ∷ cs) m e =
-    left-damaged cs m e ∙ (λ i. left (cond (sym e i) (packed m (step (unpacked m) m c)) (refused m Damaged) .memory) cs)
+left-damaged (c ∷ cs) m e = left-damaged cs m e ∙ ap (λ (r : Called). left (r .memory) cs) (sym (called-damaged m c e))
 
 pub none-found : (m : List ℕ) (r : Bool) (cs : List Call) → r ≡ wellMemory m → not r ≡ true → (false ≡ wellMemory m) × (m ≡ left m cs)
 none-found m r cs tells e =

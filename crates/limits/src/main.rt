@@ -9,7 +9,7 @@ use state::control::Phase;
 use state::control::Watchdog;
 use state::image::save;
 use state::load::unpack;
-use state::memory::is_well;
+use state::memory::holds_state;
 use state::setup::Setup;
 use state::state::Drawn;
 use state::state::Header;
@@ -193,7 +193,7 @@ fn changed(at: usize, octet: u8) {
     let mut mem = [0u8; 4096];
     save(most(), &mut mem);
     octets::store(&mut mem, at, octet);
-    print_well(is_well(&mem));
+    print_well(holds_state(&mem));
 }
 
 fn main() {

@@ -3,7 +3,7 @@ use crate::call::Said;
 use crate::text;
 use crate::text::Span;
 use state::answer::Answer;
-use state::start::start;
+use station::start::start;
 
 // A number of the line, and where it ends.
 struct Field {

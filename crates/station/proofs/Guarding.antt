@@ -5,7 +5,7 @@ use mathlib.Core.Bool.{Bool, true, false, not}
 use mathlib.Core.List.{List}
 use mir.Syntax.{w8}
 use mir.Val.{Fits}
-use lib.ListN.{getD}
+use lib.ListN.{length, getD}
 use borrow.Author.Tests.{not-true, not-false}
 use Rattle.state.specs.declared.answer.Answer.{Answer}
 use Rattle.state.specs.declared.answer.Answer.the-variants.{Refused}
@@ -16,12 +16,15 @@ use Rattle.state.specs.Unpack.{unpacked}
 use Rattle.rules.specs.Call.{Call}
 use Rattle.steps.specs.Step.{stepOver}
 use Rattle.steps.specs.Calls.{wellMemory, called}
-use Rattle.steps.proofs.Guarded.{well-holds, called-steps, called-damaged}
+use Rattle.steps.proofs.Guarded.{LengthIn, well-length, well-holds, called-steps, called-damaged}
 
 -- r is what the check told of m
 module _ (m : List ℕ) (r : Bool) where
   pub found : ((i : ℕ) → Fits w8 (getD m i 0)) → r ≡ wellMemory m → not r ≡ false → Holds m (unpacked m)
   found octets tells e = well-holds m octets (sym tells ∙ not-false r e)
+
+  pub found-length : r ≡ wellMemory m → not r ≡ false → LengthIn (length m)
+  found-length tells e = well-length m (sym tells ∙ not-false r e)
 
   module _ (c : Call) where
     pub damaged : r ≡ wellMemory m → not r ≡ true → Meets (called m c) (Refused Damaged) m

@@ -54,7 +54,12 @@ pub holds-well : (m : List ℕ) (s : State) → LengthIn (length m) → Holds m 
 unfolding wellMemory
 holds-well m s n h = λ i. length-holds (length m) n i && holds-passes m s h i
 
--- a memory of octets that is well holds the state that it unpacks to
+-- a memory that is well has that length
+pub well-length : (m : List ℕ) → wellMemory m ≡ true → LengthIn (length m)
+unfolding wellMemory
+well-length m e = length-says (length m) (all-at (lengthOk (length m) ∷ holdsState m ∷ []) 0 e)
+
+-- and, being of octets, holds the state that it unpacks to
 pub well-holds : (m : List ℕ) → ((i : ℕ) → Fits w8 (getD m i 0)) → wellMemory m ≡ true → Holds m (unpacked m)
 unfolding wellMemory
 well-holds m octets e = passes-holds m (λ i. octets i .fits) (all-at (lengthOk (length m) ∷ holdsState m ∷ []) 1 e)

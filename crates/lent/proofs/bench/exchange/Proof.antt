@@ -5,7 +5,8 @@ use borrow.Author.Needs.{needs}
 use Rattle.state.specs.Memory.{Holds}
 use Rattle.state.specs.Unpack.{unpacked}
 use Rattle.steps.proofs.Holding.{holds-safe}
-use Rattle.station.proofs.Calling.{found, holding}
+use Rattle.station.proofs.Guarding.{found, found-length}
+use Rattle.station.proofs.Stepping.{holding}
 use Rattle.lent.specs.Run.{Beat, turn, calls}
 use Rattle.lent.proofs.Behind.{safe-long}
 use Rattle.lent.proofs.Turns.{safe-after, in-turn, packed-again, none-found, one-found}
@@ -37,7 +38,7 @@ two : (c : tie.Else1) → List Beat
 two c = turn (now (c .before .before .before .before .before .before .args .second)) (c .before .before .before .before .before .before .args .count)
 
 unpack-requires : tie.Need-unpack-requires
-unpack-requires c κs = holds-long _ _ (there (c .before))
+unpack-requires c κs = there (c .before) .long
 
 take-turn-requires : tie.Need-take-turn-requires
 take-turn-requires c κs = holds-safe _ _ (holding _ _ (there (c .before .before .before)) (c .before .unpack .ensures))
@@ -73,7 +74,7 @@ returns-2 c =
     let loaded = held .before .before in
     let start = loaded .before .before in (
       one-found _ _ (start .before .is-well .ensures) (start .if1 .left),
-      packed-again _ _ (one start ++ two start) _ _ _ (holding _ _ (there start) (loaded .unpack .ensures))
+      packed-again _ _ (one start ++ two start) _ _ _ (found-length _ _ (start .before .is-well .ensures) (start .if1 .left)) (holding _ _ (there start) (loaded .unpack .ensures))
           (in-turn _ _ (one start) (two start) _ _ _ _ (held .take-turn .ensures) (ended .take-turn2 .ensures))
           (c .before .before .save .ensures),
     )
