@@ -1,17 +1,16 @@
 -- Lists written down with their answers, computed by whole telegrams: the octets of one that comes after a gap are not computed one by one.
 use Prim.Native.Nat.{ℕ}
 use mathlib.Core.Path.{_≡_, refl, sym, ap, _∙_}
-use mathlib.Core.Bool.{Bool, true, false, cond, not, _&&_}
+use mathlib.Core.Bool.{Bool, true, false, not, _&&_}
 use mathlib.Core.List.{List, [], _∷_, _++_}
 use lib.ListN.{length, replicate}
 use borrow.Author.Tests.{not-true}
 use Rattle.state.specs.declared.answer.Answer.{Answer}
 use Rattle.state.specs.declared.answer.Answer.the-variants.{Value}
-use Rattle.telegram.specs.declared.reader.Reader.{Reader}
 use Rattle.telegram.specs.declared.reader.Status.{Status}
 use Rattle.telegram.specs.declared.reader.Status.the-variants.{Fresh, Inside, Complete, Broken}
 use Rattle.telegram.specs.Telegram.{Telegram, kindOf, IsTelegram}
-use Rattle.telegram.specs.Reading.{start, step as reads, run, status, takesData, gathered, telegramOf}
+use Rattle.telegram.specs.Reading.{run, status}
 use Rattle.telegram.specs.Sending.{startOctet}
 use Rattle.telegram.proofs.Run.{no-true}
 use Rattle.telegram.proofs.Framing.{framing, told}
@@ -40,13 +39,8 @@ atOnce l xs = not (l .line .ignored) && not (begun l) && complete (status (run x
 abbrev heardWhole : Ledger → Telegram → Ledger
 heardWhole l t = settle (completed (begunBy l (startOctet (kindOf t))) t)
 
--- the data octets, those that follow computed once
-abbrev picked : Reader → List ℕ → List ℕ
-picked r [] = []
-picked r (b ∷ bs) = let ds = picked (reads r b) bs in cond (takesData r) (b ∷ ds) ds
-
 abbrev heardBy : Bool → Ledger → List ℕ → Ledger
-heardBy true l xs = heardWhole l (telegramOf (run xs) (picked start xs))
+heardBy true l xs = heardWhole l (telegramOn xs)
 heardBy false l xs = after l (hear xs)
 
 -- the answers, by whole telegrams
@@ -67,10 +61,6 @@ none : (xs : List ℕ) → some xs ≡ false → xs ≡ []
 none [] e = refl
 none (x ∷ xs) e = no-true (sym e)
 
-picked-is : (r : Reader) (xs : List ℕ) → gathered r xs ≡ picked r xs
-picked-is r [] = refl
-picked-is r (b ∷ bs) = ap (λ (ds : List ℕ). cond (takesData r) (b ∷ ds) ds) (picked-is (reads r b) bs)
-
 heard-is : (l : Ledger) (xs : List ℕ) → after l (hear xs) ≡ heardBy (atOnce l xs) l xs
 heard-is l xs = go (atOnce l xs) refl
   where
@@ -85,7 +75,6 @@ heard-is l xs = go (atOnce l xs) refl
         ap (λ (u : List ℕ). after l (hear u)) (sym (w .2))
         ∙ whole l (w .0) .ledger-is i e (w .1)
         ∙ ap (heardWhole l) (sym (told (w .0) (w .1)) ∙ ap telegramOn (w .2))
-        ∙ ap (λ (ds : List ℕ). heardWhole l (telegramOf (run xs) ds)) (picked-is start xs)
 
     go : (t : Bool) → atOnce l xs ≡ t → after l (hear xs) ≡ heardBy t l xs
     go true e =

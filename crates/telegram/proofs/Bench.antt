@@ -49,9 +49,12 @@ unfolding step
 i = refl
 
 -- j: LE 249 is read, with 246 data octets
-j : status (run (0x68 ∷ 249 ∷ 249 ∷ 0x68 ∷ 5 ∷ 2 ∷ 0x5D ∷ (replicate 246 0 ++ (0x64 ∷ 0x16 ∷ [])))) ≡ Complete
-unfolding step
-j = refl
+j : List ℕ
+j = 0x68 ∷ 249 ∷ 249 ∷ 0x68 ∷ 5 ∷ 2 ∷ 0x5D ∷ (replicate 246 0 ++ (0x64 ∷ 0x16 ∷ []))
+
+j-read : (status (run j) ≡ Complete) × (gathered start j ≡ replicate 246 0)
+unfolding step j
+j-read = (refl, refl)
 
 -- the first octet after which no telegram can result: DA with bit 7 in SD1, in SD4 and in an SD2 with one data octet
 no-room : (status (run (0x10 ∷ 0x85 ∷ [])) ≡ Broken) × (status (run (0xDC ∷ 0x85 ∷ [])) ≡ Broken)

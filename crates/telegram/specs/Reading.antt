@@ -163,7 +163,7 @@ datumOf r = cond (takesData r) (Number (r .at)) Nothing
 -- the data octets among those that come, in order, DSAP and SSAP left out
 abbrev pub gathered : Reader → List ℕ → List ℕ
 gathered r [] = []
-gathered r (b ∷ bs) = cond (takesData r) (b ∷ gathered (step r b) bs) (gathered (step r b) bs)
+gathered r (b ∷ bs) = let ds = gathered (step r b) bs in cond (takesData r) (b ∷ ds) ds
 
 -- the reader that has read a telegram: its fields, and how many data octets came behind DSAP and SSAP
 abbrev pub finished : Telegram → Reader
