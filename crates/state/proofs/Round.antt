@@ -15,7 +15,7 @@ use Rattle.state.specs.declared.control.Flags.{Flags}
 use Rattle.state.specs.declared.state.State.{State}
 use Rattle.state.specs.Number.{readingNumber, kindNumber, stageNumber, phaseNumber, drawnNumber}
 use Rattle.state.specs.Layout.{stateLength}
-use Rattle.state.specs.Image.{bitOf, flagsOf, marksOf, layout, image}
+use Rattle.state.specs.Image.{bitOf, flagsOf, marksOf, image}
 use Rattle.state.specs.Unpack.{wordAt, bitAt, marksIn, setupIn, flagsIn, readerIn, senderIn, unpacked}
 use Rattle.state.specs.Sound.{Sound}
 use Rattle.state.specs.Well.{all, setupTests, caseTests, roleTests, setTests, diagnosisTests, unusedTests, imageTests, wellImage}
@@ -287,34 +287,40 @@ image-spread m small h =
     let roles = all-at (imageTests m) 2 h in
     let rest = all-at (imageTests m) 5 h in
     λ i.
-    layout (unpacked m)
-    (low-at m 1 (small 1) i)
-    (high-at m 1 (small 1) i)
-    (phase-counted (getD m 9 0) (leb-true (getD m 9 0) 2 (all-at (caseTests m) 0 cases)) i)
-    (low-at m 13 (small 13) i)
-    (high-at m 13 (small 13) i)
-    (low-at m 15 (small 15) i)
-    (high-at m 15 (small 15) i)
-    (sum-marks (getD m 17 0) (small 17) i)
-    (marks-sum m (ltb-true (marksIn m) 128 (all-at (roleTests m) 0 roles)) i)
-    (role-at m 19 (all-at (roleTests m) 1 roles) i)
-    (role-at m 20 (all-at (roleTests m) 2 roles) i)
-    (role-at m 21 (all-at (roleTests m) 3 roles) i)
-    (role-at m 22 (all-at (roleTests m) 4 roles) i)
-    (low-at m 30 (small 30) i)
-    (high-at m 30 (small 30) i)
-    (reading-counted (getD m 32 0) (leb-true (getD m 32 0) 12 (all-at (caseTests m) 1 cases)) i)
-    (kind-counted (getD m 33 0) (leb-true (getD m 33 0) 3 (all-at (caseTests m) 2 cases)) i)
-    (stage-counted (getD m 44 0) (leb-true (getD m 44 0) 10 (all-at (caseTests m) 3 cases)) i)
-    (kind-counted (getD m 45 0) (leb-true (getD m 45 0) 3 (all-at (caseTests m) 4 cases)) i)
-    (drawn-counted (getD m 52 0) (leb-true (getD m 52 0) 8 (all-at (caseTests m) 5 cases)) i)
-    (zero-at m 58 (all-at (unusedTests m) 0 rest) i
+    spread m 0 1
+    ++ low-at m 1 (small 1) i
+    ∷ high-at m 1 (small 1) i
+    ∷ spread m 3 6
+    ++ phase-counted (getD m 9 0) (leb-true (getD m 9 0) 2 (all-at (caseTests m) 0 cases)) i
+    ∷ spread m 10 3
+    ++ low-at m 13 (small 13) i
+    ∷ high-at m 13 (small 13) i
+    ∷ low-at m 15 (small 15) i
+    ∷ high-at m 15 (small 15) i
+    ∷ sum-marks (getD m 17 0) (small 17) i
+    ∷ marks-sum m (ltb-true (marksIn m) 128 (all-at (roleTests m) 0 roles)) i
+    ∷ role-at m 19 (all-at (roleTests m) 1 roles) i
+    ∷ role-at m 20 (all-at (roleTests m) 2 roles) i
+    ∷ role-at m 21 (all-at (roleTests m) 3 roles) i
+    ∷ role-at m 22 (all-at (roleTests m) 4 roles) i
+    ∷ spread m 23 7
+    ++ low-at m 30 (small 30) i
+    ∷ high-at m 30 (small 30) i
+    ∷ reading-counted (getD m 32 0) (leb-true (getD m 32 0) 12 (all-at (caseTests m) 1 cases)) i
+    ∷ kind-counted (getD m 33 0) (leb-true (getD m 33 0) 3 (all-at (caseTests m) 2 cases)) i
+    ∷ spread m 34 10
+    ++ stage-counted (getD m 44 0) (leb-true (getD m 44 0) 10 (all-at (caseTests m) 3 cases)) i
+    ∷ kind-counted (getD m 45 0) (leb-true (getD m 45 0) 3 (all-at (caseTests m) 4 cases)) i
+    ∷ spread m 46 6
+    ++ drawn-counted (getD m 52 0) (leb-true (getD m 52 0) 8 (all-at (caseTests m) 5 cases)) i
+    ∷ spread m 53 5
+    ++ zero-at m 58 (all-at (unusedTests m) 0 rest) i
     ∷ zero-at m 59 (all-at (unusedTests m) 1 rest) i
     ∷ zero-at m 60 (all-at (unusedTests m) 2 rest) i
     ∷ zero-at m 61 (all-at (unusedTests m) 3 rest) i
     ∷ zero-at m 62 (all-at (unusedTests m) 4 rest) i
     ∷ zero-at m 63 (all-at (unusedTests m) 5 rest) i
-    ∷ [])
+    ∷ []
 
 -- octets that pass the tests are the image of the state that they hold
 pub well-image : (m : List ℕ) → stateLength ≤ length m → ((i : ℕ) → getD m i 0 < 256) → wellImage m ≡ true → image (unpacked m) ≡ take stateLength m

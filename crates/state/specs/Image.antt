@@ -39,32 +39,32 @@ marksOf s =
 abbrev pub unused : List ℕ
 unused = 0 ∷ 0 ∷ 0 ∷ 0 ∷ 0 ∷ 0 ∷ []
 
--- octet by octet from 0 on; what is no field of the state as it is, and what follows octet 57, is handed in
-abbrev pub layout : State → ℕ → ℕ → ℕ → ℕ → ℕ → ℕ → ℕ → ℕ → ℕ → ℕ → ℕ → ℕ → ℕ → ℕ → ℕ → ℕ → ℕ → ℕ → ℕ → ℕ → List ℕ → List ℕ
-layout s identLow identHigh phase leftLow leftHigh reloadLow reloadHigh flags marks outputs inputs parameters configuration eventsLow eventsHigh reading readingKind stage sendingKind drawn rest =
+-- the image, octet by octet from 0 on
+unfoldable pub image : State → List ℕ
+image s =
     s .setup .address
-    ∷ identLow
-    ∷ identHigh
+    ∷ s .setup .ident % 256
+    ∷ s .setup .ident / 256
     ∷ s .setup .«output_len»
     ∷ s .setup .«input_len»
     ∷ s .setup .«parameter_len»
     ∷ s .setup .«configuration_len»
     ∷ s .setup .«diagnosis_len»
     ∷ s .setup .«get_cfg_len»
-    ∷ phase
+    ∷ phaseNumber (s .control .phase)
     ∷ s .control .owner
     ∷ s .control .group
     ∷ s .control .stored
-    ∷ leftLow
-    ∷ leftHigh
-    ∷ reloadLow
-    ∷ reloadHigh
-    ∷ flags
-    ∷ marks
-    ∷ outputs
-    ∷ inputs
-    ∷ parameters
-    ∷ configuration
+    ∷ s .control .watchdog .left % 256
+    ∷ s .control .watchdog .left / 256
+    ∷ s .control .watchdog .reload % 256
+    ∷ s .control .watchdog .reload / 256
+    ∷ flagsOf (s .control .flags)
+    ∷ marksOf s
+    ∷ numberOf (s .outputs .set .place)
+    ∷ numberOf (s .inputs .place)
+    ∷ numberOf (s .parameters .set .place)
+    ∷ numberOf (s .configuration .set .place)
     ∷ s .parameters .shown
     ∷ s .parameters .waiting
     ∷ s .configuration .shown
@@ -72,10 +72,10 @@ layout s identLow identHigh phase leftLow leftHigh reloadLow reloadHigh flags ma
     ∷ s .control .diagnosis .count
     ∷ s .control .diagnosis .«delayed_count»
     ∷ s .control .diagnosis .«delayed_flags»
-    ∷ eventsLow
-    ∷ eventsHigh
-    ∷ reading
-    ∷ readingKind
+    ∷ s .control .events .word % 256
+    ∷ s .control .events .word / 256
+    ∷ readingNumber (s .incoming .reader .phase)
+    ∷ kindNumber (s .incoming .reader .kind)
     ∷ s .incoming .reader .count
     ∷ s .incoming .reader .at
     ∷ s .incoming .reader .da
@@ -86,44 +86,18 @@ layout s identLow identHigh phase leftLow leftHigh reloadLow reloadHigh flags ma
     ∷ s .incoming .reader .sum
     ∷ s .incoming .first
     ∷ s .incoming .second
-    ∷ stage
-    ∷ sendingKind
+    ∷ stageNumber (s .reply .sender .stage)
+    ∷ kindNumber (s .reply .sender .kind)
     ∷ s .reply .sender .count
     ∷ s .reply .sender .at
     ∷ s .reply .sender .da
     ∷ s .reply .sender .sa
     ∷ s .reply .sender .fc
     ∷ s .reply .sender .sum
-    ∷ drawn
+    ∷ drawnNumber (s .reply .drawn)
     ∷ s .reply .place
     ∷ s .reply .header .status1
     ∷ s .reply .header .status2
     ∷ s .reply .header .status3
     ∷ s .reply .header .master
-    ∷ rest
-
--- the image
-unfoldable pub image : State → List ℕ
-image s =
-    layout s
-    (s .setup .ident % 256)
-    (s .setup .ident / 256)
-    (phaseNumber (s .control .phase))
-    (s .control .watchdog .left % 256)
-    (s .control .watchdog .left / 256)
-    (s .control .watchdog .reload % 256)
-    (s .control .watchdog .reload / 256)
-    (flagsOf (s .control .flags))
-    (marksOf s)
-    (numberOf (s .outputs .set .place))
-    (numberOf (s .inputs .place))
-    (numberOf (s .parameters .set .place))
-    (numberOf (s .configuration .set .place))
-    (s .control .events .word % 256)
-    (s .control .events .word / 256)
-    (readingNumber (s .incoming .reader .phase))
-    (kindNumber (s .incoming .reader .kind))
-    (stageNumber (s .reply .sender .stage))
-    (kindNumber (s .reply .sender .kind))
-    (drawnNumber (s .reply .drawn))
-    unused
+    ∷ unused

@@ -1,5 +1,7 @@
--- `state::image::octets` meets its contract: each called octet is what the image has there.
-use Rattle.state.specs.Image.{unused, layout, image}
+-- `state::image::octets` meets its contract: each called octet is what the image has there, and the others are the fields themselves.
+use mathlib.Core.List.{_∷_, _++_}
+use Rattle.octets.specs.Part.{part}
+use Rattle.state.specs.Image.{image}
 use borrow.Author.Needs.{needs}
 use Rattle.state.proofs.image.octets.Statement.{statement}
 use Rattle.state.proofs.image.octets.Tie as tie
@@ -86,29 +88,35 @@ returns c =
     let c17 = c16 .before in
     let c18 = c17 .before in
     let c19 = c18 .before in
+    let same = part (image (c19 .before .before .before .before .before .before .args .s)) in
     λ i.
-    layout (c19 .before .before .before .before .before .before .args .s)
-    (c19 .low .ensures i)
-    (c18 .high .ensures i)
-    (c17 .phase-number .ensures i)
-    (c16 .low2 .ensures i)
-    (c15 .high2 .ensures i)
-    (c14 .low3 .ensures i)
-    (c13 .high3 .ensures i)
-    (c12 .flags .ensures i)
-    (c11 .marks .ensures i)
-    (c10 .number .ensures i)
-    (c9 .number2 .ensures i)
-    (c8 .number3 .ensures i)
-    (c7 .number4 .ensures i)
-    (c6 .low4 .ensures i)
-    (c5 .high4 .ensures i)
-    (c4 .reading-number .ensures i)
-    (c3 .kind-number .ensures i)
-    (c2 .stage-number .ensures i)
-    (c1 .kind-number2 .ensures i)
-    (c .drawn-number .ensures i)
-    unused
+    same 0 1
+    ++ c19 .low .ensures i
+    ∷ c18 .high .ensures i
+    ∷ same 3 6
+    ++ c17 .phase-number .ensures i
+    ∷ same 10 3
+    ++ c16 .low2 .ensures i
+    ∷ c15 .high2 .ensures i
+    ∷ c14 .low3 .ensures i
+    ∷ c13 .high3 .ensures i
+    ∷ c12 .flags .ensures i
+    ∷ c11 .marks .ensures i
+    ∷ c10 .number .ensures i
+    ∷ c9 .number2 .ensures i
+    ∷ c8 .number3 .ensures i
+    ∷ c7 .number4 .ensures i
+    ∷ same 23 7
+    ++ c6 .low4 .ensures i
+    ∷ c5 .high4 .ensures i
+    ∷ c4 .reading-number .ensures i
+    ∷ c3 .kind-number .ensures i
+    ∷ same 34 10
+    ++ c2 .stage-number .ensures i
+    ∷ c1 .kind-number2 .ensures i
+    ∷ same 46 6
+    ++ c .drawn-number .ensures i
+    ∷ same 53 11
 
 pub octets-spec : {M : Type 1} → statement M
 octets-spec =
