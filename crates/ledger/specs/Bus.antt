@@ -55,6 +55,7 @@ answered l o master ds =
       diagnosing = diagnoses (o .drawn);
     })
 
+-- a complete telegram: what comes of it is carried out, and the reply fixed
 abbrev pub completed : Ledger → Telegram → Ledger
 completed l t = answered l (outcomeOf l (requestBy t) (payloadOf t)) (masterOf (requestBy t)) (payloadOf t)
 
@@ -85,15 +86,17 @@ heard l b bad = cond (l .line .ignored) l (heardAs (status (received (run (l .li
 unfoldable pub paused : Ledger → Ledger
 paused l = settle (withLine l (record { ignored = false; telegram = []; reply = l .line .reply; diagnosing = l .line .diagnosing }))
 
--- send answers and removes the first reply octet left, 256 when no octet is left
+-- send answers the first reply octet left, 256 when no octet is left
 abbrev pub sendTold : List ℕ → ℕ
 sendTold [] = 256
 sendTold (x ∷ xs) = x
 
+-- and removes it
 abbrev pub sendLeft : Line → List ℕ → Line
 sendLeft n [] = n
 sendLeft n (x ∷ xs) = record { ignored = n .ignored; telegram = n .telegram; reply = xs; diagnosing = n .diagnosing }
 
+-- the ledger after a send
 unfoldable pub sent : Ledger → Ledger
 sent l = settle (withLine l (sendLeft (l .line) (l .line .reply)))
 
@@ -101,5 +104,6 @@ sent l = settle (withLine l (sendLeft (l .line) (l .line .reply)))
 abbrev pub silenced : Ledger → Line
 silenced l = record { ignored = l .line .ignored || begun l; telegram = []; reply = []; diagnosing = false }
 
+-- a Tick
 unfoldable pub elapsed : Ledger → Ledger
 elapsed l = cond (l .control .noted) (settle (withLine l (silenced l))) (carried l (ticked (busy l) (l .control)) [])

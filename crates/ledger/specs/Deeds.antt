@@ -14,7 +14,7 @@ use Rattle.rules.specs.Diagnosis.{delayed, caughtUp}
 use Rattle.ledger.specs.Lists.{Outputs, Inputs, Sets, Buffers, published, publishedZeros, brought, received, advanced, noSets, exchanged, withDiagnoses}
 use Rattle.ledger.specs.Ledger.{Ledger, busy, diagnosisLeaves, withControl}
 
--- ds is the data received
+-- what becomes of the outputs; ds is the data received
 abbrev pub onOutputs : OutputsDeed → Outputs → ℕ → List ℕ → Outputs
 onOutputs outputs-deed.Keep o n ds = o
 onOutputs outputs-deed.Publish o n ds = published o ds
@@ -26,12 +26,14 @@ onInputs outputs-deed.Keep i = i
 onInputs outputs-deed.Publish i = brought i
 onInputs outputs-deed.Zeros i = i
 
+-- what becomes of the sets of parameters or of configuration
 abbrev pub onSets : SetDeed → Sets → List ℕ → Sets
 onSets set-deed.Keep s ds = s
 onSets set-deed.Receive s ds = received s ds
 onSets set-deed.Advance s ds = advanced s
 onSets set-deed.Drop s ds = noSets
 
+-- all the lists after an outcome
 abbrev pub onBuffers : Outcome → Setup → List ℕ → Buffers → Buffers
 onBuffers o s ds b =
     record {
@@ -45,12 +47,24 @@ onBuffers o s ds b =
 -- the control part and the lists after an outcome
 abbrev pub carried : Ledger → Outcome → List ℕ → Ledger
 carried l o ds =
-    record { setup = l .setup; slice = l .slice; control = o .control; buffers = onBuffers o (l .setup) ds (l .buffers); line = l .line }
+    record {
+      setup = l .setup;
+      slice = l .slice;
+      control = o .control;
+      buffers = onBuffers o (l .setup) ds (l .buffers);
+      line = l .line;
+    }
 
 -- the two diagnosis buffers change, with that control part
 abbrev pub diagnosisChanged : Ledger → Control → Ledger
 diagnosisChanged l c =
-    record { setup = l .setup; slice = l .slice; control = c; buffers = withDiagnoses (l .buffers) (exchanged (l .buffers .diagnosis)); line = l .line }
+    record {
+      setup = l .setup;
+      slice = l .slice;
+      control = c;
+      buffers = withDiagnoses (l .buffers) (exchanged (l .buffers .diagnosis));
+      line = l .line;
+    }
 
 -- a delayed diagnosis takes effect when the Slave_Diag reply ended or was dropped
 unfoldable pub afterReply : Ledger → Ledger

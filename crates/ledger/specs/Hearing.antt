@@ -29,11 +29,12 @@ pub record Hears (l : Ledger) (t : Telegram) : Type 0 where
   pub ledger-is : l .line .ignored ≡ false → l .line .telegram ≡ [] → Valid t
       → after l (hear (octetsOf t)) ≡ settle (completed (begunBy l (startOctet (kindOf t))) t)
 
--- a send for each of these octets, and these octets as answers
+-- a send for each of these octets
 abbrev pub sendsOf : List ℕ → List Call
 sendsOf [] = []
 sendsOf (x ∷ xs) = send ∷ sendsOf xs
 
+-- these octets as answers
 abbrev pub values : List ℕ → List Answer
 values [] = []
 values (x ∷ xs) = Value x ∷ values xs

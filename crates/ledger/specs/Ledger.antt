@@ -23,14 +23,36 @@ pub record Ledger : Type 0 where
   pub buffers : Buffers
   pub line : Line
 
+-- the ledger with one field changed
 abbrev pub withControl : Ledger → Control → Ledger
-withControl l x = record { setup = l .setup; slice = l .slice; control = x; buffers = l .buffers; line = l .line }
+withControl l x =
+    record {
+      setup = l .setup;
+      slice = l .slice;
+      control = x;
+      buffers = l .buffers;
+      line = l .line;
+    }
 
 abbrev pub withBuffers : Ledger → Buffers → Ledger
-withBuffers l x = record { setup = l .setup; slice = l .slice; control = l .control; buffers = x; line = l .line }
+withBuffers l x =
+    record {
+      setup = l .setup;
+      slice = l .slice;
+      control = l .control;
+      buffers = x;
+      line = l .line;
+    }
 
 abbrev pub withLine : Ledger → Line → Ledger
-withLine l x = record { setup = l .setup; slice = l .slice; control = l .control; buffers = l .buffers; line = x }
+withLine l x =
+    record {
+      setup = l .setup;
+      slice = l .slice;
+      control = l .control;
+      buffers = l .buffers;
+      line = x;
+    }
 
 -- a telegram is begun and unfinished
 abbrev pub begun : Ledger → Bool
@@ -44,10 +66,11 @@ busy l = begun l || some (l .line .reply)
 abbrev pub diagnosisLeaves : Ledger → Bool
 diagnosisLeaves l = l .line .diagnosing && some (l .line .reply)
 
--- such a set is open
+-- a parameter set is open
 abbrev pub parametersOpen : Ledger → Bool
 parametersOpen l = some (l .buffers .parameters .shown)
 
+-- a configuration set is open
 abbrev pub configurationOpen : Ledger → Bool
 configurationOpen l = some (l .buffers .configuration .shown)
 

@@ -21,6 +21,7 @@ pub record Outputs : Type 0 where
 abbrev pub published : Outputs → List ℕ → Outputs
 published o ds = record { held = o .held; next = ds; fresh = true; zeros = false }
 
+-- the station publishes n zeros
 abbrev pub publishedZeros : Outputs → ℕ → Outputs
 publishedZeros o n = record { held = o .held; next = replicate n 0; fresh = true; zeros = true }
 
@@ -43,6 +44,7 @@ handedOver i = record { sending = i .sending; next = i .held; held = i .next; fr
 abbrev pub brought : Inputs → Inputs
 brought i = cond (i .fresh) (record { sending = i .next; next = i .sending; held = i .held; fresh = false }) i
 
+-- octet n of the inputs held is written
 abbrev pub writtenInput : Inputs → ℕ → ℕ → Inputs
 writtenInput i n x = record { sending = i .sending; next = i .next; held = set (i .held) n x; fresh = i .fresh }
 
@@ -59,6 +61,7 @@ received s ds = cond (some (s .shown)) (record { shown = s .shown; waiting = ds 
 abbrev pub advanced : Sets → Sets
 advanced s = record { shown = s .waiting; waiting = [] }
 
+-- no set is shown, and none waits
 abbrev pub noSets : Sets
 noSets = record { shown = []; waiting = [] }
 
@@ -71,6 +74,7 @@ pub record Diagnoses : Type 0 where
 abbrev pub exchanged : Diagnoses → Diagnoses
 exchanged d = record { own = d .user; user = d .own }
 
+-- octet n of the user's is written
 abbrev pub writtenDiagnosis : Diagnoses → ℕ → ℕ → Diagnoses
 writtenDiagnosis d n x = record { own = d .own; user = set (d .user) n x }
 
@@ -82,11 +86,33 @@ pub record Buffers : Type 0 where
   pub configuration : Sets
   pub diagnosis : Diagnoses
 
+-- the lists with one field changed
 abbrev pub withOutputs : Buffers → Outputs → Buffers
-withOutputs b x = record { outputs = x; inputs = b .inputs; parameters = b .parameters; configuration = b .configuration; diagnosis = b .diagnosis }
+withOutputs b x =
+    record {
+      outputs = x;
+      inputs = b .inputs;
+      parameters = b .parameters;
+      configuration = b .configuration;
+      diagnosis = b .diagnosis;
+    }
 
 abbrev pub withInputs : Buffers → Inputs → Buffers
-withInputs b x = record { outputs = b .outputs; inputs = x; parameters = b .parameters; configuration = b .configuration; diagnosis = b .diagnosis }
+withInputs b x =
+    record {
+      outputs = b .outputs;
+      inputs = x;
+      parameters = b .parameters;
+      configuration = b .configuration;
+      diagnosis = b .diagnosis;
+    }
 
 abbrev pub withDiagnoses : Buffers → Diagnoses → Buffers
-withDiagnoses b x = record { outputs = b .outputs; inputs = b .inputs; parameters = b .parameters; configuration = b .configuration; diagnosis = x }
+withDiagnoses b x =
+    record {
+      outputs = b .outputs;
+      inputs = b .inputs;
+      parameters = b .parameters;
+      configuration = b .configuration;
+      diagnosis = x;
+    }

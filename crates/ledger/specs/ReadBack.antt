@@ -42,16 +42,18 @@ pub record Accepted (s : Setup) (slice : List ℕ) : Type 0 where
   pub get-cfg : Between 1 (s .«get_cfg_len») 244
   pub slice-is : length slice ≡ s .«get_cfg_len»
 
--- the lists are as long as their buffers
+-- the lists of the outputs are as long as their buffers
 pub record OutputsFit (n : ℕ) (o : Outputs) : Type 0 where
   pub held : length (o .held) ≡ n
   pub next : length (o .next) ≡ n
 
+-- so are those of the inputs
 pub record InputsFit (n : ℕ) (i : Inputs) : Type 0 where
   pub sending : length (i .sending) ≡ n
   pub next : length (i .next) ≡ n
   pub held : length (i .held) ≡ n
 
+-- and of the diagnosis
 pub record DiagnosesFit (n : ℕ) (d : Diagnoses) : Type 0 where
   pub own : length (d .own) ≡ n
   pub user : length (d .user) ≡ n

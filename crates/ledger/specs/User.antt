@@ -24,6 +24,7 @@ pub record Told : Type 0 where
   pub answer : Answer
   pub ledger : Ledger
 
+-- a call that answers a value
 abbrev pub told : ℕ → Ledger → Told
 told n l = record { answer = Value n; ledger = l }
 
@@ -59,10 +60,12 @@ readOctet l kind index =
     cond (not (inRange (l .setup) kind index)) (refused Range l)
     (cond (absent l kind index) (refused Absent l) (told (getD (octetsOfKind (l .buffers) kind) index 0) l))
 
+-- kinds 4 and 5 are written
 abbrev pub writtenOctet : Buffers → ℕ → ℕ → ℕ → Buffers
 writtenOctet b kind index x =
     cond (eqb kind 4) (withInputs b (writtenInput (b .inputs) index x)) (withDiagnoses b (writtenDiagnosis (b .diagnosis) index x))
 
+-- writing answers 0
 unfoldable pub writeOctet : Ledger → ℕ → ℕ → ℕ → Told
 writeOctet l kind index x =
     cond (not (writable kind && inRange (l .setup) kind index)) (refused Range l)

@@ -57,6 +57,7 @@ callOf (octet b bad) = call.octet b bad
 callOf gap = call.gap
 callOf tick = call.tick
 
+-- and for a list of them
 abbrev pub calls : List Beat → List Call
 calls = map callOf
 

@@ -2,6 +2,7 @@
 use Prim.Native.Nat.{ℕ}
 use mathlib.Core.Bool.{Bool}
 
+-- a call with its arguments
 pub data Call : Type 0 where
   octet : (value : ℕ) (bad : Bool) → Call
   gap : Call

@@ -14,6 +14,7 @@ abbrev pub one : Bool → ℕ
 one true = 1
 one false = 0
 
+-- the phase is WAIT_PRM
 abbrev pub waiting : Phase → Bool
 waiting WaitPrm = true
 waiting WaitCfg = false

@@ -27,6 +27,7 @@ settled busy c = cond (c .noted && not busy) (clearing c) (drawing c Nothing)
 abbrev pub counts : Control → Bool
 counts c = not (waiting (c .phase)) && not (eqb (c .watchdog .reload) 0)
 
+-- the watchdog with n ticks left
 abbrev pub withLeft : Control → ℕ → Control
 withLeft c n = withWatchdog c (record { reload = c .watchdog .reload; left = n })
 

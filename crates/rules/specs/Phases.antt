@@ -47,6 +47,7 @@ enteringWaitPrm c d =
 unfoldable pub waitCfg : Control → Control
 waitCfg c = withPhase (cond (inExchange c) (withEvents c (raised (leftExchange c) outputs)) c) WaitCfg
 
+-- what becomes of the outputs then
 abbrev pub zerosIfLeft : Control → OutputsDeed
 zerosIfLeft c = cond (inExchange c) outputs-deed.Zeros outputs-deed.Keep
 

@@ -92,5 +92,6 @@ functionService r =
     (cond (wantsNone r) (cond (globalForm r) GlobalControl Nothing)
     (cond (sendsAndRequests r) (requestOf r) Nothing)))
 
+-- what a telegram asks of the station; one that does not act asks nothing
 unfoldable pub serviceOf : Setup → Request → Service
 serviceOf s r = cond (acts s r) (functionService r) Nothing

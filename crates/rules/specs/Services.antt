@@ -92,6 +92,7 @@ setPrm s c opened r p =
 
 -- Chk_Cfg ---------------------------------------------------------------------------------------
 
+-- Cfg_Fault
 abbrev pub cfgFault : Control → Control
 cfgFault c = withFlags c (withCfgFault (c .flags))
 
@@ -106,6 +107,7 @@ goodCfg c opened =
       drawn = drawn.Acknowledge;
     }
 
+-- in this order
 unfoldable pub chkCfg : Setup → Control → Bool → Request → Outcome
 chkCfg s c opened r =
     cond (not (owns c (masterOf r))) (drawing c drawn.Rejected)
@@ -123,6 +125,7 @@ abbrev pub accepted : Control → Outcome
 accepted c =
     record { control = raise c outputs; outputs = outputs-deed.Publish; parameters = set-deed.Keep; configuration = set-deed.Keep; drawn = drawn.Exchange }
 
+-- in this order
 unfoldable pub dataExchange : Setup → Control → Request → Outcome
 dataExchange s c r =
     cond (not (exchanges c r)) (drawing c drawn.Rejected)
@@ -137,10 +140,11 @@ slaveDiag c r =
     (drawing (withFlags c (withoutDiagFlag (c .flags))) drawn.Diagnosis)
     (drawing c drawn.Diagnosis)
 
--- Read_Inputs and Read_Outputs: RS outside DATA_EXCH
+-- Read_Inputs: RS outside DATA_EXCH
 abbrev pub readInputs : Control → Outcome
 readInputs c = cond (inExchange c) (drawing c drawn.Inputs) (drawing c drawn.Rejected)
 
+-- Read_Outputs: RS outside DATA_EXCH
 abbrev pub readOutputs : Control → Outcome
 readOutputs c = cond (inExchange c) (drawing c drawn.Outputs) (drawing c drawn.Rejected)
 
@@ -161,6 +165,7 @@ obeyed c first =
     (record { control = raise (storing c first) outputs; outputs = outputs-deed.Zeros; parameters = set-deed.Keep; configuration = set-deed.Keep; drawn = drawn.Nothing })
     (drawing (storing c first) drawn.Nothing)
 
+-- obeyed where it controls, else without effect
 unfoldable pub globalControl : Control → Request → ℕ → ℕ → Outcome
 globalControl c r first second = cond (controls c r second) (obeyed c first) (drawing c drawn.Nothing)
 

@@ -28,6 +28,7 @@ sentBy r x = record { drawn = r .drawn; sender = x; place = r .place; header = r
 unfoldable pub sendTold : State → List ℕ → ℕ
 sendTold s m = cond (left (s .reply .sender)) (sent (s .reply .sender) (askedFor s m) .octet) 256
 
+-- and what it leaves: the sender gone on, if an octet was left
 unfoldable pub sendLeft : State → List ℕ → Stepped
 sendLeft s m =
     cond (left (s .reply .sender))

@@ -27,6 +27,7 @@ use Rattle.rules.specs.Replies.{diagnoses}
 use Rattle.rules.specs.Diagnosis.{delayed, caughtUp}
 use Rattle.steps.specs.Stepped.{Stepped}
 
+-- the status of a telegram that is begun and unfinished
 abbrev pub isInside : Status → Bool
 isInside Fresh = false
 isInside Inside = true
@@ -68,12 +69,14 @@ receivedSet s count =
     (record { set = published (s .set); shown = s .shown; waiting = count })
     (record { set = shown (s .set); shown = count; waiting = s .waiting })
 
+-- what becomes of the sets of parameters or of configuration
 abbrev pub onSets : SetDeed → Sets → ℕ → Sets
 onSets set-deed.Keep s count = s
 onSets set-deed.Receive s count = receivedSet s count
 onSets set-deed.Advance s count = record { set = taken (s .set); shown = s .waiting; waiting = 0 }
 onSets set-deed.Drop s count = record { set = dropped (s .set); shown = 0; waiting = 0 }
 
+-- the state after an outcome; count: of the data received
 abbrev pub onState : State → Outcome → ℕ → State
 onState s o count =
     record {

@@ -59,7 +59,16 @@ storedAs (Number k) s m r b = record { state = withIncoming s (keptOctets (s .in
 
 -- the header of the telegram that the reader has read
 abbrev pub requestBy : Reader → Request
-requestBy r = record { kind = r .kind; da = r .da; sa = r .sa; fc = r .fc; dsap = r .dsap; ssap = r .ssap; count = r .count }
+requestBy r =
+    record {
+      kind = r .kind;
+      da = r .da;
+      sa = r .sa;
+      fc = r .fc;
+      dsap = r .dsap;
+      ssap = r .ssap;
+      count = r .count;
+    }
 
 -- the octets of Set_Prm from a place on
 abbrev pub prmAt : List ℕ → ℕ → Prm
@@ -95,6 +104,7 @@ answered s m o r =
 abbrev pub completed : State → List ℕ → Reader → Stepped
 completed s m r = answered (readBy s r) m (outcomeOf (readBy s r) m (requestBy r)) (requestBy r)
 
+-- the line settled after a step
 abbrev pub settled : Stepped → Stepped
 settled r = settle (r .state) (r .memory)
 
@@ -110,6 +120,7 @@ heardAs Inside s m r b =
 heardAs Complete s m r b = settled (completed s m r)
 heardAs Broken s m r b = settle (readBy s off) m
 
+-- octets are ignored until a gap after a complete telegram, and after one broken off
 abbrev pub isIgnored : Status → Bool
 isIgnored Fresh = false
 isIgnored Inside = false

@@ -49,6 +49,7 @@ abbrev pub ownPlace : Bool → ℕ
 ownPlace true = 1
 ownPlace false = 0
 
+-- and which is the user's
 abbrev pub userPlace : Bool → ℕ
 userPlace true = 0
 userPlace false = 1
@@ -88,6 +89,7 @@ pointOf Outputs = 57
 pointOf Configuration = 59
 pointOf Diagnosis = 60
 
+-- the reply to Data_Exchange
 abbrev pub isExchange : Drawn → Bool
 isExchange Nothing = false
 isExchange Acknowledge = false
@@ -106,10 +108,11 @@ datumAt s m k =
     (cond (eqb k 0) 0x3E
     (cond (eqb k 1) (pointOf (s .reply .drawn)) (contentAt (s .reply .drawn) s m (k - 2))))
 
--- the data octet that the sender asks for
+-- the data octet asked for, 0 where none is
 abbrev pub askedAs : Datum → State → List ℕ → ℕ
 askedAs (datum.Number k) s m = datumAt s m k
 askedAs datum.Nothing s m = 0
 
+-- what the sender of the reply asks for
 abbrev pub askedFor : State → List ℕ → ℕ
 askedFor s m = askedAs (asks (s .reply .sender)) s m

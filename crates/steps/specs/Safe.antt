@@ -7,6 +7,7 @@ use Rattle.buffers.specs.Triple.{Permutation}
 use Rattle.state.specs.declared.state.State.{State}
 use Rattle.state.specs.Layout.{endOf}
 
+-- s is safe over the memory m
 pub record Safe (s : State) (m : List ℕ) : Type 0 where
   pub outputs : Permutation (s .outputs .set .place)
   pub inputs : Permutation (s .inputs .place)

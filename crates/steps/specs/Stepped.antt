@@ -16,6 +16,7 @@ pub record Steps (r : Stepped) (s : State) (m : List ℕ) : Type 0 where
   pub states : s ≡ r .state
   pub leaves : m ≡ r .memory
 
+-- a step that changes nothing
 abbrev pub unchanged : State → List ℕ → Stepped
 unchanged s m = record { state = s; memory = m }
 

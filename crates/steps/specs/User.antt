@@ -31,15 +31,19 @@ pub record Told : Type 0 where
   pub state : State
   pub memory : List ℕ
 
+-- a call that answers a value
 abbrev pub told : ℕ → State → List ℕ → Told
 told n s m = record { answer = Value n; state = s; memory = m }
 
+-- a refused call answers its number and changes nothing
 abbrev pub refusing : Refusal → State → List ℕ → Told
 refusing why s m = record { answer = Refused why; state = s; memory = m }
 
+-- a step that answers a value
 abbrev pub toldOf : ℕ → Stepped → Told
 toldOf n r = told n (r .state) (r .memory)
 
+-- take outputs: 0 nothing new; 1 new; 2 new, zeros published by the station; the last two change next and held
 unfoldable pub takeOutputs : State → List ℕ → Told
 takeOutputs s m =
     cond (not (s .outputs .set .fresh)) (told 0 s m)
@@ -61,19 +65,23 @@ kindAt s kind =
     (cond (eqb kind 4) (inputsAt (s .setup) (heldOf (s .inputs .place)))
     (diagnosisAt (s .setup) (userPlace (s .swapped))))))
 
+-- reading answers the octet
 unfoldable pub readOctet : State → List ℕ → ℕ → ℕ → Told
 readOctet s m kind index =
     cond (not (inRange (s .setup) kind index)) (refusing Range s m)
     (cond (absent s kind index) (refusing Absent s m) (told (getD m (kindAt s kind + index) 0) s m))
 
+-- writing answers 0
 unfoldable pub writeOctet : State → List ℕ → ℕ → ℕ → ℕ → Told
 writeOctet s m kind index x =
     cond (not (writable kind && inRange (s .setup) kind index)) (refusing Range s m)
     (cond (absent s kind index) (refusing Absent s m) (told 0 s (set m (kindAt s kind + index) x)))
 
+-- hand over inputs: held and next change, next is new
 unfoldable pub handOver : State → List ℕ → Told
 handOver s m = told 0 (withInputs s (handedOver (s .inputs))) m
 
+-- new diagnosis: the two buffers change; while a Slave_Diag reply is unfinished, when that ends or is dropped
 unfoldable pub newDiagnosis : State → List ℕ → ℕ → ℕ → Told
 newDiagnosis s m count flags =
     cond (not (within 6 count (s .setup .«diagnosis_len») && leb flags 7)) (refusing Range s m)
@@ -81,6 +89,7 @@ newDiagnosis s m count flags =
     (cond (diagnosisLeaves s) (told 0 (withControl s (delaying (s .control) count flags)) m)
     (told 0 (diagnosisChanged s (diagnosed (s .control) count flags)) m)))
 
+-- judge parameters (1 good, 0 bad): 1 if a newer set waited, else 0
 unfoldable pub judgeParameters : State → List ℕ → ℕ → Told
 judgeParameters s m judgement =
     cond (not (isOpen (s .parameters))) (refusing Judging s m)
@@ -88,6 +97,7 @@ judgeParameters s m judgement =
     (toldOf (cond (s .parameters .set .fresh) 1 0)
     (carried s m (judgedParameters (s .control) (s .parameters .set .fresh) (eqb judgement 1)) 0)))
 
+-- judge configuration: not before good parameters
 unfoldable pub judgeConfiguration : State → List ℕ → ℕ → Told
 judgeConfiguration s m judgement =
     cond (not (isOpen (s .configuration) && s .control .flags .«parameters_good»)) (refusing Judging s m)
@@ -95,15 +105,19 @@ judgeConfiguration s m judgement =
     (toldOf (cond (s .configuration .set .fresh) 1 0)
     (carried s m (judgedConfiguration (s .control) (s .configuration .set .fresh) (eqb judgement 1)) 0)))
 
+-- events: the 16-bit word
 abbrev pub eventWord : State → List ℕ → Told
 eventWord s m = told (s .control .events .word) s m
 
+-- acknowledge clears bits, never 10 or 11
 unfoldable pub acknowledgeEvents : State → List ℕ → ℕ → Told
 acknowledgeEvents s m mask = told 0 (withControl s (withEvents (s .control) (acknowledged (s .control .events) mask))) m
 
+-- pending: one function of the event word
 abbrev pub pendingEvent : State → List ℕ → Told
 pendingEvent s m = told (pendingOf (s .control .events)) s m
 
+-- leave master: a clear
 unfoldable pub leaveMaster : State → List ℕ → Told
 leaveMaster s m = toldOf 0 (carried s m (clearOn (busy s) (s .control)) 0)
 

@@ -14,6 +14,7 @@ use Rattle.telegram.specs.Reading.{start, off, received, run, runFrom, s
 abbrev pub Continues : List ℕ → Type 0
 Continues xs = (y : ℕ) × (ys : List ℕ) × Octets (y ∷ ys) × IsTelegram (xs ++ y ∷ ys)
 
+-- the promise for the octets xs
 pub record Framing (xs : List ℕ) : Type 0 where
   -- nothing has begun: exactly if no octet came
   pub nothing : (status (run xs) ≡ Fresh) ↔ (xs ≡ [])

@@ -25,9 +25,11 @@ rd p k n i da sa fc dp sp s =
 abbrev pub before : Phase → Kind → ℕ → Reader
 before p k n = rd p k n 0 0 0 0 0 0 0
 
+-- broken off: octets are ignored until the next gap
 abbrev pub off : Reader
 off = before Off Sd1 0
 
+-- after a gap: the next octet may begin a telegram
 abbrev pub start : Reader
 start = before Start Sd1 0
 
@@ -71,7 +73,7 @@ afterFc da = cond (leb 128 da) Dsap Body
 abbrev pub counted : ℕ → ℕ → ℕ
 counted da n = cond (leb 128 da) (n - 2) n
 
--- and where the reader is after it
+-- where the reader is after an octet that may come
 abbrev pub nextAt : Phase → Reader → ℕ → Reader
 nextAt Start r b =
     cond (eqb b 0x10) (before Da Sd1 0)
@@ -98,6 +100,7 @@ nextAt End r b = moved r Done
 nextAt Done r b = off
 nextAt Off r b = off
 
+-- where it is after any octet: broken off if it may not come
 unfoldable pub stepAt : Phase → Reader → ℕ → Reader
 stepAt p r b = cond (okAt p r b) (nextAt p r b) off
 
@@ -119,7 +122,7 @@ runFrom r (b ∷ bs) = runFrom (step r b) bs
 abbrev pub run : List ℕ → Reader
 run xs = runFrom start xs
 
--- what a reader tells
+-- what a reader tells, by its phase
 abbrev pub statusAt : Phase → Status
 statusAt Start = Fresh
 statusAt Le = Inside
@@ -135,9 +138,11 @@ statusAt End = Inside
 statusAt Done = Complete
 statusAt Off = Broken
 
+-- what a reader tells
 abbrev pub status : Reader → Status
 status r = statusAt (r .phase)
 
+-- the next octet is a data octet or the check octet
 abbrev pub inBody : Phase → Bool
 inBody Start = false
 inBody Le = false
@@ -157,6 +162,7 @@ inBody Off = false
 abbrev pub takesData : Reader → Bool
 takesData r = inBody (r .phase) && ltb (r .at) (r .count)
 
+-- which data octet the next octet is, if it is one
 abbrev pub datumOf : Reader → Datum
 datumOf r = cond (takesData r) (Number (r .at)) Nothing
 
@@ -170,13 +176,14 @@ abbrev pub finished : Telegram → Reader
 finished t =
     rd Done (kindOf t) (length (payloadOf t)) (length (payloadOf t)) (daOf t) (saOf t) (fcOf t) (dsapOf t) (ssapOf t) (checksum (coveredOf t))
 
--- the telegram that a complete reader has read, from its fields and the data octets gathered
+-- a telegram by its kind and its fields; ds are all its data octets
 abbrev pub telegramBy : Kind → ℕ → ℕ → ℕ → List ℕ → Telegram
 telegramBy Sd1 da sa fc ds = sd1 da sa fc
 telegramBy Sd2 da sa fc ds = sd2 da sa fc ds
 telegramBy Sd3 da sa fc ds = sd3 da sa fc ds
 telegramBy Sd4 da sa fc ds = sd4 da sa
 
+-- the telegram that a complete reader has read, from its fields and the data octets gathered
 abbrev pub telegramOf : Reader → List ℕ → Telegram
 telegramOf r ps =
     telegramBy (r .kind) (r .da) (r .sa) (r .fc) (cond (leb 128 (r .da)) (r .dsap ∷ r .ssap ∷ ps) ps)

@@ -20,9 +20,11 @@ use Rattle.telegram.specs.Reading.{start, run, gathered, finished}
 abbrev pub sn : Stage → Kind → ℕ → ℕ → ℕ → ℕ → ℕ → ℕ → Sender
 sn g k n i da sa fc s = record { stage = g; kind = k; count = n; at = i; da = da; sa = sa; fc = fc; sum = s }
 
+-- nothing to send
 abbrev pub empty : Sender
 empty = sn Empty Sd1 0 0 0 0 0 0
 
+-- the single octet E5
 abbrev pub single : Sender
 single = sn Single Sd1 0 0 0 0 0 0
 
@@ -30,10 +32,11 @@ single = sn Single Sd1 0 0 0 0 0 0
 abbrev pub sending : Kind → ℕ → ℕ → ℕ → ℕ → Sender
 sending k da sa fc n = sn Start k n 0 da sa fc 0
 
+-- the sender of a telegram
 abbrev pub senderOf : Telegram → Sender
 senderOf t = sending (kindOf t) (daOf t) (saOf t) (fcOf t) (length (dataOf t))
 
--- is an octet left?
+-- is an octet left, by the stage?
 abbrev pub leftAt : Stage → Bool
 leftAt Start = true
 leftAt Le = true
@@ -47,10 +50,11 @@ leftAt End = true
 leftAt Single = true
 leftAt Empty = false
 
+-- is an octet left?
 abbrev pub left : Sender → Bool
 left s = leftAt (s .stage)
 
--- which data octet is sent next
+-- which data octet is sent next, by the stage
 abbrev pub asksAt : Stage → Sender → Datum
 asksAt Start s = Nothing
 asksAt Le s = Nothing
@@ -64,16 +68,18 @@ asksAt End s = Nothing
 asksAt Single s = Nothing
 asksAt Empty s = Nothing
 
+-- which data octet is sent next
 abbrev pub asks : Sender → Datum
 asks s = asksAt (s .stage) s
 
+-- the start delimiter
 abbrev pub startOctet : Kind → ℕ
 startOctet Sd1 = 0x10
 startOctet Sd2 = 0x68
 startOctet Sd3 = 0xA2
 startOctet Sd4 = 0xDC
 
--- the octet that is sent, with d for the data octet asked for
+-- the octet that is sent, by the stage, with d for the data octet asked for
 abbrev pub octetAt : Stage → Sender → ℕ → ℕ
 octetAt Start s d = startOctet (s .kind)
 octetAt Le s d = (s .count + 3) % 256
@@ -87,6 +93,7 @@ octetAt End s d = 0x16
 octetAt Single s d = 0xE5
 octetAt Empty s d = 0
 
+-- the octet that is sent, with d for the data octet asked for
 abbrev pub octetOf : Sender → ℕ → ℕ
 octetOf s d = octetAt (s .stage) s d
 
@@ -112,7 +119,7 @@ onto s g = sn g (s .kind) (s .count) (s .at) (s .da) (s .sa) (s .fc) (s .sum)
 abbrev pub adding : Sender → ℕ → Stage → Sender
 adding s b g = sn g (s .kind) (s .count) (s .at) (s .da) (s .sa) (s .fc) ((s .sum + b) % 256)
 
--- the sender after it sent b
+-- the sender after it sent b, by the stage
 abbrev pub afterAt : Stage → Sender → ℕ → Sender
 afterAt Start s b = onto s (afterStart (s .kind))
 afterAt Le s b = onto s LeAgain
@@ -129,9 +136,11 @@ afterAt End s b = onto s Empty
 afterAt Single s b = onto s Empty
 afterAt Empty s b = onto s Empty
 
+-- the sender after it sent b
 abbrev pub afterSent : Sender → ℕ → Sender
 afterSent s b = afterAt (s .stage) s b
 
+-- the octet that is sent, and the sender after it
 unfoldable pub sent : Sender → ℕ → Sent
 sent s d = record { octet = octetOf s d; sender = afterSent s (octetOf s d) }
 

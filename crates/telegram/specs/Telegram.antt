@@ -17,25 +17,28 @@ pub data Telegram : Type 0 where
   sd3 : (da sa fc : ℕ) (ds : List ℕ) → Telegram
   sd4 : (da sa : ℕ) → Telegram
 
+-- its start delimiter
 abbrev pub kindOf : Telegram → Kind
 kindOf (sd1 da sa fc) = Sd1
 kindOf (sd2 da sa fc ds) = Sd2
 kindOf (sd3 da sa fc ds) = Sd3
 kindOf (sd4 da sa) = Sd4
 
+-- its destination
 abbrev pub daOf : Telegram → ℕ
 daOf (sd1 da sa fc) = da
 daOf (sd2 da sa fc ds) = da
 daOf (sd3 da sa fc ds) = da
 daOf (sd4 da sa) = da
 
+-- its source
 abbrev pub saOf : Telegram → ℕ
 saOf (sd1 da sa fc) = sa
 saOf (sd2 da sa fc ds) = sa
 saOf (sd3 da sa fc ds) = sa
 saOf (sd4 da sa) = sa
 
--- SD4 has no control octet
+-- its control octet; SD4 has none
 abbrev pub fcOf : Telegram → ℕ
 fcOf (sd1 da sa fc) = fc
 fcOf (sd2 da sa fc ds) = fc
@@ -70,6 +73,7 @@ tailOf (sd2 da sa fc ds) = checksum (da ∷ sa ∷ fc ∷ ds) ∷ 0x16 ∷ []
 tailOf (sd3 da sa fc ds) = checksum (da ∷ sa ∷ fc ∷ ds) ∷ 0x16 ∷ []
 tailOf (sd4 da sa) = []
 
+-- all octets of a telegram
 abbrev pub octetsOf : Telegram → List ℕ
 octetsOf t = headOf t ++ (coveredOf t ++ tailOf t)
 
@@ -77,6 +81,7 @@ octetsOf t = headOf t ++ (coveredOf t ++ tailOf t)
 abbrev pub Marked : ℕ → Type 0
 Marked x = 128 ≤ x
 
+-- no such mark
 abbrev pub Plain : ℕ → Type 0
 Plain x = x < 128
 
@@ -91,6 +96,7 @@ Valid (sd2 da sa fc ds) = (4 ≤ length ds + 3) × (length ds + 3 ≤ 249) × Ad
 Valid (sd3 da sa fc ds) = (length ds ≡ 8) × Addresses 8 da sa
 Valid (sd4 da sa) = Addresses 0 da sa
 
+-- these octets are a telegram
 abbrev pub IsTelegram : List ℕ → Type 0
 IsTelegram xs = (t : Telegram) × Valid t × (octetsOf t ≡ xs)
 
@@ -99,13 +105,15 @@ abbrev pub Octets : List ℕ → Type 0
 Octets [] = Unit
 Octets (x ∷ xs) = (x < 256) × Octets xs
 
--- the fields of an extension: the service points of destination and source, and the data behind them
+-- DA has the mark: DSAP and SSAP stand before the data
 abbrev pub extended : Telegram → Bool
 extended t = leb 128 (daOf t)
 
+-- DSAP, the service point of the destination; 0 where there is none
 abbrev pub dsapOf : Telegram → ℕ
 dsapOf t = cond (extended t) (getD (dataOf t) 0 0) 0
 
+-- SSAP, that of the source
 abbrev pub ssapOf : Telegram → ℕ
 ssapOf t = cond (extended t) (getD (dataOf t) 1 0) 0
 

@@ -25,6 +25,7 @@ behind Sd4 s ad xs = ad
 abbrev pub body : Sender → List ℕ → List ℕ
 body s ds = s .fc ∷ drop (s .at) ds
 
+-- DA and what follows it
 abbrev pub fromDa : Sender → List ℕ → List ℕ
 fromDa s ds = behind (s .kind) (s .sum) (s .da ∷ s .sa ∷ []) (body s ds)
 
@@ -35,6 +36,7 @@ lengths Sd2 n = (n + 3) % 256 ∷ (n + 3) % 256 ∷ 0x68 ∷ []
 lengths Sd3 n = []
 lengths Sd4 n = []
 
+-- the octets left of a telegram with the data octets ds, by the stage
 abbrev pub toSendAt : Stage → Sender → List ℕ → List ℕ
 toSendAt Start s ds = startOctet (s .kind) ∷ (lengths (s .kind) (s .count) ++ fromDa s ds)
 toSendAt Le s ds = (s .count + 3) % 256 ∷ (s .count + 3) % 256 ∷ 0x68 ∷ fromDa s ds
