@@ -5,6 +5,7 @@ use lib.Dec.{eqb}
 use Rattle.buffers.specs.Events.{diagnosis}
 use Rattle.state.specs.declared.control.Phase.{Phase}
 use Rattle.state.specs.declared.control.Phase.the-variants.{WaitPrm, WaitCfg, DataExch}
+use Rattle.state.specs.declared.control.Diagnosis.{Diagnosis}
 use Rattle.state.specs.declared.control.Control.{Control}
 use Rattle.state.specs.declared.state.Header.{Header}
 use Rattle.rules.specs.Control.{inExchange, withFlags, withDiagnosis, withDiagnosisFlags, raise}
@@ -40,8 +41,12 @@ unfoldable pub headerOf : Control → Header
 headerOf c = record { status1 = status1 c; status2 = status2 c; status3 = status3 c; master = c .owner }
 
 -- a new diagnosis is delayed
+abbrev pub isDelayed : Diagnosis → Bool
+isDelayed d = not (eqb (d .«delayed_count») 0)
+
+-- by the control part
 abbrev pub delayed : Control → Bool
-delayed c = not (eqb (c .diagnosis .«delayed_count») 0)
+delayed c = isDelayed (c .diagnosis)
 
 -- a new diagnosis takes effect: its count and flags, Diag_Flag, event 12; nothing is delayed any more
 unfoldable pub diagnosed : Control → ℕ → ℕ → Control

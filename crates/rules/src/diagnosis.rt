@@ -7,7 +7,7 @@ use state::control::Diagnosis;
 use state::state::Header;
 ghost use Prim.Native.Nat.{_≤_};
 ghost use mathlib.Core.Path.{_≡_};
-ghost use Rattle.rules.specs.Diagnosis.{one, status1, status2, status3, headerOf, delayed, diagnosed, delaying, caughtUp};
+ghost use Rattle.rules.specs.Diagnosis.{one, status1, status2, status3, headerOf, isDelayed, diagnosed, delaying, caughtUp};
 
 // A flag's value in an octet.
 fn one(flag: bool) -> u8
@@ -64,10 +64,10 @@ pub fn header_of(control: Control) -> Header
 }
 
 // A new diagnosis is delayed.
-pub fn delayed(control: Control) -> bool
-    ensures { λ b. ⌜ b ≡ delayed control ⌝ }
+pub fn is_delayed(diagnosis: Diagnosis) -> bool
+    ensures { λ b. ⌜ b ≡ isDelayed diagnosis ⌝ }
 {
-    control.diagnosis.delayed_count != 0
+    diagnosis.delayed_count != 0
 }
 
 // A new diagnosis takes effect: its count and flags, Diag_Flag, event 12; nothing is delayed any more.

@@ -1,7 +1,7 @@
 // An outcome of the rules carried out on the state and the buffers, and the line as the state has it.
 use buffers::triple::Triple;
 use rules::diagnosis::caught_up;
-use rules::diagnosis::delayed;
+use rules::diagnosis::is_delayed;
 use rules::line::settled;
 use rules::outcome::Outcome;
 use rules::outcome::OutputsDeed;
@@ -204,7 +204,7 @@ pub fn diagnosis_changed(mut s: State, control: Control) -> State
 fn after_reply(s: State) -> State
     ensures { λ r. ⌜ r ≡ afterReply s ⌝ }
 {
-    if delayed(s.control) & !diagnosis_leaves(s) {
+    if is_delayed(s.control.diagnosis) & !diagnosis_leaves(s) {
         return diagnosis_changed(s, caught_up(s.control));
     }
     s
@@ -224,8 +224,7 @@ pub fn waits(mem: &[u8]) -> bool
     requires { ⌜ stateLength ≤ length (now mem) ⌝ }
     ensures { λ r. ⌜ r ≡ delayed (unpacked (now (mem .entry)) .control) || unpacked (now (mem .entry)) .control .noted ⌝ }
 {
-    let diagnosis = load::diagnosis(mem);
-    !(diagnosis.delayed_count == 0) | load::noted(mem)
+    is_delayed(load::diagnosis(mem)) | load::noted(mem)
 }
 
 // The line settled. Nearly always nothing waits, and the state is left as it is.
@@ -233,7 +232,7 @@ pub fn settle(s: State, mem: &mut [u8]) -> State
     requires { ⌜ Safe s (now mem) ⌝ }
     ensures { λ r. ⌜ Steps (settle s (now (mem .entry))) r (now (mem .exit)) ⌝ }
 {
-    let waits = delayed(s.control) | s.control.noted;
+    let waits = is_delayed(s.control.diagnosis) | s.control.noted;
     if !waits {
         return s;
     }

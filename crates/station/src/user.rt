@@ -5,9 +5,9 @@ use crate::deeds::diagnosis_changed;
 use crate::deeds::diagnosis_leaves;
 use crate::deeds::is_open;
 use crate::replies::user_place;
-use rules::diagnosis::delayed;
 use rules::diagnosis::delaying;
 use rules::diagnosis::diagnosed;
+use rules::diagnosis::is_delayed;
 use rules::kinds::in_range;
 use rules::line::clear_on;
 use rules::user::judged_configuration;
@@ -101,7 +101,7 @@ fn absent(mem: &[u8], kind: u32, index: u32) -> bool
     let diagnosis = load::diagnosis(mem);
     ((kind == 2) & past(parameters.shown, index))
         | ((kind == 3) & past(configuration.shown, index))
-        | ((kind == 5) & !(diagnosis.delayed_count == 0))
+        | ((kind == 5) & is_delayed(diagnosis))
 }
 
 // Where the octets of a kind begin.
@@ -176,7 +176,7 @@ pub fn new_diagnosis(mut s: State, count: u32, flags: u32) -> UserStep
     if !((6 <= count) & (count <= s.setup.diagnosis_len as u32) & (flags <= 7)) {
         return refusing(Refusal::Range, s);
     }
-    if delayed(s.control) {
+    if is_delayed(s.control.diagnosis) {
         return refusing(Refusal::Delayed, s);
     }
     let n = count as u8;

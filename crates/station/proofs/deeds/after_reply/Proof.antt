@@ -3,8 +3,8 @@ use Rattle.steps.specs.Deeds.{afterReply}
 use Rattle.station.proofs.deeds.after_reply.Statement.{statement}
 use Rattle.station.proofs.deeds.after_reply.Tie as tie
 
-delayed-requires : tie.Need-delayed-requires
-delayed-requires c κs = search needs
+is-delayed-requires : tie.Need-is-delayed-requires
+is-delayed-requires c κs = search needs
 
 diagnosis-leaves-requires : tie.Need-diagnosis-leaves-requires
 diagnosis-leaves-requires c κs = search needs
@@ -22,19 +22,19 @@ returns c =
       c .diagnosis-changed .ensures,
       c .before .caught-up .ensures,
       ← c .before .before .before .diagnosis-leaves .ensures,
-      ← c .before .before .before .before .delayed .ensures,
+      ← c .before .before .before .before .is-delayed .ensures,
       c .before .before .if1 .taken,
     )
 
 returns-2 : tie.Need-returns-2
 unfolding afterReply
-returns-2 c = rw (← c .before .diagnosis-leaves .ensures, ← c .before .before .delayed .ensures, c .if1 .left)
+returns-2 c = rw (← c .before .diagnosis-leaves .ensures, ← c .before .before .is-delayed .ensures, c .if1 .left)
 
 pub after-reply-spec : {M : Type 1} → statement M
 after-reply-spec =
     tie.close
     (tie.spec
-    delayed-requires
+    is-delayed-requires
     diagnosis-leaves-requires
     caught-up-requires
     diagnosis-changed-requires

@@ -7,13 +7,13 @@ use borrow.Author.Needs.{needs}
 use Rattle.station.proofs.deeds.settle.Statement.{statement}
 use Rattle.station.proofs.deeds.settle.Tie as tie
 
-delayed-requires : tie.Need-delayed-requires
-delayed-requires c κs = search needs
+is-delayed-requires : tie.Need-is-delayed-requires
+is-delayed-requires c κs = search needs
 
 returns : tie.Need-returns
 returns c =
     let s = c .before .before .before .before .args .s in
-    unsettled _ _ (ap (λ t. t || s .control .noted) (sym (c .before .before .delayed .ensures)) ∙ not-true _ (c .if1 .taken))
+    unsettled _ _ (ap (λ t. t || s .control .noted) (sym (c .before .before .is-delayed .ensures)) ∙ not-true _ (c .if1 .taken))
 
 settle-waiting-requires : tie.Need-settle-waiting-requires
 settle-waiting-requires c κs = search needs
@@ -26,4 +26,4 @@ returns-2 c = search needs
 
 pub settle-spec : {M : Type 1} → statement M
 settle-spec =
-    tie.close (tie.spec delayed-requires returns settle-waiting-requires same-length returns-2)
+    tie.close (tie.spec is-delayed-requires returns settle-waiting-requires same-length returns-2)

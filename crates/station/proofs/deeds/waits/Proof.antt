@@ -6,16 +6,20 @@ use Rattle.station.proofs.deeds.waits.Tie as tie
 diagnosis-requires : tie.Need-diagnosis-requires
 diagnosis-requires c κs = search needs
 
+is-delayed-requires : tie.Need-is-delayed-requires
+is-delayed-requires c κs = search needs
+
 noted-requires : tie.Need-noted-requires
 noted-requires c κs = search needs
 
 returns : tie.Need-returns
-returns c = rw (c .noted .ensures, c .before .before .diagnosis .ensures)
+returns c = rw (c .noted .ensures, c .before .is-delayed .ensures, c .before .before .diagnosis .ensures)
 
 pub waits-spec : {M : Type 1} → statement M
 waits-spec =
     tie.close
     (tie.spec
     diagnosis-requires
+    is-delayed-requires
     noted-requires
     returns)

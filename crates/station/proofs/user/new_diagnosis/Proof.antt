@@ -20,8 +20,8 @@ returns : tie.Need-returns
 unfolding newDiagnosis
 returns c = λ m. rw (c .before .if1 .taken) (c .refusing .ensures m)
 
-delayed-requires : tie.Need-delayed-requires
-delayed-requires c κs = search needs
+is-delayed-requires : tie.Need-is-delayed-requires
+is-delayed-requires c κs = search needs
 
 refusing-requires-2 : tie.Need-refusing-requires-2
 refusing-requires-2 c κs = search needs
@@ -32,7 +32,7 @@ returns-2 c =
     λ m.
     rw (
       c .before .before .before .if1 .left,
-      ← c .before .before .delayed .ensures,
+      ← c .before .before .is-delayed .ensures,
       c .before .if2 .taken,
     )
     (c .refusing2 .ensures m)
@@ -68,7 +68,7 @@ returns-3 c =
     λ m.
     rw (
       d .before .before .before .if1 .left,
-      ← d .before .before .delayed .ensures,
+      ← d .before .before .is-delayed .ensures,
       d .before .if2 .left,
       ← d .diagnosis-leaves .ensures,
       c .before .before .if3 .taken,
@@ -92,7 +92,7 @@ returns-4 c =
     λ m.
     rw (
       d .before .before .before .if1 .left,
-      ← d .before .before .delayed .ensures,
+      ← d .before .before .is-delayed .ensures,
       d .before .if2 .left,
       ← d .diagnosis-leaves .ensures,
       c .before .before .before .if3 .left,
@@ -108,7 +108,7 @@ new-diagnosis-spec =
     cast-if1
     refusing-requires
     returns
-    delayed-requires
+    is-delayed-requires
     refusing-requires-2
     returns-2
     cast-n
