@@ -1,12 +1,12 @@
 // Gap, send and tick.
-use crate::deeds::begun;
-use crate::deeds::busy;
-use crate::deeds::carry_out;
-use crate::deeds::settle;
-use crate::deeds::waits;
 use crate::reading::read_by;
 use crate::reading::read_on;
 use crate::replies::asked_for;
+use outcomes::carry::carry_out;
+use outcomes::carry::settle;
+use outcomes::line::begun;
+use outcomes::line::busy;
+use outcomes::line::waits;
 use rules::line::ticked;
 use state::image::save;
 use state::load;

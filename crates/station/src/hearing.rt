@@ -1,10 +1,10 @@
 // The bus's octet over the memory that holds the state: nothing of the state part is read or written that the octet has no need of.
 // Every step leaves the memory as the step on the unpacked state (`reading`) would leave it, packed again.
-use crate::deeds::is_inside;
 use crate::reading::hear_as;
 use crate::reading::is_ignored;
 use crate::reading::keep_octets;
 use crate::reading::read_on;
+use outcomes::line::is_inside;
 use state::image::save;
 use state::layout::configuration_at;
 use state::layout::outputs_at;

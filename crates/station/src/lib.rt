@@ -1,7 +1,6 @@
 // The station over its lent memory: the calls of the bus and of the vat program.
 pub mod bus;
 pub mod calls;
-pub mod deeds;
 pub mod hearing;
 pub mod memory;
 pub mod over_memory;

@@ -1,9 +1,9 @@
 // The bus's octet: a telegram's data goes into the fill buffer that its header names, as it comes.
-use crate::deeds::begun;
-use crate::deeds::carry_out;
-use crate::deeds::is_open;
-use crate::deeds::settle;
 use crate::replies::reply_for;
+use outcomes::carry::carry_out;
+use outcomes::carry::is_open;
+use outcomes::carry::settle;
+use outcomes::line::begun;
 use rules::outcome::Outcome;
 use rules::request::Prm;
 use rules::request::Request;

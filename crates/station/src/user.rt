@@ -1,10 +1,10 @@
 // The calls of the vat program.
-use crate::deeds::busy;
-use crate::deeds::carry_out;
-use crate::deeds::diagnosis_changed;
-use crate::deeds::diagnosis_leaves;
-use crate::deeds::is_open;
 use crate::replies::user_place;
+use outcomes::carry::carry_out;
+use outcomes::carry::diagnosis_changed;
+use outcomes::carry::is_open;
+use outcomes::line::busy;
+use outcomes::line::diagnosis_leaves;
 use rules::diagnosis::delaying;
 use rules::diagnosis::diagnosed;
 use rules::diagnosis::is_delayed;
