@@ -32,11 +32,12 @@ use Rattle.agreement.proofs.Relation.{Gathered, Agrees}
 use Rattle.agreement.proofs.Facts.{Ranges, Needed, After}
 use Rattle.agreement.proofs.SameLine.{open-agrees}
 use Rattle.agreement.proofs.Changes.{reading-changed}
-use Rattle.agreement.proofs.InOrder.{refilled-alike}
 use Rattle.agreement.proofs.OnLine.{reply-line, ignored-agrees}
 use Rattle.agreement.proofs.Replied.{replied, with-reply}
 use Rattle.agreement.proofs.Drawing.{draws}
-use Rattle.agreement.proofs.Served.{Served, headed, served, serve-same}
+use Rattle.rules.proofs.Served.{Served}
+use Rattle.steps.proofs.Outcomes.{outcome-served}
+use Rattle.rules.proofs.LookedAt.{serve-same}
 use Rattle.agreement.proofs.Received.{begins-whole, received-agrees}
 
 -- Set_Prm's octets, where there are enough of them
@@ -72,32 +73,24 @@ module _ {s : State} {m : List ℕ} {l : Ledger} (a : Agrees s m l) (d : Needed 
       let r = requestBy t in
       let ds = payloadOf t in
       let at = parametersAt (s .setup) (fillOf (s .parameters .set .place)) in
-      serve-same (s .setup) (refilled (s .setup) (s .control) r) r (serviceOf (s .setup) r) (isOpen (s .parameters)) (isOpen (s .configuration))
-      (prmIn (reading s t) m) (bus.prmBy ds) (s .incoming .first) (s .incoming .second) (getD ds 0 0) (getD ds 1 0) (headed r (s .setup))
-      (λ da dsap low high. prm-same (reading s t) m ds low (begins-whole m at (s .setup .«parameter_len») ds high (g .parameters da dsap)))
+      serve-same (s .setup) (refilled (s .setup) (s .control) r) r (isOpen (s .parameters)) (isOpen (s .configuration))
+      (prmIn (reading s t) m) (bus.prmBy ds) (s .incoming .first) (s .incoming .second) (getD ds 0 0) (getD ds 1 0)
+      (λ to fits. prm-same (reading s t) m ds (fits .0) (begins-whole m at (s .setup .«parameter_len») ds (fits .1) (g .parameters (to .0) (to .1))))
       (λ two. (g .first (omega arith), g .second (omega arith)))
       ∙ (λ i. serve (serviceOf (a .setup i) r) (a .setup i) (refilled (a .setup i) (a .control i) r) (open-agrees (a .parameters) i)
       (open-agrees (a .configuration) i) r (bus.prmBy ds) (getD ds 0 0) (getD ds 1 0))
-
-  -- which takes from the data what the header allows
-  serves : Served (s .setup) (refilled (s .setup) (s .control) (requestBy t)) (requestBy t) (outcomeOf (reading s t) m (requestBy t))
-  unfolding outcomeOf
-  serves =
-      let r = requestBy t in
-      served (s .setup) (refilled (s .setup) (s .control) r) r (serviceOf (s .setup) r) (isOpen (s .parameters)) (isOpen (s .configuration))
-      (prmIn (reading s t) m) (s .incoming .first) (s .incoming .second) (headed r (s .setup))
 
   -- octets are ignored from here on
   ignores : Agrees (reading s t) m (withLine l (bus.brokenOff (l .line)))
   ignores = reading-changed a (finished t) true [] (ignored-agrees refl refl refl)
 
-  module _ (o : Outcome) (v : Served (s .setup) (refilled (s .setup) (s .control) (requestBy t)) (requestBy t) o) where
+  module _ (o : Outcome) (v : Served (s .setup) (s .control) (requestBy t) o) where
     -- the outcome carried out
     done : After (carried (reading s t) m o (length (payloadOf t))) (ledger.carried (withLine l (bus.brokenOff (l .line))) o (payloadOf t))
-    done = received-agrees ignores o (requestBy t) (payloadOf t) (refilled (s .setup) (s .control) (requestBy t)) refl refl refl g v refl still
+    done = received-agrees ignores o (requestBy t) (payloadOf t) (s .control) refl refl refl g v refl still
 
     counts : o .control .diagnosis ≡ l .control .diagnosis
-    counts = v .counts-stay ∙ refilled-alike (s .setup) (s .control) (requestBy t) .diagnosis-same ∙ ap (λ (c : Control). c .diagnosis) (a .control)
+    counts = v .lawful .counts-stay ∙ ap (λ (c : Control). c .diagnosis) (a .control)
 
     -- and the reply drawn
     answers : After (answered (reading s t) m o (requestBy t)) (bus.answered l o (masterOf (requestBy t)) (payloadOf t))
@@ -122,4 +115,4 @@ module _ {s : State} {m : List ℕ} {l : Ledger} (a : Agrees s m l) (d : Needed 
   pub completes : After (completed s m (finished t)) (bus.completed l t)
   completes =
       let o = outcomeOf (reading s t) m (requestBy t) in
-      subst (λ (x : Outcome). After (answered (reading s t) m o (requestBy t)) (bus.answered l x (masterOf (requestBy t)) (payloadOf t))) outcomes (answers o serves)
+      subst (λ (x : Outcome). After (answered (reading s t) m o (requestBy t)) (bus.answered l x (masterOf (requestBy t)) (payloadOf t))) outcomes (answers o (outcome-served (reading s t) m (requestBy t)))

@@ -22,7 +22,6 @@ pub mod Begins
 mod Replied
 mod SendStep
 mod Drawing
-mod Served
 mod Received
 mod Completes
 mod Hears

@@ -18,6 +18,7 @@ use Rattle.state.specs.declared.control.Control.{Control}
 use Rattle.state.specs.declared.state.Sets as station-sets
 use Rattle.state.specs.declared.state.State.{State}
 use Rattle.state.specs.Layout.{outputs, inputs, parameters, configuration, diagnosis, startOf, outputsAt}
+use Rattle.state.specs.Sound.{Within}
 use Rattle.state.proofs.Places.{inside}
 use Rattle.rules.specs.declared.request.Request.{Request}
 use Rattle.rules.specs.declared.outcome.OutputsDeed.{OutputsDeed}
@@ -38,7 +39,8 @@ use Rattle.agreement.proofs.Carries.{inputs-stay, diagnoses-stay, slice
 use Rattle.state.proofs.Choice.{both}
 use Rattle.agreement.proofs.Facts.{After}
 use Rattle.agreement.proofs.OnLine.{ignored-agrees}
-use Rattle.agreement.proofs.Served.{Publishes, Receives, Served}
+use Rattle.rules.proofs.Headed.{Plain, To}
+use Rattle.rules.proofs.Served.{Publishes, Receives, Served}
 
 -- a buffer that is long enough begins with all that was gathered
 pub begins-whole : (m : List ℕ) (a n : ℕ) (ds : List ℕ) → length ds ≤ n → BeginsWith m a n ds → part m a (length ds) ≡ ds
@@ -153,7 +155,7 @@ module _ {s : State} {m : List ℕ} {l : Ledger} (a : Agrees s m l) (o : Outcome
   unfolding memory
   elsewhere = deed-elsewhere (o .outputs) s m (a .safe)
 
-  filled : (d : OutputsDeed) → Publishes d (s .setup) r → Filled d s m ds
+  filled : (d : OutputsDeed) → Publishes (Plain r × (r .count ≡ s .setup .«output_len»)) Unit d → Filled d s m ds
   filled outputs-deed.Keep p = tt
   filled outputs-deed.Publish p =
       let at = outputsAt (s .setup) (fillOf (s .outputs .set .place)) in
@@ -162,14 +164,14 @@ module _ {s : State} {m : List ℕ} {l : Ledger} (a : Agrees s m l) (o : Outcome
   filled outputs-deed.Zeros p = tt
 
   -- the sets lie behind the outputs
-  set-done : (b point n : ℕ) (x : station-sets.Sets) (y : Sets) (d : SetDeed) → outputs < b → Receives d point n r
+  set-done : (b point low n : ℕ) (x : station-sets.Sets) (y : Sets) (d : SetDeed) → outputs < b → 1 ≤ low → Receives (To r point × Within low (r .count) n) d
       → (128 ≤ s .incoming .reader .da → s .incoming .reader .dsap ≡ point → BeginsWith m (startOf (s .setup) b (fillOf (x .set .place))) n ds)
       → SetsAgree (startOf (s .setup) b) m x y → SetsAgree (startOf (s .setup) b) memory (onSets d x (length ds)) (ledger.onSets d y ds)
-  set-done b point n x y d h p begins k =
+  set-done b point low n x y d h u p begins k =
       sets-done d (startOf (s .setup) b) memory x y ds (came d p)
       (sets-stay (elsewhere .later b (heldOf (x .set .place)) (x .shown) h) (elsewhere .later b (nextOf (x .set .place)) (x .waiting) h) k)
     where
-      came : (d : SetDeed) → Receives d point n r → Came d memory (startOf (s .setup) b (fillOf (x .set .place))) ds
+      came : (d : SetDeed) → Receives (To r point × Within low (r .count) n) d → Came d memory (startOf (s .setup) b (fillOf (x .set .place))) ds
       came set-deed.Keep p = tt
       came set-deed.Receive p = (
         elsewhere .later b (fillOf (x .set .place)) (length ds) h ∙ begins-whole m (startOf (s .setup) b (fillOf (x .set .place))) n ds (omega arith) (begins (omega arith) (omega arith)),
@@ -194,10 +196,10 @@ module _ {s : State} {m : List ℕ} {l : Ledger} (a : Agrees s m l) (o : Outcome
   received-agrees = record {
     setup = a .setup;
     control = refl;
-    outputs = outputs-done (o .outputs) s m (l .buffers .outputs) (l .setup .«output_len») ds (a .safe) (ap (λ (g : Setup). g .«output_len») (a .setup)) (filled (o .outputs) (v .outputs-come)) (a .outputs);
+    outputs = outputs-done (o .outputs) s m (l .buffers .outputs) (l .setup .«output_len») ds (a .safe) (ap (λ (g : Setup). g .«output_len») (a .setup)) (filled (o .outputs) (v .lawful .outputs-come)) (a .outputs);
     inputs = inputs-done (o .outputs) (s .setup) memory (s .inputs) (l .buffers .inputs) (inputs-stay elsewhere (a .safe .inputs) (λ z. absurd (omega arith)) (a .inputs));
-    parameters = set-done parameters 61 (s .setup .«parameter_len») (s .parameters) (l .buffers .parameters) (o .parameters) (omega arith) (v .parameters-come) (g .parameters) (a .parameters);
-    configuration = set-done configuration 62 (s .setup .«configuration_len») (s .configuration) (l .buffers .configuration) (o .configuration) (omega arith) (v .configuration-come) (g .configuration) (a .configuration);
+    parameters = set-done parameters 61 7 (s .setup .«parameter_len») (s .parameters) (l .buffers .parameters) (o .parameters) (omega arith) (omega arith) (v .lawful .parameters-come) (g .parameters) (a .parameters);
+    configuration = set-done configuration 62 1 (s .setup .«configuration_len») (s .configuration) (l .buffers .configuration) (o .configuration) (omega arith) (omega arith) (v .lawful .configuration-come) (g .configuration) (a .configuration);
     diagnosis = diagnoses-stay elsewhere (λ z. absurd (omega arith)) (a .diagnosis);
     slice = slice-stays elsewhere (λ z. absurd (omega arith)) ∙ a .slice;
     reading = ignored-agrees (a .reading .ignoring ∙ ignored) ignored (a .reading .empty ignored);

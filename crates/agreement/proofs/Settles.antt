@@ -1,7 +1,7 @@
 -- Settling keeps the relation: a delayed diagnosis takes effect on both sides, and so does a noted clear.
 use Prim.Native.Nat.{ℕ}
 use mathlib.Core.Path.{_≡_, refl, sym, ap, _∙_, subst}
-use mathlib.Core.Bool.{Bool, true, false, cond, not, _&&_, _||_}
+use mathlib.Core.Bool.{Bool, true, false, cond, not, _&&_}
 use mathlib.Core.List.{List}
 use borrow.Author.Tests.{not-true}
 use Rattle.telegram.specs.Sending.{left}

@@ -7,7 +7,7 @@ use mathlib.Core.List.{List, [], _∷_, _++_}
 use mathlib.Core.Logic.{_⊎_, inl, inr}
 use lib.Dec.{eqb, leb}
 use lib.ListN.{getD}
-use borrow.Author.Tests.{leb-true, eqb-false, not-true, not-false}
+use borrow.Author.Tests.{eqb-false, not-true, not-false}
 use Rattle.buffers.specs.Events.{watchdog}
 use Rattle.telegram.specs.declared.reader.Status.{Status}
 use Rattle.telegram.specs.declared.reader.Status.the-variants.{Fresh, Inside, Complete, Broken}
@@ -19,24 +19,27 @@ use Rattle.state.specs.declared.control.Control.{Control}
 use Rattle.state.specs.declared.state.Drawn.the-variants.{Nothing}
 use Rattle.state.specs.declared.answer.Refusal.the-variants.{Judging, Range, Absent, Delayed}
 use Rattle.rules.specs.declared.outcome.Outcome.{Outcome}
+use Rattle.state.specs.Sound.{Within}
 use Rattle.state.specs.Well.{within}
 use Rattle.rules.specs.Control.{withNoted, raise}
 use Rattle.rules.specs.Phases.{drawing, waitPrm, enteringWaitPrm, dataExch}
-use Rattle.rules.specs.Requests.{refilled, serviceOf}
 use Rattle.rules.specs.Diagnosis.{delayed, diagnosed, delaying, caughtUp}
 use Rattle.rules.specs.Line.{clearing, clearOn, settled, counts, withLeft, ticked}
 use Rattle.rules.specs.User.{judgedParameters, judgedConfiguration}
 use Rattle.ledger.specs.Lists.{some, Buffers, taken, handedOver, withOutputs, withInputs}
 use Rattle.ledger.specs.Ledger.{Line, Ledger, withControl, withBuffers, withLine, begun, busy, diagnosisLeaves, parametersOpen, configurationOpen, fresh}
 use Rattle.ledger.specs.Deeds.{carried, diagnosisChanged, afterReply, settle}
-use Rattle.ledger.specs.Bus.{telegramOn, requestBy, prmBy, answered, completed, brokenOff, lengthened, beginning, sendLeft, silenced, heardAs, heard, paused, sent, elapsed}
+use Rattle.ledger.specs.Bus.{telegramOn, answered, completed, brokenOff, lengthened, beginning, sendLeft, silenced, heardAs, heard, paused, sent, elapsed}
 use Rattle.ledger.specs.User.{Told, told, refused, absent, octetsOfKind, writtenOctet, takeOutputs, readOctet, writeOctet, handOver, newDiagnosis, judgeParameters, judgeConfiguration, acknowledgeEvents, leaveMaster}
 use Rattle.rules.specs.Kinds.{inRange, writable}
 use Rattle.rules.specs.Call.{Call, octet, gap, send, tick, take, read, write, hand-over, new-diagnosis, judge-parameters, judge-configuration, events, acknowledge, pending, leave}
 use Rattle.ledger.specs.Calls.{step, after}
 use Rattle.agreement.proofs.Steady.{CountIn, Steady}
 use Rattle.state.proofs.Choice.{by-test, and-left, and-right}
-use Rattle.agreement.proofs.InOrder.{InOrder, Orders, Alike, closed-list, open-list, none-fit, kept, entered, refilled-alike, serve-order}
+use Rattle.state.proofs.Tests.{within-true}
+use Rattle.rules.proofs.Alike.{Alike, alike}
+use Rattle.ledger.proofs.Fit.{outcome-served}
+use Rattle.agreement.proofs.InOrder.{InOrder, Orders, closed-list, open-list, none-fit, kept, entered, served-order}
 
 -- the part of it that has nothing to do with the line
 abbrev Order : Ledger → Type 0
@@ -67,9 +70,6 @@ steady-by l h quiet noted delaying = record {
   noted = noted;
   delaying = delaying;
 }
-
-alike : {c d : Control} → d .phase ≡ c .phase → d .flags .«parameters_good» ≡ c .flags .«parameters_good» → d .diagnosis ≡ c .diagnosis → Alike c d
-alike e f g = record { phase-same = e; good-same = f; diagnosis-same = g }
 
 -- ---- an outcome on a line that stays
 
@@ -249,12 +249,7 @@ module _ {l : Ledger} (s : Steady l) where
 
   completed-order : (t : Telegram) → Order (completed l t)
   unfolding answered
-  completed-order t =
-      let r = requestBy t in
-      let ds = payloadOf t in
-      serve-order (l .setup) (refilled (l .setup) (l .control) r) (l .buffers .parameters) (l .buffers .configuration) ds
-      (kept (refilled-alike (l .setup) (l .control) r) (order-of s)) r refl
-      (serviceOf (l .setup) r) (parametersOpen l) (configurationOpen l) (prmBy ds) (getD ds 0 0) (getD ds 1 0)
+  completed-order t = served-order (payloadOf t) refl (order-of s) (outcome-served l t)
 
   completed-steady : (t : Telegram) → Steady (settle (completed l t))
   unfolding answered
@@ -341,10 +336,8 @@ module _ {l : Ledger} (s : Steady l) where
   diagnosed-steady count flags w =
       steady-by (diagnosisChanged l (diagnosed (l .control) count flags)) (diagnosed-order l count flags w (order-of s)) (s .quiet) (s .noted) (λ e. no-true e)
 
-  count-in : (n m : ℕ) (p : Bool) → within 6 n m && p ≡ true → (6 ≤ n) × (n ≤ m)
-  count-in n m p e =
-      let w = and-left (within 6 n m) p e in
-      (leb-true 6 n (and-left (leb 6 n) (leb n m) w), leb-true n m (and-right (leb 6 n) (leb n m) w))
+  count-in : (n m : ℕ) (p : Bool) → within 6 n m && p ≡ true → Within 6 n m
+  count-in n m p e = within-true 6 n m (and-left (within 6 n m) p e)
 
 Keeps : Told → Type 0
 Keeps t = Steady (t .ledger)

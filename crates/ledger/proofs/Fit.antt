@@ -23,11 +23,12 @@ use Rattle.rules.specs.declared.outcome.OutputsDeed.the-variants as outputs-dee
 use Rattle.rules.specs.declared.outcome.SetDeed.{SetDeed}
 use Rattle.rules.specs.declared.outcome.SetDeed.the-variants as set-deed
 use Rattle.rules.specs.declared.outcome.Outcome.{Outcome}
+use Rattle.state.specs.Sound.{Within}
 use Rattle.state.specs.Well.{within}
 use Rattle.rules.specs.Control.{bit}
-use Rattle.rules.specs.Requests.{masterOf, toStation, toAll, acts, refilled, serviceOf}
+use Rattle.rules.specs.Requests.{masterOf, toStation, toAll, acts, serviceOf}
 use Rattle.rules.specs.Diagnosis.{delayed, diagnosed, delaying, caughtUp}
-use Rattle.rules.specs.Line.{clearOn, settled, ticked}
+use Rattle.rules.specs.Line.{ticked}
 use Rattle.ledger.specs.Lists.{some, Outputs, taken, Inputs, handedOver, writtenInput, Sets, Diagnoses, exchanged, writtenDiagnosis, Buffers, withOutputs, withInputs, withDiagnoses}
 use Rattle.ledger.specs.Ledger.{Line, Ledger, withLine, begun, busy, diagnosisLeaves, parametersOpen, configurationOpen, fresh}
 use Rattle.ledger.specs.Deeds.{onOutputs, onInputs, onSets, onBuffers, carried, diagnosisChanged, afterReply, settle}
@@ -39,18 +40,19 @@ use Rattle.ledger.specs.ReadBack.{Accepted, OutputsFit, InputsFit, SetsF
 use Rattle.ledger.proofs.Settling.{settle-line}
 use Rattle.ledger.proofs.ByCases.{take-cases, read-cases, write-cases, diagnosis-cases, parameters-cases, configuration-cases}
 use Rattle.ledger.proofs.Hearing.{last-heard}
-use Rattle.ledger.proofs.Lawful.{OutputsLaw, SetLaw, Lawful, both-ends, refilled-counts, serve-lawful, clear-lawful, settled-lawful, ticked-lawful, parameters-lawful, configuration-lawful}
-use Rattle.state.proofs.Choice.{and-left, and-right}
+use Rattle.rules.proofs.Served.{Publishes, Receives, Lawful, Quiet, clear-quiet, settled-quiet, ticked-quiet, parameters-quiet, configuration-quiet, Served, served}
+use Rattle.state.proofs.Choice.{by-test, and-left, and-right}
+use Rattle.state.proofs.Tests.{within-true}
 use Rattle.ledger.proofs.ReadBack.{reply-reads, reply-left}
 
 -- ---------------------------------------------------------------------------------------------------
 -- The lists after an outcome.
 
-outputs-fit : (d : OutputsDeed) (o : Outputs) (s : Setup) (ds : List ℕ) → OutputsLaw d s (length ds) → OutputsFit (s .«output_len») o
-    → OutputsFit (s .«output_len») (onOutputs d o (s .«output_len») ds)
-outputs-fit outputs-deed.Keep o s ds w f = f
-outputs-fit outputs-deed.Publish o s ds w f = record { held = f .held; next = w }
-outputs-fit outputs-deed.Zeros o s ds w f = record { held = f .held; next = length-replicate (s .«output_len») 0 }
+outputs-fit : (Given Clear : Type 0) (d : OutputsDeed) (o : Outputs) (n : ℕ) (ds : List ℕ) → Publishes (Given × (length ds ≡ n)) Clear d → OutputsFit n o
+    → OutputsFit n (onOutputs d o n ds)
+outputs-fit Given Clear outputs-deed.Keep o n ds w f = f
+outputs-fit Given Clear outputs-deed.Publish o n ds w f = record { held = f .held; next = w .1 }
+outputs-fit Given Clear outputs-deed.Zeros o n ds w f = record { held = f .held; next = length-replicate n 0 }
 
 inputs-fit : (d : OutputsDeed) (i : Inputs) (n : ℕ) → InputsFit n i → InputsFit n (onInputs d i)
 inputs-fit outputs-deed.Keep i n f = f
@@ -61,23 +63,22 @@ inputs-fit outputs-deed.Publish i n f = go (i .fresh)
     go false = f
 inputs-fit outputs-deed.Zeros i n f = f
 
-sets-fit : (d : SetDeed) (x : Sets) (low high : ℕ) (ds : List ℕ) → SetLaw d low (length ds) high → SetsFit low high x → SetsFit low high (onSets d x ds)
-sets-fit set-deed.Keep x low high ds w f = f
-sets-fit set-deed.Receive x low high ds w f = go (some (x .shown))
-  where
-    go : (t : Bool) → SetsFit low high (cond t (record { shown = x .shown; waiting = ds }) (record { shown = ds; waiting = x .waiting }))
-    go true = record { shown = f .shown; waiting = inr w }
-    go false = record { shown = inr w; waiting = f .waiting }
-sets-fit set-deed.Advance x low high ds w f = record { shown = f .waiting; waiting = inl refl }
-sets-fit set-deed.Drop x low high ds w f = record { shown = inl refl; waiting = inl refl }
+sets-fit : (Given : Type 0) (d : SetDeed) (x : Sets) (low high : ℕ) (ds : List ℕ) → Receives (Given × Within low (length ds) high) d → SetsFit low high x
+    → SetsFit low high (onSets d x ds)
+sets-fit Given set-deed.Keep x low high ds w f = f
+sets-fit Given set-deed.Receive x low high ds w f =
+    by-test (SetsFit low high) (some (x .shown)) (record { shown = x .shown; waiting = ds }) (record { shown = ds; waiting = x .waiting })
+    (λ _. record { shown = f .shown; waiting = inr (w .1) }) (λ _. record { shown = inr (w .1); waiting = f .waiting })
+sets-fit Given set-deed.Advance x low high ds w f = record { shown = f .waiting; waiting = inl refl }
+sets-fit Given set-deed.Drop x low high ds w f = record { shown = inl refl; waiting = inl refl }
 
-lists-fit : (s : Setup) (c : Control) (b : Buffers) (o : Outcome) (ds : List ℕ) → ListsFit s b → Lawful s c (length ds) o
-    → ListsFit s (onBuffers o s ds b)
-lists-fit s c b o ds f w = record {
-  outputs = outputs-fit (o .outputs) (b .outputs) s ds (w .outputs-fit) (f .outputs);
+lists-fit : {s : Setup} {c : Control} {Given Clear : Type 0} {At : ℕ → Type 0} {o : Outcome} (b : Buffers) (ds : List ℕ) → ListsFit s b
+    → Lawful s c (length ds) Given Clear At o → ListsFit s (onBuffers o s ds b)
+lists-fit {s} {c} {Given} {Clear} {At} {o} b ds f w = record {
+  outputs = outputs-fit Given Clear (o .outputs) (b .outputs) (s .«output_len») ds (w .outputs-come) (f .outputs);
   inputs = inputs-fit (o .outputs) (b .inputs) (s .«input_len») (f .inputs);
-  parameters = sets-fit (o .parameters) (b .parameters) 7 (s .«parameter_len») ds (w .parameters-fit) (f .parameters);
-  configuration = sets-fit (o .configuration) (b .configuration) 1 (s .«configuration_len») ds (w .configuration-fit) (f .configuration);
+  parameters = sets-fit (At 61) (o .parameters) (b .parameters) 7 (s .«parameter_len») ds (w .parameters-come) (f .parameters);
+  configuration = sets-fit (At 62) (o .configuration) (b .configuration) 1 (s .«configuration_len») ds (w .configuration-come) (f .configuration);
   diagnosis = f .diagnosis;
 }
 
@@ -85,13 +86,17 @@ lists-fit s c b o ds f w = record {
 -- The ledger after an outcome, with another line, settled.
 
 module _ {l : Ledger} (f : Fit l) where
-  carried-fit : (o : Outcome) (ds : List ℕ) → Lawful (l .setup) (l .control) (length ds) o → Fit (carried l o ds)
-  carried-fit o ds w = record {
+  carried-fit : {Given Clear : Type 0} {At : ℕ → Type 0} {o : Outcome} (ds : List ℕ) → Lawful (l .setup) (l .control) (length ds) Given Clear At o → Fit (carried l o ds)
+  carried-fit ds w = record {
     accepted = f .accepted;
-    lists = lists-fit (l .setup) (l .control) (l .buffers) o ds (f .lists) w;
+    lists = lists-fit (l .buffers) ds (f .lists) w;
     counts = rw (w .counts-stay) (f .counts);
     reply = f .reply;
   }
+
+  -- one without data
+  quiet-fit : {o : Outcome} → Quiet (l .setup) (l .control) Unit o → Fit (carried l o [])
+  quiet-fit = carried-fit []
 
   on-line : (n : Line) → Left (n .reply) → Fit (withLine l n)
   on-line n w = record { accepted = f .accepted; lists = f .lists; counts = f .counts; reply = w }
@@ -151,30 +156,22 @@ module _ {l : Ledger} (f : Fit l) where
 
 settle-fit : {l : Ledger} → Fit l → Fit (settle l)
 unfolding settle
-settle-fit {l} f = carried-fit (reply-fit f) (settled (busy l) (afterReply l .control)) [] (settled-lawful (afterReply l .setup) (afterReply l .control) (busy l))
+settle-fit {l} f = quiet-fit (reply-fit f) (settled-quiet (afterReply l .setup) (afterReply l .control) (busy l) (λ _. tt))
 
 -- ---------------------------------------------------------------------------------------------------
 -- A complete telegram.
 
-outcome-lawful : (l : Ledger) (t : Telegram)
-    → Lawful (l .setup) (l .control) (length (payloadOf t)) (outcomeOf l (requestBy t) (payloadOf t))
-outcome-lawful l t =
-    let r = requestBy t in
+pub outcome-served : (l : Ledger) (t : Telegram) → Served (l .setup) (l .control) (requestBy t) (outcomeOf l (requestBy t) (payloadOf t))
+outcome-served l t =
     let ds = payloadOf t in
-    let w = serve-lawful (l .setup) (refilled (l .setup) (l .control) r) r (serviceOf (l .setup) r) (parametersOpen l) (configurationOpen l) (prmBy ds) (getD ds 0 0) (getD ds 1 0) in
-    record {
-      counts-stay = w .counts-stay ∙ refilled-counts (l .setup) (l .control) r;
-      outputs-fit = w .outputs-fit;
-      parameters-fit = w .parameters-fit;
-      configuration-fit = w .configuration-fit;
-    }
+    served (l .setup) (l .control) (requestBy t) (parametersOpen l) (configurationOpen l) (prmBy ds) (getD ds 0 0) (getD ds 1 0)
 
 master-low : (r : Request) → masterOf r < 128
 master-low r = mod-lt (r .sa) (omega arith)
 
 module _ {l : Ledger} (f : Fit l) (t : Telegram) where
   outcome-fit : Fit (carried l (outcomeOf l (requestBy t) (payloadOf t)) (payloadOf t))
-  outcome-fit = carried-fit f (outcomeOf l (requestBy t) (payloadOf t)) (payloadOf t) (outcome-lawful l t)
+  outcome-fit = carried-fit f (payloadOf t) (outcome-served l t .lawful)
 
   completed-fit : Fit (completed l t)
   unfolding answered
@@ -237,8 +234,8 @@ written-fit {l} kind index x f = go (eqb kind 4)
         (record { own = f .lists .diagnosis .own; user = length-set (b .diagnosis .user) index x ∙ f .lists .diagnosis .user })
 
 -- a count that new diagnosis takes
-count-in : (n m : ℕ) (p : Bool) → within 6 n m && p ≡ true → (6 ≤ n) × (n ≤ m)
-count-in n m p e = both-ends 6 n m (and-left (within 6 n m) p e)
+count-in : (n m : ℕ) (p : Bool) → within 6 n m && p ≡ true → Within 6 n m
+count-in n m p e = within-true 6 n m (and-left (within 6 n m) p e)
 
 -- and its flags
 flags-in : (n m flags : ℕ) → within 6 n m && leb flags 7 ≡ true → flags ≤ 7
@@ -261,7 +258,7 @@ step-fit l tick f = go (l .control .noted)
   where
     go : (p : Bool) → Fit (cond p (settle (withLine l (silenced l))) (carried l (ticked (busy l) (l .control)) []))
     go true = settle-fit (on-line f (silenced l) (inl refl))
-    go false = carried-fit f (ticked (busy l) (l .control)) [] (ticked-lawful (l .setup) (l .control) (busy l))
+    go false = quiet-fit f (ticked-quiet (l .setup) (l .control) (busy l) (λ _. tt))
 step-fit l take f =
     take-cases (λ t. Fit (t .ledger)) l (λ _. f)
     (λ _. on-lists f (withOutputs (l .buffers) (taken (l .buffers .outputs))) (l .control)
@@ -280,14 +277,14 @@ step-fit l (new-diagnosis count flags) f =
     (λ e. changed-fit f _ (record { count = count-in count _ _ e; delayed = inl refl; flags = omega arith }))
 step-fit l (judge-parameters j) f =
     parameters-cases (λ t. Fit (t .ledger)) l j (λ _ _. f)
-    (λ _. carried-fit f _ [] (parameters-lawful (l .setup) (l .control) (some (l .buffers .parameters .waiting)) (eqb j 1)))
+    (λ _. quiet-fit f (parameters-quiet (l .setup) (l .control) (some (l .buffers .parameters .waiting)) (eqb j 1) tt))
 step-fit l (judge-configuration j) f =
     configuration-cases (λ t. Fit (t .ledger)) l j (λ _ _. f)
-    (λ _. carried-fit f _ [] (configuration-lawful (l .setup) (l .control) (some (l .buffers .configuration .waiting)) (eqb j 1)))
+    (λ _. quiet-fit f (configuration-quiet (l .setup) (l .control) (some (l .buffers .configuration .waiting)) (eqb j 1) tt))
 step-fit l events f = f
 step-fit l (acknowledge mask) f = on-lists f (l .buffers) (step l (acknowledge mask) .ledger .control) (f .lists) (f .counts)
 step-fit l pending f = f
-step-fit l leave f = carried-fit f (clearOn (busy l) (l .control)) [] (clear-lawful (l .setup) (l .control) (busy l))
+step-fit l leave f = quiet-fit f (clear-quiet (l .setup) (l .control) (busy l) (λ _. tt))
 
 -- ---------------------------------------------------------------------------------------------------
 -- Every list.

@@ -5,7 +5,6 @@ pub mod Kept
 pub mod Exchange
 pub mod History
 pub mod Hearing
-pub mod Lawful
 pub mod ReadBack
 pub mod Fit
 pub mod Scripts

@@ -1,7 +1,7 @@
 -- Octets, gaps and Ticks keep a state sound: its roles, lengths and counts keep the rules.
 use Prim.Native.Nat.{ℕ, _≤_}
 use native.Mathlib.Omega.{arith}
-use mathlib.Core.Path.{_≡_, refl, sym, ap, _∙_}
+use mathlib.Core.Path.{_≡_, refl, sym, ap}
 use mathlib.Core.Bool.{Bool, true, false, cond, not, _&&_}
 use mathlib.Core.List.{List}
 use mathlib.Core.Logic.{inl, inr}
@@ -25,43 +25,35 @@ use Rattle.state.specs.Sound.{Within, NoneOr, Sound}
 use Rattle.rules.specs.declared.outcome.SetDeed.{SetDeed}
 use Rattle.rules.specs.declared.outcome.SetDeed.the-variants as set-deed
 use Rattle.rules.specs.declared.outcome.Outcome.{Outcome}
-use Rattle.rules.specs.declared.request.Request.{Request}
-use Rattle.rules.specs.Requests.{masterOf, refilled, serviceOf}
-use Rattle.rules.specs.Line.{settled, ticked}
+use Rattle.rules.specs.Requests.{masterOf}
+use Rattle.rules.specs.Line.{ticked}
 use Rattle.rules.specs.Diagnosis.{delayed, diagnosed, caughtUp}
-use Rattle.ledger.proofs.Lawful.{SetLaw, Lawful, refilled-counts, serve-lawful, settled-lawful, ticked-lawful}
-use Rattle.state.proofs.Choice.{and-left}
+use Rattle.rules.proofs.Served.{Receives, Lawful, Quiet, settled-quiet, ticked-quiet}
+use Rattle.state.proofs.Choice.{by-test, and-left}
 use Rattle.steps.specs.Safe.{Safe}
 use Rattle.steps.specs.Stepped.{Stepped, unchanged}
 use Rattle.state.specs.With.{withIncoming, withReply}
 use Rattle.steps.specs.Deeds.{begun, busy, isOpen, diagnosisLeaves, onSets, carried, diagnosisChanged, afterReply, settle}
 use Rattle.state.specs.Start.{noReply}
 use Rattle.steps.specs.Replies.{replyFor}
-use Rattle.steps.specs.Reading.{keptOctets, storedAs, readBy, requestBy, prmIn, outcomeOf, answered, completed, beginning, isIgnored, heardAs, heard}
+use Rattle.steps.specs.Reading.{keptOctets, storedAs, readBy, requestBy, outcomeOf, answered, completed, beginning, isIgnored, heardAs, heard}
 use Rattle.steps.specs.Bus.{paused, silencedReader, elapsed}
+use Rattle.steps.proofs.Outcomes.{outcome-served}
 use Rattle.steps.proofs.Safety.{safe-carried, safe-after-reply, safe-read-by, safe-beginning, safe-completed}
 use Rattle.lent.specs.Run.{Beat, octet, gap, tick, beat}
 
 -- ---- a set of parameters or of configuration after an outcome
 
-module _ (low high count : ℕ) (P : ℕ → Type 0) (none : P 0) (given : Within low count high → P count) where
-  shown-keeps : (d : SetDeed) (x : Sets) → SetLaw d low count high → P (x .shown) → P (x .waiting) → P (onSets d x count .shown)
+module _ (Given : Type 0) (count : ℕ) (P : ℕ → Type 0) (none : P 0) (given : Given → P count) where
+  shown-keeps : (d : SetDeed) (x : Sets) → Receives Given d → P (x .shown) → P (x .waiting) → P (onSets d x count .shown)
   shown-keeps set-deed.Keep x w p q = p
-  shown-keeps set-deed.Receive x w p q = go (isOpen x) _ _ p (given w)
-    where
-      go : (t : Bool) (y z : Sets) → P (y .shown) → P (z .shown) → P (cond t y z .shown)
-      go true y z f g = f
-      go false y z f g = g
+  shown-keeps set-deed.Receive x w p q = by-test (λ (y : Sets). P (y .shown)) (isOpen x) _ _ (λ _. p) (λ _. given w)
   shown-keeps set-deed.Advance x w p q = q
   shown-keeps set-deed.Drop x w p q = none
 
-  waiting-keeps : (d : SetDeed) (x : Sets) → SetLaw d low count high → P (x .waiting) → P (onSets d x count .waiting)
+  waiting-keeps : (d : SetDeed) (x : Sets) → Receives Given d → P (x .waiting) → P (onSets d x count .waiting)
   waiting-keeps set-deed.Keep x w q = q
-  waiting-keeps set-deed.Receive x w q = go (isOpen x) _ _ (given w) q
-    where
-      go : (t : Bool) (y z : Sets) → P (y .waiting) → P (z .waiting) → P (cond t y z .waiting)
-      go true y z f g = f
-      go false y z f g = g
+  waiting-keeps set-deed.Receive x w q = by-test (λ (y : Sets). P (y .waiting)) (isOpen x) _ _ (λ _. given w) (λ _. q)
   waiting-keeps set-deed.Advance x w q = none
   waiting-keeps set-deed.Drop x w q = none
 
@@ -69,25 +61,21 @@ module _ (low high count : ℕ) (P : ℕ → Type 0) (none : P 0) (given : Withi
 abbrev Marked : Sets → Type 0
 Marked x = x .set .fresh ≡ not (eqb (x .waiting) 0)
 
-fresh-keeps : (low high count : ℕ) → 1 ≤ low → (d : SetDeed) (x : Sets) → SetLaw d low count high → Marked x → Marked (onSets d x count)
-fresh-keeps low high count l set-deed.Keep x w e = e
-fresh-keeps low high count l set-deed.Receive x w e = go (isOpen x) _ _ waits e
+fresh-keeps : (Given : Type 0) (count : ℕ) → (Given → 1 ≤ count) → (d : SetDeed) (x : Sets) → Receives Given d → Marked x → Marked (onSets d x count)
+fresh-keeps Given count l set-deed.Keep x w e = e
+fresh-keeps Given count l set-deed.Receive x w e = by-test Marked (isOpen x) _ _ (λ _. waits) (λ _. e)
   where
     waits : true ≡ not (eqb count 0)
-    waits = let u = w .0 in sym (ap not (ne-eqb count 0 (λ z. omega arith)))
-
-    go : (t : Bool) (y z : Sets) → Marked y → Marked z → Marked (cond t y z)
-    go true y z f g = f
-    go false y z f g = g
-fresh-keeps low high count l set-deed.Advance x w e = refl
-fresh-keeps low high count l set-deed.Drop x w e = refl
+    waits = let u = l w in sym (ap not (ne-eqb count 0 (λ z. omega arith)))
+fresh-keeps Given count l set-deed.Advance x w e = refl
+fresh-keeps Given count l set-deed.Drop x w e = refl
 
 -- ---- an outcome carried out
 
-sound-carried : (s : State) (m : List ℕ) (o : Outcome) (count : ℕ) → Safe s m → Sound s → Lawful (s .setup) (s .control) count o
-    → Sound (carried s m o count .state)
+sound-carried : {Given Clear : Type 0} {At : ℕ → Type 0} {o : Outcome} (s : State) (m : List ℕ) (count : ℕ) → Safe s m → Sound s
+    → Lawful (s .setup) (s .control) count Given Clear At o → Sound (carried s m o count .state)
 unfolding carried
-sound-carried s m o count safe h w =
+sound-carried {Given} {Clear} {At} {o} s m count safe h w =
     let n : Setup = s .setup in
     let g = safe-carried s m o count safe in
     record {
@@ -96,17 +84,21 @@ sound-carried s m o count safe h w =
       inputs = g .inputs;
       parameters = g .parameters;
       configuration = g .configuration;
-      parameters-shown = shown-keeps 7 (n .«parameter_len») count (λ k. NoneOr 7 k (n .«parameter_len»)) (inl refl) inr (o .parameters) (s .parameters) (w .parameters-fit) (h .parameters-shown) (h .parameters-waiting);
-      parameters-waiting = waiting-keeps 7 (n .«parameter_len») count (λ k. NoneOr 7 k (n .«parameter_len»)) (inl refl) inr (o .parameters) (s .parameters) (w .parameters-fit) (h .parameters-waiting);
-      configuration-shown = shown-keeps 1 (n .«configuration_len») count (λ k. k ≤ n .«configuration_len») (omega arith) (λ v. v .1) (o .configuration) (s .configuration) (w .configuration-fit) (h .configuration-shown) (h .configuration-waiting);
-      configuration-waiting = waiting-keeps 1 (n .«configuration_len») count (λ k. k ≤ n .«configuration_len») (omega arith) (λ v. v .1) (o .configuration) (s .configuration) (w .configuration-fit) (h .configuration-waiting);
-      parameters-fresh = fresh-keeps 7 (n .«parameter_len») count (omega arith) (o .parameters) (s .parameters) (w .parameters-fit) (h .parameters-fresh);
-      configuration-fresh = fresh-keeps 1 (n .«configuration_len») count (omega arith) (o .configuration) (s .configuration) (w .configuration-fit) (h .configuration-fresh);
+      parameters-shown = shown-keeps _ count (λ k. NoneOr 7 k (n .«parameter_len»)) (inl refl) (λ v. inr (v .1)) (o .parameters) (s .parameters) (w .parameters-come) (h .parameters-shown) (h .parameters-waiting);
+      parameters-waiting = waiting-keeps _ count (λ k. NoneOr 7 k (n .«parameter_len»)) (inl refl) (λ v. inr (v .1)) (o .parameters) (s .parameters) (w .parameters-come) (h .parameters-waiting);
+      configuration-shown = shown-keeps _ count (λ k. k ≤ n .«configuration_len») (omega arith) (λ v. v .1 .1) (o .configuration) (s .configuration) (w .configuration-come) (h .configuration-shown) (h .configuration-waiting);
+      configuration-waiting = waiting-keeps _ count (λ k. k ≤ n .«configuration_len») (omega arith) (λ v. v .1 .1) (o .configuration) (s .configuration) (w .configuration-come) (h .configuration-waiting);
+      parameters-fresh = fresh-keeps _ count (λ v. omega arith) (o .parameters) (s .parameters) (w .parameters-come) (h .parameters-fresh);
+      configuration-fresh = fresh-keeps _ count (λ v. omega arith) (o .configuration) (s .configuration) (w .configuration-come) (h .configuration-fresh);
       diagnosis-count = rw (w .counts-stay) (h .diagnosis-count);
       delayed-count = rw (w .counts-stay) (h .delayed-count);
       delayed-flags = rw (w .counts-stay) (h .delayed-flags);
       place = g .reply;
     }
+
+-- one without data
+sound-quiet : {o : Outcome} (s : State) (m : List ℕ) → Safe s m → Sound s → Quiet (s .setup) (s .control) Unit o → Sound (carried s m o 0 .state)
+sound-quiet s m = sound-carried s m 0
 
 -- ---- another control part, reading or reply
 
@@ -180,21 +172,10 @@ sound-after-reply s h = go (delayed (s .control) && not (diagnosisLeaves s)) ref
 sound-settle : (s : State) (m : List ℕ) → Safe s m → Sound s → Sound (settle s m .state)
 unfolding settle
 sound-settle s m safe h =
-    sound-carried (afterReply s) m (settled (busy s) (afterReply s .control)) 0 (safe-after-reply s m safe) (sound-after-reply s h)
-    (settled-lawful (afterReply s .setup) (afterReply s .control) (busy s))
+    sound-quiet (afterReply s) m (safe-after-reply s m safe) (sound-after-reply s h)
+    (settled-quiet (afterReply s .setup) (afterReply s .control) (busy s) (λ _. tt))
 
 -- ---- an octet heard
-
-outcome-lawful : (s : State) (m : List ℕ) (r : Request) → Lawful (s .setup) (s .control) (r .count) (outcomeOf s m r)
-unfolding outcomeOf
-outcome-lawful s m r =
-    let w = serve-lawful (s .setup) (refilled (s .setup) (s .control) r) r (serviceOf (s .setup) r) (isOpen (s .parameters)) (isOpen (s .configuration)) (prmIn s m) (s .incoming .first) (s .incoming .second) in
-    record {
-      counts-stay = w .counts-stay ∙ refilled-counts (s .setup) (s .control) r;
-      outputs-fit = w .outputs-fit;
-      parameters-fit = w .parameters-fit;
-      configuration-fit = w .configuration-fit;
-    }
 
 sound-stored : (d : Datum) (s : State) (m : List ℕ) (r : Reader) (b : ℕ) → Sound s → Sound (storedAs d s m r b .state)
 sound-stored Nothing s m r b h = sound-read-by s r h
@@ -206,7 +187,7 @@ sound-completed s m r safe h =
     let x = readBy s r in
     let o = outcomeOf x m (requestBy r) in
     sound-reply-for (carried x m o (r .count) .state) (o .drawn) (masterOf (requestBy r))
-    (sound-carried x m o (r .count) (safe-read-by s m r safe) (sound-read-by s r h) (outcome-lawful x m (requestBy r)))
+    (sound-carried x m (r .count) (safe-read-by s m r safe) (sound-read-by s r h) (outcome-served x m (requestBy r) .lawful))
 
 -- one of two
 chosen : (t : Bool) (x y : Stepped) → Sound (x .state) → Sound (y .state) → Sound (cond t x y .state)
@@ -236,4 +217,4 @@ module _ (s : State) (m : List ℕ) (safe : Safe s m) (h : Sound s) where
       let r : Reader = silencedReader (begun s) (s .incoming .reader) in
       chosen (s .control .noted) (settle (beginning s r) m) (carried s m (ticked (busy s) (s .control)) 0)
       (sound-settle (beginning s r) m (safe-beginning s m r safe) (sound-beginning s r h))
-      (sound-carried s m (ticked (busy s) (s .control)) 0 safe h (ticked-lawful (s .setup) (s .control) (busy s)))
+      (sound-quiet s m safe h (ticked-quiet (s .setup) (s .control) (busy s) (λ _. tt)))

@@ -3,3 +3,4 @@ pub mod Lengths
 pub mod Idle
 pub mod Holding
 pub mod Guarded
+pub mod Outcomes

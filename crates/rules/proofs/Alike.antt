@@ -1,0 +1,28 @@
+-- Control parts that differ in nothing that decides about sets and diagnosis: the phase, parameter OK and the diagnosis counts.
+use mathlib.Core.Path.{_≡_, refl, ap}
+use mathlib.Core.Bool.{_&&_}
+use Rattle.state.specs.declared.setup.Setup.{Setup}
+use Rattle.state.specs.declared.control.Control.{Control}
+use Rattle.state.proofs.Choice.{by-test}
+use Rattle.rules.specs.declared.request.Request.{Request}
+use Rattle.rules.specs.Control.{owns, exchanging, inExchange, withWatchdog}
+use Rattle.rules.specs.Requests.{masterOf, acts, toStation, refilled}
+
+pub record Alike (c d : Control) : Type 0 where
+  pub phase-same : d .phase ≡ c .phase
+  pub good-same : d .flags .«parameters_good» ≡ c .flags .«parameters_good»
+  pub diagnosis-same : d .diagnosis ≡ c .diagnosis
+
+pub alike : {c d : Control} → d .phase ≡ c .phase → d .flags .«parameters_good» ≡ c .flags .«parameters_good» → d .diagnosis ≡ c .diagnosis → Alike c d
+alike e f g = record { phase-same = e; good-same = f; diagnosis-same = g }
+
+-- both are in DATA_EXCH, or neither
+pub exchange-same : {c d : Control} → Alike c d → inExchange d ≡ inExchange c
+exchange-same s = ap exchanging (s .phase-same)
+
+-- the watchdog refilled
+pub refilled-alike : (g : Setup) (c : Control) (r : Request) → Alike c (refilled g c r)
+unfolding refilled
+refilled-alike g c r =
+    by-test (Alike c) (acts g r && toStation g r && owns c (masterOf r)) (withWatchdog c (record { reload = c .watchdog .reload; left = c .watchdog .reload })) c
+    (λ _. alike refl refl refl) (λ _. alike refl refl refl)

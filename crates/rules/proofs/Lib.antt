@@ -1,0 +1,4 @@
+pub mod Alike
+pub mod Headed
+pub mod Served
+pub mod LookedAt
