@@ -17,17 +17,17 @@ use Rattle.state.specs.declared.control.Control.{Control}
 use Rattle.state.specs.declared.state.State.{State}
 use Rattle.state.specs.Layout.{parametersAt}
 use Rattle.rules.specs.declared.outcome.Outcome.{Outcome}
-use Rattle.rules.specs.Requests.{masterOf, refilled, serviceOf}
-use Rattle.rules.specs.Services.{serve}
+use Rattle.rules.specs.Requests.{masterOf}
+use Rattle.rules.specs.Services.{outcomeBy}
 use Rattle.ledger.specs.Ledger.{Ledger, withLine}
 use Rattle.ledger.specs.Replies.{replyOf}
 use Rattle.rules.specs.Replies.{diagnoses}
 use Rattle.ledger.specs.Deeds as ledger
 use Rattle.ledger.specs.Bus as bus
 use Rattle.ledger.specs.Bus.{requestBy}
-use Rattle.steps.specs.Deeds.{isOpen, carried}
+use Rattle.steps.specs.Deeds.{openSets, carried}
 use Rattle.steps.specs.Replies.{replyFor}
-use Rattle.steps.specs.Reading.{readBy, prmIn, outcomeOf, answered, completed}
+use Rattle.steps.specs.Reading.{readBy, prmIn, dataIn, outcomeOf, answered, completed}
 use Rattle.agreement.proofs.Relation.{Gathered, Agrees}
 use Rattle.agreement.proofs.Facts.{Ranges, Needed, After}
 use Rattle.agreement.proofs.SameLine.{open-agrees}
@@ -37,7 +37,7 @@ use Rattle.agreement.proofs.Replied.{replied, with-reply}
 use Rattle.agreement.proofs.Drawing.{draws}
 use Rattle.rules.proofs.Served.{Served}
 use Rattle.steps.proofs.Outcomes.{outcome-served}
-use Rattle.rules.proofs.LookedAt.{serve-same}
+use Rattle.rules.proofs.LookedAt.{same-outcome}
 use Rattle.agreement.proofs.Received.{begins-whole, received-agrees}
 
 -- Set_Prm's octets, where there are enough of them
@@ -73,12 +73,10 @@ module _ {s : State} {m : List ℕ} {l : Ledger} (a : Agrees s m l) (d : Needed 
       let r = requestBy t in
       let ds = payloadOf t in
       let at = parametersAt (s .setup) (fillOf (s .parameters .set .place)) in
-      serve-same (s .setup) (refilled (s .setup) (s .control) r) r (isOpen (s .parameters)) (isOpen (s .configuration))
-      (prmIn (reading s t) m) (bus.prmBy ds) (s .incoming .first) (s .incoming .second) (getD ds 0 0) (getD ds 1 0)
+      same-outcome (s .setup) (s .control) (openSets s) r (dataIn (reading s t) m) (bus.dataBy ds)
       (λ to fits. prm-same (reading s t) m ds (fits .0) (begins-whole m at (s .setup .«parameter_len») ds (fits .1) (g .parameters (to .0) (to .1))))
       (λ two. (g .first (omega arith), g .second (omega arith)))
-      ∙ (λ i. serve (serviceOf (a .setup i) r) (a .setup i) (refilled (a .setup i) (a .control i) r) (open-agrees (a .parameters) i)
-      (open-agrees (a .configuration) i) r (bus.prmBy ds) (getD ds 0 0) (getD ds 1 0))
+      ∙ (λ i. outcomeBy (a .setup i) (a .control i) (record { parameters = open-agrees (a .parameters) i; configuration = open-agrees (a .configuration) i }) r (bus.dataBy ds))
 
   -- octets are ignored from here on
   ignores : Agrees (reading s t) m (withLine l (bus.brokenOff (l .line)))

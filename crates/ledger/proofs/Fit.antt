@@ -7,7 +7,7 @@ use mathlib.Core.Bool.{Bool, true, false, cond, not, _&&_, _||_}
 use mathlib.Core.List.{List, [], _∷_, _++_, append-assoc}
 use mathlib.Core.Logic.{_⊎_, inl, inr}
 use lib.Dec.{eqb, leb}
-use lib.ListN.{length, getD, length-replicate, length-set}
+use lib.ListN.{length, length-replicate, length-set}
 use borrow.Author.Tests.{leb-true, eqb-false, not-true}
 use Rattle.telegram.specs.declared.reader.Status.{Status}
 use Rattle.telegram.specs.declared.reader.Status.the-variants.{Fresh, Inside, Complete, Broken}
@@ -30,9 +30,9 @@ use Rattle.rules.specs.Requests.{masterOf, toStation, toAll, acts, serviceOf}
 use Rattle.rules.specs.Diagnosis.{delayed, diagnosed, delaying, caughtUp}
 use Rattle.rules.specs.Line.{ticked}
 use Rattle.ledger.specs.Lists.{some, Outputs, taken, Inputs, handedOver, writtenInput, Sets, Diagnoses, exchanged, writtenDiagnosis, Buffers, withOutputs, withInputs, withDiagnoses}
-use Rattle.ledger.specs.Ledger.{Line, Ledger, withLine, begun, busy, diagnosisLeaves, parametersOpen, configurationOpen, fresh}
+use Rattle.ledger.specs.Ledger.{Line, Ledger, withLine, begun, busy, diagnosisLeaves, openSets, fresh}
 use Rattle.ledger.specs.Deeds.{onOutputs, onInputs, onSets, onBuffers, carried, diagnosisChanged, afterReply, settle}
-use Rattle.ledger.specs.Bus.{telegramOn, requestBy, prmBy, outcomeOf, answered, completed, brokenOff, lengthened, beginning, sendLeft, silenced, heardAs, heard, paused, sent, elapsed}
+use Rattle.ledger.specs.Bus.{telegramOn, requestBy, dataBy, outcomeOf, answered, completed, brokenOff, lengthened, beginning, sendLeft, silenced, heardAs, heard, paused, sent, elapsed}
 use Rattle.ledger.specs.User.{handOver, acknowledgeEvents, leaveMaster, writtenOctet}
 use Rattle.rules.specs.Call.{Call, octet, gap, send, tick, take, read, write, hand-over, new-diagnosis, judge-parameters, judge-configuration, events, acknowledge, pending, leave}
 use Rattle.ledger.specs.Calls.{step, after}
@@ -162,9 +162,7 @@ settle-fit {l} f = quiet-fit (reply-fit f) (settled-quiet (afterReply l .setup) 
 -- A complete telegram.
 
 pub outcome-served : (l : Ledger) (t : Telegram) → Served (l .setup) (l .control) (requestBy t) (outcomeOf l (requestBy t) (payloadOf t))
-outcome-served l t =
-    let ds = payloadOf t in
-    served (l .setup) (l .control) (requestBy t) (parametersOpen l) (configurationOpen l) (prmBy ds) (getD ds 0 0) (getD ds 1 0)
+outcome-served l t = served (l .setup) (l .control) (openSets l) (requestBy t) (dataBy (payloadOf t))
 
 master-low : (r : Request) → masterOf r < 128
 master-low r = mod-lt (r .sa) (omega arith)

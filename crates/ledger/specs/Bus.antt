@@ -1,5 +1,5 @@
 -- The calls of the bus: octet, gap, send and tick (document 01, Telegrams, Services, and the Tick in User calls).
-use Prim.Native.Nat.{ℕ, _+_}
+use Prim.Native.Nat.{ℕ}
 use mathlib.Core.Bool.{Bool, true, false, cond, _||_}
 use mathlib.Core.List.{List, [], _∷_, _++_}
 use lib.ListN.{length, getD}
@@ -8,12 +8,13 @@ use Rattle.telegram.specs.declared.reader.Status.the-variants.{Fresh, Inside, C
 use Rattle.telegram.specs.Telegram.{Telegram, kindOf, daOf, saOf, fcOf, dsapOf, ssapOf, payloadOf}
 use Rattle.telegram.specs.Reading.{start, run, received, status, gathered, telegramOf}
 use Rattle.rules.specs.declared.request.Request.{Request}
+use Rattle.rules.specs.declared.request.Data.{Data}
 use Rattle.rules.specs.declared.request.Prm.{Prm}
 use Rattle.rules.specs.declared.outcome.Outcome.{Outcome}
-use Rattle.rules.specs.Requests.{masterOf, refilled, serviceOf}
-use Rattle.rules.specs.Services.{serve}
+use Rattle.rules.specs.Requests.{masterOf}
+use Rattle.rules.specs.Services.{outcomeBy}
 use Rattle.rules.specs.Line.{ticked}
-use Rattle.ledger.specs.Ledger.{Line, Ledger, withLine, begun, busy, parametersOpen, configurationOpen}
+use Rattle.ledger.specs.Ledger.{Line, Ledger, withLine, begun, busy, openSets}
 use Rattle.ledger.specs.Replies.{replyOf}
 use Rattle.rules.specs.Replies.{diagnoses}
 use Rattle.ledger.specs.Deeds.{carried, onBuffers, settle}
@@ -39,10 +40,13 @@ prmBy ds =
       group = getD ds 6 0;
     }
 
+-- and all that the rules look at
+abbrev pub dataBy : List ℕ → Data
+dataBy ds = record { prm = prmBy ds; first = getD ds 0 0; second = getD ds 1 0 }
+
 -- what comes of a telegram
 abbrev pub outcomeOf : Ledger → Request → List ℕ → Outcome
-outcomeOf l r ds =
-    serve (serviceOf (l .setup) r) (l .setup) (refilled (l .setup) (l .control) r) (parametersOpen l) (configurationOpen l) r (prmBy ds) (getD ds 0 0) (getD ds 1 0)
+outcomeOf l r ds = outcomeBy (l .setup) (l .control) (openSets l) r (dataBy ds)
 
 -- a last octet applies Services to all of them and fixes the reply whole; octets are ignored until a gap
 unfoldable pub answered : Ledger → Outcome → ℕ → List ℕ → Ledger

@@ -1,12 +1,13 @@
 -- The ledger's state (document 01, The ledger), and the ledger of a freshly started station.
 use Prim.Native.Nat.{ℕ}
-use mathlib.Core.Bool.{Bool, true, false, not, _&&_, _||_}
+use mathlib.Core.Bool.{Bool, true, false, _&&_, _||_}
 use mathlib.Core.List.{List, []}
 use lib.ListN.{replicate}
 use Rattle.state.specs.declared.setup.Setup.{Setup}
 use Rattle.state.specs.declared.control.Control.{Control}
 use Rattle.state.specs.Start.{firstControl}
-use Rattle.ledger.specs.Lists.{some, Outputs, Inputs, Sets, Diagnoses, Buffers, noSets}
+use Rattle.rules.specs.declared.request.OpenSets.{OpenSets}
+use Rattle.ledger.specs.Lists.{some, Buffers, noSets}
 
 -- the line: whether octets are ignored, telegram octets so far, reply octets left and whether they are a Slave_Diag's
 pub record Line : Type 0 where
@@ -73,6 +74,10 @@ parametersOpen l = some (l .buffers .parameters .shown)
 -- a configuration set is open
 abbrev pub configurationOpen : Ledger → Bool
 configurationOpen l = some (l .buffers .configuration .shown)
+
+-- which are
+abbrev pub openSets : Ledger → OpenSets
+openSets l = record { parameters = parametersOpen l; configuration = configurationOpen l }
 
 -- zeroed buffers
 abbrev pub freshBuffers : Setup → Buffers

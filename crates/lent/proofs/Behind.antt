@@ -24,12 +24,11 @@ use Rattle.rules.specs.declared.outcome.OutputsDeed.the-variants as outputs-dee
 use Rattle.rules.specs.declared.outcome.Outcome.{Outcome}
 use Rattle.rules.specs.declared.request.Request.{Request}
 use Rattle.rules.specs.declared.request.Prm.{Prm}
-use Rattle.rules.specs.Requests.{refilled, serviceOf}
-use Rattle.rules.specs.Services.{serve}
+use Rattle.rules.specs.Services.{outcomeBy}
 use Rattle.rules.specs.Line.{settled, ticked}
 use Rattle.steps.specs.Safe.{Safe}
 use Rattle.steps.specs.Stepped.{Stepped}
-use Rattle.steps.specs.Deeds.{begun, busy, isOpen, onMemory, carried, afterReply, settle}
+use Rattle.steps.specs.Deeds.{begun, busy, openSets, onMemory, carried, afterReply, settle}
 use Rattle.steps.specs.Reading.{storedData, storedAs, readBy, requestBy, prmAt, prmIn, outcomeOf, answered, completed, beginning, isIgnored, heardAs, heard}
 use Rattle.steps.specs.Bus.{paused, silencedReader, elapsed}
 use Rattle.steps.proofs.Safety.{safe-after-reply, safe-read-by, safe-beginning, safe-completed}
@@ -154,7 +153,7 @@ module _ (s : State) (m n : List ℕ) (h : Safe s m) (g : Safe s n) (e : behind 
   same-outcome : (r : Request) → outcomeOf s m r ≡ outcomeOf s n r
   unfolding outcomeOf
   same-outcome r =
-      ap (λ (p : Prm). serve (serviceOf (s .setup) r) (s .setup) (refilled (s .setup) (s .control) r) (isOpen (s .parameters)) (isOpen (s .configuration)) r p (s .incoming .first) (s .incoming .second)) same-prm
+      ap (λ (p : Prm). outcomeBy (s .setup) (s .control) (openSets s) r (record { prm = p; first = s .incoming .first; second = s .incoming .second })) same-prm
 
   alike-answered : (o : Outcome) (r : Request) → Alike (answered s m o r) (answered s n o r)
   unfolding answered carried

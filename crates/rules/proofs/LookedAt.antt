@@ -12,12 +12,14 @@ use Rattle.state.specs.Sound.{Within}
 use Rattle.state.specs.Well.{within}
 use Rattle.state.proofs.Tests.{within-true}
 use Rattle.rules.specs.declared.request.Request.{Request}
+use Rattle.rules.specs.declared.request.Data.{Data}
+use Rattle.rules.specs.declared.request.OpenSets.{OpenSets}
 use Rattle.rules.specs.declared.request.Prm.{Prm}
 use Rattle.rules.specs.declared.request.Service.{Service}
 use Rattle.rules.specs.declared.request.Service.the-variants.{Nothing, Status, Reject, GlobalControl, DataExchange, SetPrm, ChkCfg, SlaveDiag, GetCfg, ReadInputs, ReadOutputs}
 use Rattle.rules.specs.Phases.{drawing}
-use Rattle.rules.specs.Requests.{serviceOf}
-use Rattle.rules.specs.Services.{setPrm, exchanges, controls, obeyed, globalControl, serve}
+use Rattle.rules.specs.Requests.{refilled, serviceOf}
+use Rattle.rules.specs.Services.{setPrm, exchanges, controls, obeyed, globalControl, serve, outcomeBy}
 use Rattle.rules.proofs.Headed.{To, Headed, headed}
 
 module _ (g : Setup) (c : Control) (r : Request) where
@@ -47,21 +49,24 @@ module _ (g : Setup) (c : Control) (r : Request) where
           ap (λ (t : Bool). cond t (obeyed c first) (drawing c drawn.Nothing)) (off second e)
           ∙ sym (ap (λ (t : Bool). cond t (obeyed c first′) (drawing c drawn.Nothing)) (off second′ e))
 
-  module _ (openPrm openCfg : Bool) (p q : Prm) (first second first′ second′ : ℕ) (e : To r 61 → Within 7 (r .count) (g .«parameter_len») → p ≡ q)
-      (f : r .count ≡ 2 → (first ≡ first′) × (second ≡ second′)) where
-    by-service : (v : Service) → Headed v r → serve v g c openPrm openCfg r p first second ≡ serve v g c openPrm openCfg r q first′ second′
+  module _ (sets : OpenSets) (x y : Data) (e : To r 61 → Within 7 (r .count) (g .«parameter_len») → x .prm ≡ y .prm)
+      (f : r .count ≡ 2 → (x .first ≡ y .first) × (x .second ≡ y .second)) where
+    by-service : (v : Service) → Headed v r → serve v g c sets r x ≡ serve v g c sets r y
     by-service Nothing h = refl
     by-service Status h = refl
     by-service Reject h = refl
-    by-service GlobalControl h = globalControl-same first second first′ second′ f
+    by-service GlobalControl h = globalControl-same (x .first) (x .second) (y .first) (y .second) f
     by-service DataExchange h = refl
-    by-service SetPrm h = setPrm-same openPrm p q (e h)
+    by-service SetPrm h = setPrm-same (sets .parameters) (x .prm) (y .prm) (e h)
     by-service ChkCfg h = refl
     by-service SlaveDiag h = refl
     by-service GetCfg h = refl
     by-service ReadInputs h = refl
     by-service ReadOutputs h = refl
 
-    -- data that is the same there is served alike
-    pub serve-same : serve (serviceOf g r) g c openPrm openCfg r p first second ≡ serve (serviceOf g r) g c openPrm openCfg r q first′ second′
-    serve-same = by-service (serviceOf g r) (headed r g)
+-- data that is the same there has the same outcome
+pub same-outcome : (g : Setup) (c : Control) (sets : OpenSets) (r : Request) (x y : Data)
+    → (To r 61 → Within 7 (r .count) (g .«parameter_len») → x .prm ≡ y .prm)
+    → (r .count ≡ 2 → (x .first ≡ y .first) × (x .second ≡ y .second))
+    → outcomeBy g c sets r x ≡ outcomeBy g c sets r y
+same-outcome g c sets r x y e f = by-service g (refilled g c r) r sets x y e f (serviceOf g r) (headed r g)

@@ -16,6 +16,8 @@ use Rattle.state.specs.Well.{within}
 use Rattle.state.proofs.Choice.{by-test, and-right}
 use Rattle.state.proofs.Tests.{within-true}
 use Rattle.rules.specs.declared.request.Request.{Request}
+use Rattle.rules.specs.declared.request.Data.{Data}
+use Rattle.rules.specs.declared.request.OpenSets.{OpenSets}
 use Rattle.rules.specs.declared.request.Prm.{Prm}
 use Rattle.rules.specs.declared.request.Service.{Service}
 use Rattle.rules.specs.declared.request.Service.the-variants.{Nothing, Status, Reject, GlobalControl, DataExchange, SetPrm, ChkCfg, SlaveDiag, GetCfg, ReadInputs, ReadOutputs}
@@ -27,7 +29,7 @@ use Rattle.rules.specs.declared.outcome.Outcome.{Outcome}
 use Rattle.rules.specs.Control.{bit, inExchange, owns, withEvents, withStored, raise}
 use Rattle.rules.specs.Phases.{drawing, leftExchange, waitPrm, enteringWaitPrm, waitCfg, dataExch, zerosIfLeft}
 use Rattle.rules.specs.Requests.{masterOf, refilled, serviceOf}
-use Rattle.rules.specs.Services.{otherOwns, otherIdent, wantsWatchdog, badFactors, parametrized, setPrm, chkCfg, exchanges, dataExchange, slaveDiag, controls, storing, globalControl, serve}
+use Rattle.rules.specs.Services.{otherOwns, otherIdent, wantsWatchdog, badFactors, parametrized, setPrm, chkCfg, exchanges, dataExchange, slaveDiag, controls, storing, globalControl, serve, outcomeBy}
 use Rattle.rules.specs.Line.{clearOn, settled, counts, withLeft, ticked}
 use Rattle.rules.specs.User.{onSets, judgedParameters, judgedConfiguration}
 use Rattle.rules.proofs.Headed.{Plain, To, Headed, headed}
@@ -305,21 +307,19 @@ module _ (g : Setup) (c : Control) (r : Request) where
   reads d = choose (inExchange c) (λ e. replies c (alike refl refl refl) (λ _. e)) (λ _. told refl)
 
   -- each service, with the header that it has
-  serve-served : (v : Service) (openPrm openCfg : Bool) (p : Prm) (first second : ℕ) → Headed v r → Served g c r (serve v g c openPrm openCfg r p first second)
-  serve-served Nothing openPrm openCfg p first second h = told refl
-  serve-served Status openPrm openCfg p first second h = told refl
-  serve-served Reject openPrm openCfg p first second h = told refl
-  serve-served GlobalControl openPrm openCfg p first second h = globalControl-served first second
-  serve-served DataExchange openPrm openCfg p first second h = dataExchange-served h
-  serve-served SetPrm openPrm openCfg p first second h = setPrm-served openPrm p h
-  serve-served ChkCfg openPrm openCfg p first second h = chkCfg-served openCfg h
-  serve-served SlaveDiag openPrm openCfg p first second h = slaveDiag-served
-  serve-served GetCfg openPrm openCfg p first second h = told refl
-  serve-served ReadInputs openPrm openCfg p first second h = reads drawn.Inputs
-  serve-served ReadOutputs openPrm openCfg p first second h = reads drawn.Outputs
+  serve-served : (v : Service) (sets : OpenSets) (octets : Data) → Headed v r → Served g c r (serve v g c sets r octets)
+  serve-served Nothing sets octets h = told refl
+  serve-served Status sets octets h = told refl
+  serve-served Reject sets octets h = told refl
+  serve-served GlobalControl sets octets h = globalControl-served (octets .first) (octets .second)
+  serve-served DataExchange sets octets h = dataExchange-served h
+  serve-served SetPrm sets octets h = setPrm-served (sets .parameters) (octets .prm) h
+  serve-served ChkCfg sets octets h = chkCfg-served (sets .configuration) h
+  serve-served SlaveDiag sets octets h = slaveDiag-served
+  serve-served GetCfg sets octets h = told refl
+  serve-served ReadInputs sets octets h = reads drawn.Inputs
+  serve-served ReadOutputs sets octets h = reads drawn.Outputs
 
--- every telegram: it refills the watchdog, and its service is served
-pub served : (g : Setup) (c : Control) (r : Request) (openPrm openCfg : Bool) (p : Prm) (first second : ℕ)
-    → Served g c r (serve (serviceOf g r) g (refilled g c r) openPrm openCfg r p first second)
-served g c r openPrm openCfg p first second =
-    served-from (refilled-alike g c r) (serve-served g (refilled g c r) r (serviceOf g r) openPrm openCfg p first second (headed r g))
+-- every telegram
+pub served : (g : Setup) (c : Control) (sets : OpenSets) (r : Request) (octets : Data) → Served g c r (outcomeBy g c sets r octets)
+served g c sets r octets = served-from (refilled-alike g c r) (serve-served g (refilled g c r) r (serviceOf g r) sets octets (headed r g))

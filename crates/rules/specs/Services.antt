@@ -12,6 +12,8 @@ use Rattle.state.specs.declared.state.Drawn.the-variants as drawn
 use Rattle.state.specs.Start.{noOwner}
 use Rattle.state.specs.Well.{within}
 use Rattle.rules.specs.declared.request.Request.{Request}
+use Rattle.rules.specs.declared.request.Data.{Data}
+use Rattle.rules.specs.declared.request.OpenSets.{OpenSets}
 use Rattle.rules.specs.declared.request.Prm.{Prm}
 use Rattle.rules.specs.declared.request.Service.{Service}
 use Rattle.rules.specs.declared.request.Service.the-variants.{Nothing, Status, Reject, GlobalControl, DataExchange, SetPrm, ChkCfg, SlaveDiag, GetCfg, ReadInputs, ReadOutputs}
@@ -21,7 +23,7 @@ use Rattle.rules.specs.declared.outcome.SetDeed.the-variants as set-deed
 use Rattle.rules.specs.declared.outcome.Outcome.{Outcome}
 use Rattle.rules.specs.Control.{bit, inExchange, owns, withFlags, withEvents, withStored, raise, withPrmFault, withCfgFault, withNotSupported, withoutFaults, withoutDiagFlag}
 use Rattle.rules.specs.Phases.{drawing, enteringWaitPrm, waitCfg, zerosIfLeft}
-use Rattle.rules.specs.Requests.{masterOf}
+use Rattle.rules.specs.Requests.{masterOf, refilled, serviceOf}
 
 -- Set_Prm ---------------------------------------------------------------------------------------
 
@@ -171,16 +173,20 @@ globalControl c r first second = cond (controls c r second) (obeyed c first) (dr
 
 -- All of them -----------------------------------------------------------------------------------
 
--- what comes of a service; openPrm and openCfg: such a set is open; p are data octets of Set_Prm, first and second those of Global_Control
-abbrev pub serve : Service → Setup → Control → Bool → Bool → Request → Prm → ℕ → ℕ → Outcome
-serve Nothing s c openPrm openCfg r p first second = drawing c drawn.Nothing
-serve Status s c openPrm openCfg r p first second = drawing c drawn.Status
-serve Reject s c openPrm openCfg r p first second = drawing c drawn.Rejected
-serve GlobalControl s c openPrm openCfg r p first second = globalControl c r first second
-serve DataExchange s c openPrm openCfg r p first second = dataExchange s c r
-serve SetPrm s c openPrm openCfg r p first second = setPrm s c openPrm r p
-serve ChkCfg s c openPrm openCfg r p first second = chkCfg s c openCfg r
-serve SlaveDiag s c openPrm openCfg r p first second = slaveDiag c r
-serve GetCfg s c openPrm openCfg r p first second = drawing c drawn.Configuration
-serve ReadInputs s c openPrm openCfg r p first second = readInputs c
-serve ReadOutputs s c openPrm openCfg r p first second = readOutputs c
+-- what comes of a service
+abbrev pub serve : Service → Setup → Control → OpenSets → Request → Data → Outcome
+serve Nothing s c sets r octets = drawing c drawn.Nothing
+serve Status s c sets r octets = drawing c drawn.Status
+serve Reject s c sets r octets = drawing c drawn.Rejected
+serve GlobalControl s c sets r octets = globalControl c r (octets .first) (octets .second)
+serve DataExchange s c sets r octets = dataExchange s c r
+serve SetPrm s c sets r octets = setPrm s c (sets .parameters) r (octets .prm)
+serve ChkCfg s c sets r octets = chkCfg s c (sets .configuration) r
+serve SlaveDiag s c sets r octets = slaveDiag c r
+serve GetCfg s c sets r octets = drawing c drawn.Configuration
+serve ReadInputs s c sets r octets = readInputs c
+serve ReadOutputs s c sets r octets = readOutputs c
+
+-- what comes of a telegram: it refills the watchdog, and its service is served
+abbrev pub outcomeBy : Setup → Control → OpenSets → Request → Data → Outcome
+outcomeBy s c sets r octets = serve (serviceOf s r) s (refilled s c r) sets r octets

@@ -26,6 +26,21 @@ pub struct Prm {
     pub group: u8,
 }
 
+// The data octets of a telegram that the rules look at.
+pub struct Data {
+    // Set_Prm's
+    pub prm: Prm,
+    // the first two: Global_Control's
+    pub first: u8,
+    pub second: u8,
+}
+
+// Which sets are open.
+pub struct OpenSets {
+    pub parameters: bool,
+    pub configuration: bool,
+}
+
 // What a telegram asks of the station, by its header alone.
 pub enum Service {
     Nothing,

@@ -7,6 +7,8 @@ use crate::phases::entering_wait_prm;
 use crate::phases::in_exchange;
 use crate::phases::wait_cfg;
 use crate::phases::zeros_if_left;
+use crate::request::Data;
+use crate::request::OpenSets;
 use crate::request::Prm;
 use crate::request::Request;
 use crate::request::Service;
@@ -330,28 +332,25 @@ pub fn global_control(control: Control, r: Request, first: u8, second: u8) -> Ou
     drawing(control, Drawn::Nothing)
 }
 
-// What comes of a service; p are data octets of Set_Prm, first and second those of Global_Control.
+// What comes of a service.
 pub fn serve(
     service: Service,
     setup: Setup,
     control: Control,
-    parameters_open: bool,
-    configuration_open: bool,
+    sets: OpenSets,
     r: Request,
-    p: Prm,
-    first: u8,
-    second: u8,
+    octets: Data,
 ) -> Outcome
-    ensures { λ o. ⌜ o ≡ serve service setup control parameters_open configuration_open r p first second ⌝ }
+    ensures { λ o. ⌜ o ≡ serve service setup control sets r octets ⌝ }
 {
     match service {
         Service::Nothing => drawing(control, Drawn::Nothing),
         Service::Status => drawing(control, Drawn::Status),
         Service::Reject => drawing(control, Drawn::Rejected),
-        Service::GlobalControl => global_control(control, r, first, second),
+        Service::GlobalControl => global_control(control, r, octets.first, octets.second),
         Service::DataExchange => data_exchange(setup, control, r),
-        Service::SetPrm => set_prm(setup, control, parameters_open, r, p),
-        Service::ChkCfg => chk_cfg(setup, control, configuration_open, r),
+        Service::SetPrm => set_prm(setup, control, sets.parameters, r, octets.prm),
+        Service::ChkCfg => chk_cfg(setup, control, sets.configuration, r),
         Service::SlaveDiag => slave_diag(control, r),
         Service::GetCfg => drawing(control, Drawn::Configuration),
         Service::ReadInputs => read_inputs(control),

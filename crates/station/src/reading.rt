@@ -5,6 +5,8 @@ use outcomes::carry::is_open;
 use outcomes::carry::settle;
 use outcomes::line::begun;
 use rules::outcome::Outcome;
+use rules::request::Data;
+use rules::request::OpenSets;
 use rules::request::Prm;
 use rules::request::Request;
 use rules::requests::master_of;
@@ -161,18 +163,16 @@ fn outcome_of(s: State, mem: &[u8], r: Request) -> Outcome
     let incoming = s.incoming;
     let service = service_of(setup, r);
     let control = refilled(setup, s.control, r);
-    let p = prm_in(s, mem);
-    serve(
-        service,
-        setup,
-        control,
-        is_open(s.parameters),
-        is_open(s.configuration),
-        r,
-        p,
-        incoming.first,
-        incoming.second,
-    )
+    let sets = OpenSets {
+        parameters: is_open(s.parameters),
+        configuration: is_open(s.configuration),
+    };
+    let octets = Data {
+        prm: prm_in(s, mem),
+        first: incoming.first,
+        second: incoming.second,
+    };
+    serve(service, setup, control, sets, r, octets)
 }
 
 // An outcome carried out, and the reply drawn.

@@ -11,7 +11,6 @@ use Rattle.telegram.specs.declared.reader.Status.{Status}
 use Rattle.telegram.specs.declared.reader.Status.the-variants.{Fresh, Inside, Complete, Broken}
 use Rattle.telegram.specs.Reading.{status}
 use Rattle.telegram.specs.Sending.{left}
-use Rattle.state.specs.declared.setup.Setup.{Setup}
 use Rattle.state.specs.declared.control.Control.{Control}
 use Rattle.state.specs.declared.state.Outputs.{Outputs}
 use Rattle.state.specs.declared.state.Sets.{Sets}
@@ -22,6 +21,7 @@ use Rattle.rules.specs.declared.outcome.OutputsDeed.the-variants as outputs-dee
 use Rattle.rules.specs.declared.outcome.SetDeed.{SetDeed}
 use Rattle.rules.specs.declared.outcome.SetDeed.the-variants as set-deed
 use Rattle.rules.specs.declared.outcome.Outcome.{Outcome}
+use Rattle.rules.specs.declared.request.OpenSets.{OpenSets}
 use Rattle.rules.specs.Line.{settled}
 use Rattle.rules.specs.Replies.{diagnoses}
 use Rattle.rules.specs.Diagnosis.{delayed, caughtUp}
@@ -49,6 +49,10 @@ diagnosisLeaves s = diagnoses (s .reply .drawn) && left (s .reply .sender)
 -- a set is open
 abbrev pub isOpen : Sets → Bool
 isOpen s = not (eqb (s .shown) 0)
+
+-- which are
+abbrev pub openSets : State → OpenSets
+openSets s = record { parameters = isOpen (s .parameters); configuration = isOpen (s .configuration) }
 
 -- the data received is in fill; zeros are written into next
 abbrev pub onOutputs : OutputsDeed → Outputs → Outputs

@@ -5,25 +5,25 @@ use mathlib.Core.List.{List}
 use lib.Dec.{eqb, ltb}
 use lib.ListN.{getD}
 use Rattle.buffers.specs.Triple.{fillOf}
-use Rattle.octets.specs.Part.{part, storedIn}
+use Rattle.octets.specs.Part.{storedIn}
 use Rattle.telegram.specs.declared.Datum.{Datum}
 use Rattle.telegram.specs.declared.Datum.the-variants.{Number, Nothing}
 use Rattle.telegram.specs.declared.reader.Reader.{Reader}
 use Rattle.telegram.specs.declared.reader.Status.{Status}
 use Rattle.telegram.specs.declared.reader.Status.the-variants.{Fresh, Inside, Complete, Broken}
 use Rattle.telegram.specs.Reading.{off, received, status, takesData, datumOf}
-use Rattle.state.specs.declared.setup.Setup.{Setup}
 use Rattle.state.specs.declared.state.Incoming.{Incoming}
 use Rattle.state.specs.declared.state.State.{State}
 use Rattle.state.specs.Layout.{outputsAt, parametersAt, configurationAt}
 use Rattle.rules.specs.declared.request.Request.{Request}
+use Rattle.rules.specs.declared.request.Data.{Data}
 use Rattle.rules.specs.declared.request.Prm.{Prm}
 use Rattle.rules.specs.declared.outcome.Outcome.{Outcome}
-use Rattle.rules.specs.Requests.{masterOf, refilled, serviceOf}
-use Rattle.rules.specs.Services.{serve}
+use Rattle.rules.specs.Requests.{masterOf}
+use Rattle.rules.specs.Services.{outcomeBy}
 use Rattle.state.specs.With.{withIncoming, withReply}
 use Rattle.steps.specs.Stepped.{Stepped, unchanged}
-use Rattle.steps.specs.Deeds.{isInside, begun, isOpen, onState, carried, settle}
+use Rattle.steps.specs.Deeds.{isInside, begun, openSets, carried, settle}
 use Rattle.state.specs.Start.{noReply}
 use Rattle.steps.specs.Replies.{replyFor}
 
@@ -86,11 +86,13 @@ prmAt m a =
 abbrev pub prmIn : State → List ℕ → Prm
 prmIn s m = prmAt m (parametersAt (s .setup) (fillOf (s .parameters .set .place)))
 
+-- all data octets that the rules look at
+abbrev pub dataIn : State → List ℕ → Data
+dataIn s m = record { prm = prmIn s m; first = s .incoming .first; second = s .incoming .second }
+
 -- what comes of a telegram
 unfoldable pub outcomeOf : State → List ℕ → Request → Outcome
-outcomeOf s m r =
-    serve (serviceOf (s .setup) r) (s .setup) (refilled (s .setup) (s .control) r) (isOpen (s .parameters)) (isOpen (s .configuration)) r (prmIn s m)
-    (s .incoming .first) (s .incoming .second)
+outcomeOf s m r = outcomeBy (s .setup) (s .control) (openSets s) r (dataIn s m)
 
 -- carried out, and the reply drawn
 unfoldable pub answered : State → List ℕ → Outcome → Request → Stepped

@@ -9,14 +9,14 @@ service-of-requires c κs = search needs
 refilled-requires : tie.Need-refilled-requires
 refilled-requires c κs = search needs
 
-prm-in-requires : tie.Need-prm-in-requires
-prm-in-requires c κs = search needs
-
 is-open-requires : tie.Need-is-open-requires
 is-open-requires c κs = search needs
 
 is-open-requires-2 : tie.Need-is-open-requires-2
 is-open-requires-2 c κs = search needs
+
+prm-in-requires : tie.Need-prm-in-requires
+prm-in-requires c κs = search needs
 
 serve-requires : tie.Need-serve-requires
 serve-requires c κs = search needs
@@ -26,9 +26,9 @@ unfolding outcomeOf
 returns c =
     rw (
       c .serve .ensures,
-      c .before .is-open2 .ensures,
-      c .before .before .is-open .ensures,
-      c .before .before .before .prm-in .ensures,
+      c .before .prm-in .ensures,
+      c .before .before .is-open2 .ensures,
+      c .before .before .before .is-open .ensures,
       c .before .before .before .before .refilled .ensures,
       c .before .before .before .before .before .service-of .ensures,
     )
@@ -39,8 +39,8 @@ outcome-of-spec =
     (tie.spec
     service-of-requires
     refilled-requires
-    prm-in-requires
     is-open-requires
     is-open-requires-2
+    prm-in-requires
     serve-requires
     returns)
