@@ -80,14 +80,4 @@ impl Events {
     {
         u16::trailing_zeros(self.word) as u8
     }
-
-    // Whether the event is set.
-    pub fn has(self, number: u8) -> bool
-        ensures { λ r. ⌜ r ≡ bit (self .word) number ⌝ }
-    {
-        if number < Self::COUNT {
-            return (self.word >> number) % 2 == 1;
-        }
-        false
-    }
 }

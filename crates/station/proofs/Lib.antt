@@ -2,5 +2,5 @@ pub mod Reaching
 pub mod Stepping
 pub mod Guarding
 mod OverMemory
-mod Receives
+mod StoredOverMemory
 mod Leaving

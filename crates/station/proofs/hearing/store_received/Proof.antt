@@ -1,8 +1,8 @@
--- `station::hearing::store_received` meets its contract.
-use denote.Ref.{now}
-use Rattle.state.specs.Unpack.{unpacked}
+-- `station::hearing::store_received` meets its contract. In each branch: `read` after setup and telegram were read, `set` after the
+-- set was, `at` where its fill buffer is found.
+use Rattle.state.specs.Layout.{outputs, parameters, configuration}
 use Rattle.steps.proofs.Holding.{holds-safe}
-use Rattle.station.proofs.Receives.{outputs-room, leaves-outputs, parameters-room, leaves-parameters, configuration-room, leaves-configuration, leaves-none}
+use Rattle.station.proofs.StoredOverMemory.{fill-room, fill-stored, names-outputs, names-parameters, names-configuration, names-none}
 use borrow.Author.Needs.{needs}
 use Rattle.station.proofs.hearing.store_received.Statement.{statement}
 use Rattle.station.proofs.hearing.store_received.Tie as tie
@@ -26,13 +26,27 @@ cast-store-at : tie.Need-cast-store-at
 cast-store-at c = search needs
 
 store-at-requires : tie.Need-store-at-requires
-store-at-requires c κs = outputs-room (unpacked (now (c .before .before .before .before .before .before .before .before .before .before .before .before .before .args .mem))) (now (c .before .before .before .before .before .before .before .before .before .before .before .before .before .args .mem)) (holds-safe _ _ (c .before .before .before .before .before .before .before .before .before .before .before .before .before .pre)) (c .before .before .before .before .before .before .before .before .before .before .setup .result) (c .before .before .before .before .before .before .before .before .before .before .setup .ensures) (c .before .before .before .before .before .before .before .before .incoming .result) (c .before .before .before .before .before .before .before .before .incoming .ensures) (c .before .before .before .before .outputs .result) (c .before .before .before .before .outputs .ensures) _ _ (c .before .before .before .fill .ensures) (c .before .before .outputs-at .ensures)
+store-at-requires c κs =
+    let at = c .before .before in
+    let set = at .before .before in
+    let read = set .before .before .before .before in
+    let safe = holds-safe _ _ (read .before .before .before .before .before .pre) in
+    fill-room safe (read .before .before .setup .ensures) outputs (λ i. set .outputs .ensures i .set)
+    (at .before .fill .ensures) (at .outputs-at .ensures) (safe .outputs .fill-in)
 
 same-length : tie.Need-same-length
 same-length c = search needs
 
 returns : tie.Need-returns
-returns c = leaves-outputs (unpacked (now (c .before .before .before .before .before .before .before .before .before .before .before .before .before .before .before .before .args .mem))) (now (c .before .before .before .before .before .before .before .before .before .before .before .before .before .before .before .before .args .mem)) (holds-safe _ _ (c .before .before .before .before .before .before .before .before .before .before .before .before .before .before .before .before .pre)) (c .before .before .before .before .before .before .before .before .before .before .before .before .before .setup .result) (c .before .before .before .before .before .before .before .before .before .before .before .before .before .setup .ensures) (c .before .before .before .before .before .before .before .before .before .before .before .incoming .result) (c .before .before .before .before .before .before .before .before .before .before .before .incoming .ensures) (c .before .before .before .before .before .before .before .outputs .result) (c .before .before .before .before .before .before .before .outputs .ensures) _ _ (c .before .before .before .before .before .before .fill .ensures) (c .before .before .before .before .before .outputs-at .ensures) _ _ _ (c .before .before .before .before .before .before .before .before .before .if1 .taken) (c .before .before .store-at .ensures)
+returns c =
+    let at = c .before .before .before .before .before in
+    let set = at .before .before in
+    let read = set .before .before .before .before in
+    let safe = holds-safe _ _ (read .before .before .before .before .before .pre) in
+    fill-stored safe (read .before .before .setup .ensures) outputs (λ i. set .outputs .ensures i .set)
+    (at .before .fill .ensures) (at .outputs-at .ensures) _ _ _
+    (names-outputs safe (read .incoming .ensures) _ _ (set .before .before .if1 .taken))
+    (c .before .before .store-at .ensures)
 
 parameters-requires : tie.Need-parameters-requires
 parameters-requires c κs = c .before .before .before .before .before .before .before .before .before .before .pre .long
@@ -47,13 +61,27 @@ cast-store-at-2 : tie.Need-cast-store-at-2
 cast-store-at-2 c = search needs
 
 store-at-requires-2 : tie.Need-store-at-requires-2
-store-at-requires-2 c κs = parameters-room (unpacked (now (c .before .before .before .before .before .before .before .before .before .before .before .before .before .before .before .args .mem))) (now (c .before .before .before .before .before .before .before .before .before .before .before .before .before .before .before .args .mem)) (holds-safe _ _ (c .before .before .before .before .before .before .before .before .before .before .before .before .before .before .before .pre)) (c .before .before .before .before .before .before .before .before .before .before .before .before .setup .result) (c .before .before .before .before .before .before .before .before .before .before .before .before .setup .ensures) (c .before .before .before .before .before .before .before .before .before .before .incoming .result) (c .before .before .before .before .before .before .before .before .before .before .incoming .ensures) (c .before .before .before .before .parameters .result) (c .before .before .before .before .parameters .ensures) _ _ (c .before .before .before .fill2 .ensures) (c .before .before .parameters-at .ensures)
+store-at-requires-2 c κs =
+    let at = c .before .before in
+    let set = at .before .before in
+    let read = set .before .before .before .before .before .before in
+    let safe = holds-safe _ _ (read .before .before .before .before .before .pre) in
+    fill-room safe (read .before .before .setup .ensures) parameters (λ i. set .parameters .ensures i .set)
+    (at .before .fill2 .ensures) (at .parameters-at .ensures) (safe .parameters .fill-in)
 
 same-length-2 : tie.Need-same-length-2
 same-length-2 c = search needs
 
 returns-2 : tie.Need-returns-2
-returns-2 c = leaves-parameters (unpacked (now (c .before .before .before .before .before .before .before .before .before .before .before .before .before .before .before .before .before .before .args .mem))) (now (c .before .before .before .before .before .before .before .before .before .before .before .before .before .before .before .before .before .before .args .mem)) (holds-safe _ _ (c .before .before .before .before .before .before .before .before .before .before .before .before .before .before .before .before .before .before .pre)) (c .before .before .before .before .before .before .before .before .before .before .before .before .before .before .before .setup .result) (c .before .before .before .before .before .before .before .before .before .before .before .before .before .before .before .setup .ensures) (c .before .before .before .before .before .before .before .before .before .before .before .before .before .incoming .result) (c .before .before .before .before .before .before .before .before .before .before .before .before .before .incoming .ensures) (c .before .before .before .before .before .before .before .parameters .result) (c .before .before .before .before .before .before .before .parameters .ensures) _ _ (c .before .before .before .before .before .before .fill2 .ensures) (c .before .before .before .before .before .parameters-at .ensures) _ _ _ (c .before .before .before .before .before .before .before .before .before .before .before .if1 .left) (c .before .before .before .before .before .before .before .before .before .if2 .taken) (c .before .before .store-at2 .ensures)
+returns-2 c =
+    let at = c .before .before .before .before .before in
+    let set = at .before .before in
+    let read = set .before .before .before .before .before .before in
+    let safe = holds-safe _ _ (read .before .before .before .before .before .pre) in
+    fill-stored safe (read .before .before .setup .ensures) parameters (λ i. set .parameters .ensures i .set)
+    (at .before .fill2 .ensures) (at .parameters-at .ensures) _ _ _
+    (names-parameters safe (read .incoming .ensures) _ _ (set .before .before .before .before .if1 .left) (set .before .before .if2 .taken))
+    (c .before .before .store-at2 .ensures)
 
 configuration-requires : tie.Need-configuration-requires
 configuration-requires c κs = c .before .before .before .before .before .before .before .before .before .before .before .before .pre .long
@@ -68,19 +96,62 @@ cast-store-at-3 : tie.Need-cast-store-at-3
 cast-store-at-3 c = search needs
 
 store-at-requires-3 : tie.Need-store-at-requires-3
-store-at-requires-3 c κs = configuration-room (unpacked (now (c .before .before .before .before .before .before .before .before .before .before .before .before .before .before .before .before .before .args .mem))) (now (c .before .before .before .before .before .before .before .before .before .before .before .before .before .before .before .before .before .args .mem)) (holds-safe _ _ (c .before .before .before .before .before .before .before .before .before .before .before .before .before .before .before .before .before .pre)) (c .before .before .before .before .before .before .before .before .before .before .before .before .before .before .setup .result) (c .before .before .before .before .before .before .before .before .before .before .before .before .before .before .setup .ensures) (c .before .before .before .before .before .before .before .before .before .before .before .before .incoming .result) (c .before .before .before .before .before .before .before .before .before .before .before .before .incoming .ensures) (c .before .before .before .before .configuration .result) (c .before .before .before .before .configuration .ensures) _ _ (c .before .before .before .fill3 .ensures) (c .before .before .configuration-at .ensures)
+store-at-requires-3 c κs =
+    let at = c .before .before in
+    let set = at .before .before in
+    let read = set .before .before .before .before .before .before .before .before in
+    let safe = holds-safe _ _ (read .before .before .before .before .before .pre) in
+    fill-room safe (read .before .before .setup .ensures) configuration (λ i. set .configuration .ensures i .set)
+    (at .before .fill3 .ensures) (at .configuration-at .ensures) (safe .configuration .fill-in)
 
 same-length-3 : tie.Need-same-length-3
 same-length-3 c = search needs
 
 returns-3 : tie.Need-returns-3
-returns-3 c = leaves-configuration (unpacked (now (c .before .before .before .before .before .before .before .before .before .before .before .before .before .before .before .before .before .before .before .before .args .mem))) (now (c .before .before .before .before .before .before .before .before .before .before .before .before .before .before .before .before .before .before .before .before .args .mem)) (holds-safe _ _ (c .before .before .before .before .before .before .before .before .before .before .before .before .before .before .before .before .before .before .before .before .pre)) (c .before .before .before .before .before .before .before .before .before .before .before .before .before .before .before .before .before .setup .result) (c .before .before .before .before .before .before .before .before .before .before .before .before .before .before .before .before .before .setup .ensures) (c .before .before .before .before .before .before .before .before .before .before .before .before .before .before .before .incoming .result) (c .before .before .before .before .before .before .before .before .before .before .before .before .before .before .before .incoming .ensures) (c .before .before .before .before .before .before .before .configuration .result) (c .before .before .before .before .before .before .before .configuration .ensures) _ _ (c .before .before .before .before .before .before .fill3 .ensures) (c .before .before .before .before .before .configuration-at .ensures) _ _ _ (c .before .before .before .before .before .before .before .before .before .before .before .before .before .if1 .left) (c .before .before .before .before .before .before .before .before .before .before .before .if2 .left) (c .before .before .before .before .before .before .before .before .before .if3 .taken) (c .before .before .store-at3 .ensures)
+returns-3 c =
+    let at = c .before .before .before .before .before in
+    let set = at .before .before in
+    let read = set .before .before .before .before .before .before .before .before in
+    let safe = holds-safe _ _ (read .before .before .before .before .before .pre) in
+    fill-stored safe (read .before .before .setup .ensures) configuration (λ i. set .configuration .ensures i .set)
+    (at .before .fill3 .ensures) (at .configuration-at .ensures) _ _ _
+    (names-configuration safe (read .incoming .ensures) _ _ (set .before .before .before .before .before .before .if1 .left) (set .before .before .before .before .if2 .left) (set .before .before .if3 .taken))
+    (c .before .before .store-at3 .ensures)
 
 same-length-4 : tie.Need-same-length-4
 same-length-4 c = search needs
 
 returns-4 : tie.Need-returns-4
-returns-4 c = leaves-none (unpacked (now (c .before .before .before .before .before .before .before .before .before .before .before .args .mem))) (now (c .before .before .before .before .before .before .before .before .before .before .before .args .mem)) (holds-safe _ _ (c .before .before .before .before .before .before .before .before .before .before .before .pre)) (c .before .before .before .before .before .before .before .before .setup .result) (c .before .before .before .before .before .before .before .before .setup .ensures) (c .before .before .before .before .before .before .incoming .result) (c .before .before .before .before .before .before .incoming .ensures) _ _ (c .before .before .before .before .if1 .left) (c .before .before .if2 .left) (c .if3 .left)
+returns-4 c =
+    let read = c .before .before .before .before .before .before in
+    names-none (holds-safe _ _ (read .before .before .before .before .before .pre)) (read .incoming .ensures) _ _ (c .before .before .before .before .if1 .left) (c .before .before .if2 .left) (c .if3 .left)
 
 pub store-received-spec : {M : Type 1} → statement M
-store-received-spec = tie.close (tie.spec setup-requires incoming-requires outputs-requires fill-requires outputs-at-requires cast-store-at store-at-requires same-length returns parameters-requires fill-requires-2 parameters-at-requires cast-store-at-2 store-at-requires-2 same-length-2 returns-2 configuration-requires fill-requires-3 configuration-at-requires cast-store-at-3 store-at-requires-3 same-length-3 returns-3 same-length-4 returns-4)
+store-received-spec =
+    tie.close
+    (tie.spec
+    setup-requires
+    incoming-requires
+    outputs-requires
+    fill-requires
+    outputs-at-requires
+    cast-store-at
+    store-at-requires
+    same-length
+    returns
+    parameters-requires
+    fill-requires-2
+    parameters-at-requires
+    cast-store-at-2
+    store-at-requires-2
+    same-length-2
+    returns-2
+    configuration-requires
+    fill-requires-3
+    configuration-at-requires
+    cast-store-at-3
+    store-at-requires-3
+    same-length-3
+    returns-3
+    same-length-4
+    returns-4)
