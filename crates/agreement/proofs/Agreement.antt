@@ -39,7 +39,7 @@ use Rattle.agreement.proofs.OctetSend.{all-follow}
 use Rattle.agreement.proofs.Packed.{kept-agrees, agrees-sound}
 use Rattle.steps.proofs.Holding.{step-whole}
 use Rattle.steps.proofs.Guarded.{LengthIn, holds-well, called-steps, Begins, started-begins, begins-started}
-use Rattle.steps.proofs.Lengths.{step-length}
+use Rattle.steps.proofs.KeepsSetup.{step-keeps}
 
 -- the memory m holds the state s, which the ledger l is about
 pub record On (m : List ℕ) (s : State) (l : Ledger) : Type 0 where
@@ -78,7 +78,7 @@ module _ (m : List ℕ) (s : State) (l : Ledger) (o : On m s l) (c : Call) where
 
   after-length : length (t .memory) ≡ length m
   unfolding t
-  after-length = step-length s m (o .related .agrees .safe) c
+  after-length = step-keeps s m (o .related .agrees .safe) c .length-is
 
   long : stateLength ≤ length (t .memory)
   long = rw after-length (o .holds .long)

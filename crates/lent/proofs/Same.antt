@@ -29,7 +29,7 @@ use Rattle.steps.specs.Step.{stepOver}
 use Rattle.steps.specs.Calls.{called, answers}
 use Rattle.agreement.specs.Agreement.{memoryOf}
 use Rattle.steps.proofs.Safety.{safe-heard, safe-paused, safe-elapsed}
-use Rattle.steps.proofs.Lengths.{step-length}
+use Rattle.steps.proofs.KeepsSetup.{step-keeps}
 use Rattle.steps.proofs.Holding.{holds-safe, fronted, step-whole}
 use Rattle.steps.proofs.Guarded.{LengthIn, holds-well, called-steps}
 use Rattle.agreement.proofs.Agreement.{Ready, does, calls-of, ready-again, begins-ready, agreement}
@@ -50,9 +50,9 @@ safe-run [] s m h = h
 safe-run (b ∷ bs) s m h = safe-run bs (beat s m b .state) (beat s m b .memory) (safe-beat s m h b)
 
 pub beat-length : (s : State) (m : List ℕ) → Safe s m → (x : Beat) → length (beat s m x .memory) ≡ length m
-beat-length s m h (octet b bad) = step-length s m h (call.octet b bad)
-beat-length s m h gap = step-length s m h call.gap
-beat-length s m h tick = step-length s m h call.tick
+beat-length s m h (octet b bad) = step-keeps s m h (call.octet b bad) .length-is
+beat-length s m h gap = step-keeps s m h call.gap .length-is
+beat-length s m h tick = step-keeps s m h call.tick .length-is
 
 -- a call over a memory that holds s
 calls-beat : (p : List ℕ) (s : State) → LengthIn (length p) → Holds p s → (x : Beat)

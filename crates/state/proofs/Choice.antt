@@ -16,6 +16,9 @@ pub by-test : {A : Type 0} (P : A → Type 0) (t : Bool) (x y : A) → (t ≡ tr
 by-test P true x y f g = f refl
 by-test P false x y f g = g refl
 
+pub either : {A : Type 0} (P : A → Type 0) (t : Bool) {x y : A} → P x → P y → P (cond t x y)
+either P t {x} {y} p q = by-test P t x y (λ _. p) (λ _. q)
+
 -- two tests in one
 pub and-right : (p q : Bool) → p && q ≡ true → q ≡ true
 and-right true q e = e

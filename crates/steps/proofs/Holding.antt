@@ -18,6 +18,7 @@ use Rattle.state.specs.Answer.{Called, Meets, refused}
 use Rattle.state.specs.Layout.{stateLength}
 use Rattle.state.specs.Memory.{kept, Holds}
 use Rattle.state.specs.Unpack.{unpacked}
+use Rattle.state.proofs.Choice.{either}
 use Rattle.state.proofs.Damage.{holds-unpacked}
 use Rattle.state.specs.Well.{within}
 use Rattle.rules.specs.Diagnosis.{delayed}
@@ -59,10 +60,6 @@ whole t = record { answer = t .answer; memory = kept (t .state) (t .memory) }
 record Packs (m : List ℕ) (t : Told) : Type 0 where
   packed-so : packed m t ≡ whole t
 
-either : (m : List ℕ) (b : Bool) (t u : Told) → Packs m t → Packs m u → Packs m (cond b t u)
-either m true t u p q = p
-either m false t u p q = q
-
 module _ (s : State) (m : List ℕ) (same : m ≡ kept s m) where
   refuses : (why : Refusal) → Packs m (refusing why s m)
   refuses why = record { packed-so = ap (λ (l : List ℕ). refused l why) same }
@@ -73,7 +70,7 @@ module _ (s : State) (m : List ℕ) (same : m ≡ kept s m) where
   -- two tests in front of a step
   tested : (b : Bool) (why : Refusal) (c : Bool) (then : Refusal) (t : Told) → Packs m t
       → Packs m (cond b (refusing why s m) (cond c (refusing then s m) t))
-  tested b why c then t p = either m b _ _ (refuses why) (either m c _ _ (refuses then) p)
+  tested b why c then t p = either (Packs m) b (refuses why) (either (Packs m) c (refuses then) p)
 
   -- where a step is refused, state and memory are as they were
   packs : (c : Call) → Packs m (step s m c)
@@ -82,14 +79,14 @@ module _ (s : State) (m : List ℕ) (same : m ≡ kept s m) where
   packs calls.gap = tells _ _ _
   packs calls.send = tells _ _ _
   packs calls.tick = tells _ _ _
-  packs calls.take = either m (not (s .outputs .set .fresh)) _ _ (tells _ _ _) (tells _ _ _)
+  packs calls.take = either (Packs m) (not (s .outputs .set .fresh)) (tells _ _ _) (tells _ _ _)
   packs (calls.read kind index) = tested (not (inRange (s .setup) kind index)) Range (absent s kind index) Absent _ (tells _ _ _)
   packs (calls.write kind index x) =
       tested (not (writable kind && inRange (s .setup) kind index)) Range (absent s kind index) Absent _ (tells _ _ _)
   packs calls.hand-over = tells _ _ _
   packs (calls.new-diagnosis count flags) =
       tested (not (within 6 count (s .setup .«diagnosis_len») && leb flags 7)) Range (delayed (s .control)) Delayed _
-      (either m (diagnosisLeaves s) _ _ (tells _ _ _) (tells _ _ _))
+      (either (Packs m) (diagnosisLeaves s) (tells _ _ _) (tells _ _ _))
   packs (calls.judge-parameters j) = tested (not (isOpen (s .parameters))) Judging (not (leb j 1)) Range _ (tells _ _ _)
   packs (calls.judge-configuration j) =
       tested (not (isOpen (s .configuration) && s .control .flags .«parameters_good»)) Judging (not (leb j 1)) Range _ (tells _ _ _)

@@ -1,5 +1,5 @@
 pub mod Safety
-pub mod Lengths
+pub mod KeepsSetup
 pub mod Idle
 pub mod Holding
 pub mod Guarded
