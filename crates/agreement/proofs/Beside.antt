@@ -1,11 +1,10 @@
 -- A step that changes only the reading and a fill buffer that data goes into: all other parts stay related.
-use Prim.Native.Nat.{ℕ, _≤_, _<_}
+use Prim.Native.Nat.{ℕ, _<_}
 use native.Mathlib.Omega.{arith}
 use mathlib.Core.Path.{_≡_, refl, sym, _∙_}
 use mathlib.Core.Bool.{Bool, true, false, cond}
 use mathlib.Core.List.{List}
 use lib.Dec.{ltb, eqb}
-use lib.ListN.{length}
 use Rattle.buffers.specs.Triple.{fillOf, nextOf, heldOf, Permutation}
 use Rattle.octets.specs.Part.{storedIn}
 use Rattle.state.specs.declared.setup.Setup.{Setup}
@@ -21,7 +20,7 @@ use Rattle.steps.specs.Reading.{storedData}
 use Rattle.agreement.proofs.Relation.{SetsAgree, ReadingAgrees, ReplyAgrees, Agrees}
 use Rattle.agreement.proofs.Elsewhere.{Elsewhere, same-elsewhere}
 use Rattle.agreement.proofs.Carries.{inputs-stay, diagnoses-stay, slice-stays, sets-stay}
-use Rattle.agreement.proofs.Facts.{Needed}
+use Rattle.agreement.proofs.Steady.{SetsFit, Steady}
 use Rattle.agreement.proofs.Stores.{stored-elsewhere}
 
 -- buffer i of kind a is the fill buffer of a kind that data goes into
@@ -71,9 +70,11 @@ data-beside s m k b f =
 
 -- the sets shown and waiting are in the buffers held and next
 sets-beside : {g : Setup} {a i : ℕ} {m m′ : List ℕ} (e : Elsewhere g a i m m′) (b : ℕ) (x : station-sets.Sets) (y : Sets) → countOf b ≡ 3 → Permutation (x .set .place)
-    → (a ≡ b → i ≡ fillOf (x .set .place)) → length (y .shown) ≤ lengthOf g b → length (y .waiting) ≤ lengthOf g b
+    → (a ≡ b → i ≡ fillOf (x .set .place)) → SetsFit (lengthOf g b) y
     → SetsAgree (startOf g b) m x y → SetsAgree (startOf g b) m′ x y
-sets-beside e b x y c p f u v r =
+sets-beside e b x y c p f u r =
+    let v = u .shown in
+    let o = u .waiting in
     let k = r .shown-count in
     let w = r .waiting-count in
     sets-stay
@@ -82,7 +83,7 @@ sets-beside e b x y c p f u v r =
     r
 
 -- all parts but reading and reply agree as before
-pub reread : {s : State} {m m′ : List ℕ} {l : Ledger} (i : Incoming) (n : Line) → Needed l → Beside s m m′ → Agrees s m l
+pub reread : {s : State} {m m′ : List ℕ} {l : Ledger} (i : Incoming) (n : Line) → Steady l → Beside s m m′ → Agrees s m l
     → ReadingAgrees (withIncoming s i) m′ n → (ds : List ℕ) × ReplyAgrees (withIncoming s i) m′ n ds → Agrees (withIncoming s i) m′ (withLine l n)
 reread {s} {m} {m′} {l} i n d w r reading reply =
     let f = r .safe in
@@ -103,10 +104,10 @@ reread {s} {m} {m′} {l} i n d w r reading reply =
       inputs = inputs-stay e (f .inputs) (h .no-inputs) (r .inputs);
       parameters =
           sets-beside e parameters (s .parameters) (l .buffers .parameters) refl (f .parameters) (h .of-parameters)
-          (rw lengths (d .parameters-shown)) (rw lengths (d .parameters-waiting)) (r .parameters);
+          (rw lengths (d .parameters-fit)) (r .parameters);
       configuration =
           sets-beside e configuration (s .configuration) (l .buffers .configuration) refl (f .configuration) (h .of-configuration)
-          (rw lengths (d .configuration-shown)) (rw lengths (d .configuration-waiting)) (r .configuration);
+          (rw lengths (d .configuration-fit)) (r .configuration);
       diagnosis = diagnoses-stay e (h .no-diagnosis) (r .diagnosis);
       slice = slice-stays e (h .no-slice) ∙ r .slice;
       reading = reading;

@@ -29,7 +29,8 @@ use Rattle.steps.specs.Deeds.{openSets, carried}
 use Rattle.steps.specs.Replies.{replyFor}
 use Rattle.steps.specs.Reading.{readBy, prmIn, dataIn, outcomeOf, answered, completed}
 use Rattle.agreement.proofs.Relation.{Gathered, Agrees}
-use Rattle.agreement.proofs.Facts.{Ranges, Needed, After}
+use Rattle.agreement.proofs.Steady.{Steady}
+use Rattle.agreement.proofs.Facts.{Ranges, After}
 use Rattle.agreement.proofs.SameLine.{open-agrees}
 use Rattle.agreement.proofs.Changes.{reading-changed}
 use Rattle.agreement.proofs.OnLine.{reply-line, ignored-agrees}
@@ -64,7 +65,7 @@ abbrev reading : State → Telegram → State
 reading s t = readBy s (finished t)
 
 -- its data is gathered, and no reply is left
-module _ {s : State} {m : List ℕ} {l : Ledger} (a : Agrees s m l) (d : Needed l) (w : Ranges (l .setup)) (t : Telegram)
+module _ {s : State} {m : List ℕ} {l : Ledger} (a : Agrees s m l) (d : Steady l) (w : Ranges (l .setup)) (t : Telegram)
     (g : Gathered (reading s t) m (payloadOf t)) (still : left (s .reply .sender) ≡ false) where
   -- both sides come to the same outcome
   outcomes : outcomeOf (reading s t) m (requestBy t) ≡ bus.outcomeOf l (requestBy t) (payloadOf t)
@@ -101,8 +102,8 @@ module _ {s : State} {m : List ℕ} {l : Ledger} (a : Agrees s m l) (d : Needed 
         let b = ledger.onBuffers o (l .setup) ds (l .buffers) in
         let xs = replyOf (o .drawn) (l .setup) (l .slice) (o .control) b master in
         let place : heldOf (carried (reading s t) m o (length (payloadOf t)) .state .outputs .set .place) < 3 = h .safe .outputs .held-in in
-        let low : 6 ≤ o .control .diagnosis .count = rw counts (d .diagnosis-count .0) in
-        let high : o .control .diagnosis .count ≤ s .setup .«diagnosis_len» = rw (counts, a .setup) (d .diagnosis-count .1) in
+        let low : 6 ≤ o .control .diagnosis .count = rw counts (d .count .0) in
+        let high : o .control .diagnosis .count ≤ s .setup .«diagnosis_len» = rw (counts, a .setup) (d .count .1) in
         with-reply h (replyFor (o .drawn) (x .state) master) xs (diagnoses (o .drawn)) (omega arith)
         (reply-line
         (draws (x .state) (x .memory) (l .slice) b master (h .safe) (subst Ranges (sym (a .setup)) w) (mod-lt (requestBy t .sa) (omega arith)) low high

@@ -22,7 +22,8 @@ use Rattle.ledger.specs.Bus as bus
 use Rattle.steps.specs.Deeds.{begun, settle}
 use Rattle.steps.specs.Reading.{isIgnored, readBy, completed, settled, beginning, heardAs, heard}
 use Rattle.agreement.proofs.Relation.{Gathered, Agrees}
-use Rattle.agreement.proofs.Facts.{Ranges, Needed, After}
+use Rattle.agreement.proofs.Steady.{Steady}
+use Rattle.agreement.proofs.Facts.{Ranges, After}
 use Rattle.agreement.proofs.SameLine.{begun-agrees}
 use Rattle.agreement.proofs.Changes.{gathered-none, reading-changed, reply-dropped}
 use Rattle.state.proofs.Choice.{both}
@@ -46,7 +47,7 @@ first-never b = go (okAt (start .phase) start b) (eqb b 0x10) (eqb b 0xA2) (eqb 
     go true false false false e = inside-complete e
     go false p q t e = broken-complete e
 
-module _ (s : State) (m : List ℕ) (l : Ledger) (b : ℕ) (d : Needed l) (w : Ranges (l .setup)) (a : Agrees s m l) where
+module _ (s : State) (m : List ℕ) (l : Ledger) (b : ℕ) (d : Steady l) (w : Ranges (l .setup)) (a : Agrees s m l) where
   -- broken off: octets are ignored until the next gap
   breaks-off : After (settle (readBy s off) m) (ledger-deeds.settle (withLine l (bus.brokenOff (l .line))))
   breaks-off = settle-agrees (reading-changed a off true [] (ignored-agrees refl refl refl))

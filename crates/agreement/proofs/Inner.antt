@@ -19,7 +19,8 @@ use Rattle.ledger.specs.Bus.{lengthened}
 use Rattle.state.specs.With.{withIncoming}
 use Rattle.steps.specs.Reading.{isIgnored, storedData, keptOctets, readBy, storedAs}
 use Rattle.agreement.proofs.Relation.{Gathered, Agrees}
-use Rattle.agreement.proofs.Facts.{Needed, After}
+use Rattle.agreement.proofs.Steady.{Steady}
+use Rattle.agreement.proofs.Facts.{After}
 use Rattle.agreement.proofs.Stays.{reply-stays}
 use Rattle.telegram.proofs.Onward.{step-onward, data-behind}
 use Rattle.agreement.proofs.Beside.{Beside, nowhere, data-beside, reread}
@@ -29,7 +30,7 @@ use Rattle.agreement.proofs.Data.{gathered-more, gathered-on}
 inside-broken : {x : Status} → x ≡ Inside → x ≡ Broken → ⊥
 inside-broken e f = let z : _≡_ {A = ℕ} 0 1 = cc in omega arith
 
-module _ (s : State) (m : List ℕ) (l : Ledger) (b : ℕ) (d : Needed l) (a : Agrees s m l)
+module _ (s : State) (m : List ℕ) (l : Ledger) (b : ℕ) (d : Steady l) (a : Agrees s m l)
     (ignoring : l .line .ignored ≡ false) (coming : begun l ≡ true) (inside : status (step (s .incoming .reader) b) ≡ Inside) where
   abbrev xs : List ℕ
   xs = l .line .telegram

@@ -11,7 +11,7 @@ use Rattle.rules.specs.Call.{Call, octet, send}
 use Rattle.steps.specs.Step.{step}
 use Rattle.agreement.proofs.Steady.{Related}
 use Rattle.agreement.proofs.Matches.{Matches}
-use Rattle.agreement.proofs.Facts.{Ranges, steady-needed}
+use Rattle.agreement.proofs.Facts.{Ranges}
 use Rattle.agreement.proofs.SendStep.{send-told, send-agrees}
 use Rattle.agreement.proofs.Hears.{heard-agrees}
 use Rattle.agreement.proofs.KeepsOctet.{octet-keeps, send-keeps}
@@ -19,12 +19,10 @@ use Rattle.agreement.proofs.Follows.{Follows, follows}
 
 module _ {s : State} {m : List ℕ} {l : Ledger} (r : Related s m l) where
   pub sim-octet : Ranges (l .setup) → (b : ℕ) (bad : Bool) → Matches (step s m (octet b bad)) (ledger-calls.step l (octet b bad))
-  sim-octet w b bad = record { answers = refl; agrees = heard-agrees s m l b (steady-needed (r .steady)) w (r .agrees) bad }
+  sim-octet w b bad = record { answers = refl; agrees = heard-agrees s m l b (r .steady) w (r .agrees) bad }
 
   pub sim-send : Matches (step s m send) (ledger-calls.step l send)
-  sim-send =
-      let d = steady-needed (r .steady) in
-      record { answers = ap Value (send-told s m l d (r .agrees)); agrees = send-agrees s m l d (r .agrees) }
+  sim-send = record { answers = ap Value (send-told s m l (r .steady) (r .agrees)); agrees = send-agrees s m l (r .steady) (r .agrees) }
 
   -- every call: station and ledger tell alike and stay related
   pub all-follow : Ranges (l .setup) → (c : Call) → Follows s m l c

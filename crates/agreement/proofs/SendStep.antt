@@ -30,7 +30,8 @@ use Rattle.steps.specs.Deeds.{settle}
 use Rattle.steps.specs.Replies.{contentAt, pointOf, isExchange, datumAt, askedAs, askedFor}
 use Rattle.steps.specs.Bus.{sentBy, sendTold, sendLeft}
 use Rattle.agreement.proofs.Relation.{ReplyAgrees, Agrees}
-use Rattle.agreement.proofs.Facts.{Needed, After}
+use Rattle.agreement.proofs.Steady.{Steady}
+use Rattle.agreement.proofs.Facts.{After}
 use Rattle.state.proofs.Choice.{by-test}
 use Rattle.agreement.proofs.Settles.{settle-agrees}
 use Rattle.agreement.proofs.Replied.{replied, with-reply}
@@ -109,17 +110,17 @@ implied : (p q : Bool) → (p ≡ true → q ≡ true) → p && not q ≡ false
 implied true q h = ap not (h refl)
 implied false q h = refl
 
-replied-same : (l : Ledger) → Needed l → ledger.afterReply l ≡ l
+replied-same : (l : Ledger) → Steady l → ledger.afterReply l ≡ l
 unfolding ledger.afterReply
 replied-same l d = rw (implied (delayed (l .control)) (diagnosisLeaves l) (d .delaying))
 
-settles-same : (l : Ledger) → Needed l → ledger.settle l ≡ l
+settles-same : (l : Ledger) → Steady l → ledger.settle l ≡ l
 unfolding ledger.settle
 settles-same l d =
     ap (λ (k : Ledger). ledger.carried k (settled (busy l) (k .control)) []) (replied-same l d)
     ∙ rw (implied (l .control .noted) (busy l) (d .noted))
 
-module _ (s : State) (m : List ℕ) (l : Ledger) (d : Needed l) (a : Agrees s m l) where
+module _ (s : State) (m : List ℕ) (l : Ledger) (d : Steady l) (a : Agrees s m l) where
   pub send-told : sendTold s m ≡ bus.sendTold (l .line .reply)
   unfolding sendTold
   send-told = go (left (s .reply .sender)) refl
