@@ -18,8 +18,8 @@ use Rattle.steps.specs.Safe.{Safe}
 use Rattle.state.specs.With.{withIncoming}
 use Rattle.steps.specs.Reading.{storedData}
 use Rattle.agreement.proofs.Relation.{SetsAgree, ReadingAgrees, ReplyAgrees, Agrees}
-use Rattle.agreement.proofs.Elsewhere.{Elsewhere, same-elsewhere}
-use Rattle.agreement.proofs.Carries.{inputs-stay, diagnoses-stay, slice-stays, sets-stay}
+use Rattle.steps.proofs.Safety.{safe-length, safe-incoming}
+use Rattle.agreement.proofs.Elsewhere.{Elsewhere, same-elsewhere, inputs-stay, diagnoses-stay, slice-stays, sets-stay}
 use Rattle.agreement.proofs.Steady.{SetsFit, Steady}
 use Rattle.agreement.proofs.Stores.{stored-elsewhere}
 
@@ -89,7 +89,6 @@ reread {s} {m} {m′} {l} i n d w r reading reply =
     let f = r .safe in
     let e = w .elsewhere in
     let h = w .filling in
-    let long = e .long in
     let lengths = r .setup in
     let k = s .setup .«output_len» in
     record {
@@ -112,13 +111,5 @@ reread {s} {m} {m′} {l} i n d w r reading reply =
       slice = slice-stays e (h .no-slice) ∙ r .slice;
       reading = reading;
       reply = reply;
-      safe = record {
-        outputs = f .outputs;
-        inputs = f .inputs;
-        parameters = f .parameters;
-        configuration = f .configuration;
-        reply = f .reply;
-        long = f .long;
-        room = rw long (f .room);
-      };
+      safe = safe-incoming s m′ i (safe-length s m m′ (e .long) f);
     }

@@ -25,6 +25,7 @@ use Rattle.steps.specs.Deeds.{diagnosisLeaves, diagnosisChanged}
 use Rattle.state.specs.Start.{noReply}
 use Rattle.steps.specs.Replies.{ownPlace}
 use Rattle.steps.specs.Reading.{readBy}
+use Rattle.steps.proofs.Safety.{safe-control, safe-read-by, safe-no-reply}
 use Rattle.agreement.proofs.Relation.{DiagnosesAgree, Gathered, ReadingAgrees, Agrees}
 use Rattle.agreement.proofs.Stays.{reply-stays, reading-stays}
 
@@ -91,15 +92,7 @@ module _ {s : State} {m : List ℕ} {l : Ledger} (a : Agrees s m l) where
           diagnosis = λ x. ap (λ (j : ℕ). part m (diagnosisAt (s .setup) j) (s .setup .«diagnosis_len»)) (f k x);
         })
         (a .reply);
-    safe = record {
-      outputs = a .safe .outputs;
-      inputs = a .safe .inputs;
-      parameters = a .safe .parameters;
-      configuration = a .safe .configuration;
-      reply = a .safe .reply;
-      long = a .safe .long;
-      room = a .safe .room;
-    };
+    safe = safe-control s m c w (a .safe);
   }
 
   -- the two diagnosis buffers change, with that control part
@@ -131,15 +124,7 @@ module _ {s : State} {m : List ℕ} {l : Ledger} (a : Agrees s m l) where
         slice = a .slice;
         reading = h;
         reply = (x .0, record { count = x .1 .count; octets = x .1 .octets; left = x .1 .left; diagnosis = x .1 .diagnosis });
-        safe = record {
-          outputs = a .safe .outputs;
-          inputs = a .safe .inputs;
-          parameters = a .safe .parameters;
-          configuration = a .safe .configuration;
-          reply = a .safe .reply;
-          long = a .safe .long;
-          room = a .safe .room;
-        };
+        safe = safe-read-by s m r (a .safe);
       }
 
   -- the reply is dropped
@@ -160,13 +145,5 @@ module _ {s : State} {m : List ℕ} {l : Ledger} (a : Agrees s m l) where
         slice = a .slice;
         reading = record { ignoring = x .ignoring; empty = x .empty; reading = x .reading; stored = x .stored };
         reply = ([], record { count = refl; octets = λ k h. absurd (omega arith); left = none empty [] refl; diagnosis = refl });
-        safe = record {
-          outputs = a .safe .outputs;
-          inputs = a .safe .inputs;
-          parameters = a .safe .parameters;
-          configuration = a .safe .configuration;
-          reply = omega arith;
-          long = a .safe .long;
-          room = a .safe .room;
-        };
+        safe = safe-no-reply s m (a .safe);
       }

@@ -39,7 +39,8 @@ use Rattle.agreement.proofs.Drawing.{draws}
 use Rattle.rules.proofs.Served.{Served}
 use Rattle.steps.proofs.Outcomes.{outcome-served}
 use Rattle.rules.proofs.LookedAt.{same-outcome}
-use Rattle.agreement.proofs.Received.{begins-whole, received-agrees}
+use Rattle.agreement.proofs.Stays.{begins-whole}
+use Rattle.agreement.proofs.OutcomeCarried.{received-agrees}
 
 -- Set_Prm's octets, where there are enough of them
 prm-same : (s : State) (m : List ℕ) (ds : List ℕ) → 7 ≤ length ds
@@ -86,7 +87,7 @@ module _ {s : State} {m : List ℕ} {l : Ledger} (a : Agrees s m l) (d : Steady 
   module _ (o : Outcome) (v : Served (s .setup) (s .control) (requestBy t) o) where
     -- the outcome carried out
     done : After (carried (reading s t) m o (length (payloadOf t))) (ledger.carried (withLine l (bus.brokenOff (l .line))) o (payloadOf t))
-    done = received-agrees ignores o (requestBy t) (payloadOf t) (s .control) refl refl refl g v refl still
+    done = received-agrees ignores (requestBy t) (payloadOf t) refl refl refl g v refl still
 
     counts : o .control .diagnosis ≡ l .control .diagnosis
     counts = v .lawful .counts-stay ∙ ap (λ (c : Control). c .diagnosis) (a .control)

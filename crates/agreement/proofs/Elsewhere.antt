@@ -1,15 +1,23 @@
--- A memory that changed in one buffer alone: every other buffer is as it was.
+-- A memory that changed in one buffer alone: every other buffer is as it was, and so is what the relation says of it.
 use Prim.Native.Nat.{ℕ, _+_, _≤_, _<_}
 use native.Mathlib.Omega.{arith}
-use mathlib.Core.Path.{_≡_, refl}
+use mathlib.Core.Path.{_≡_, refl, sym, ap, _∙_}
+use mathlib.Core.Bool.{Bool}
 use mathlib.Core.Logic.{_⊎_, inl, inr}
 use mathlib.Core.List.{List}
 use lib.ListN.{length, set, length-set}
+use Rattle.buffers.specs.declared.triple.Triple.{Triple}
+use Rattle.buffers.specs.Triple.{fillOf, nextOf, heldOf, Permutation}
 use Rattle.octets.specs.Part.{part, pasted}
 use Rattle.octets.proofs.Parts.{pasted-length, pasted-apart, part-set-outside}
 use Rattle.state.specs.declared.setup.Setup.{Setup}
-use Rattle.state.specs.Layout.{countOf, lengthOf, startOf, endOf}
-use Rattle.state.proofs.Places.{in-front, inside, apart}
+use Rattle.state.specs.declared.state.Sets as station-sets
+use Rattle.state.specs.Layout.{inputs, diagnosis, getCfg, countOf, lengthOf, startOf, endOf, inputsAt, diagnosisAt, getCfgAt}
+use Rattle.state.proofs.Places.{first-start, in-front, inside, apart}
+use Rattle.ledger.specs.Lists.{Inputs, Sets, Diagnoses}
+use Rattle.steps.specs.Replies.{ownPlace, userPlace}
+use Rattle.steps.proofs.Safety.{own-in, user-in}
+use Rattle.agreement.proofs.Relation.{InputsAgree, SetsAgree, DiagnosesAgree}
 
 -- m′ is m but for the buffer i of the kind a
 pub record Elsewhere (g : Setup) (a i : ℕ) (m m′ : List ℕ) : Type 0 where
@@ -51,3 +59,41 @@ module _ (g : Setup) (m : List ℕ) (a i : ℕ) (room : endOf g ≤ length m) (t
           → (startOf g a i + index < start) ⊎ (start + k ≤ startOf g a i + index)
       go start k (inl e) = inr (omega arith)
       go start k (inr e) = inl (omega arith)
+
+-- ---- the parts of the relation that lie in other buffers
+
+module _ {g : Setup} {a i : ℕ} {m m′ : List ℕ} (e : Elsewhere g a i m m′) where
+  pub inputs-stay : {t : Triple} {l : Inputs} → Permutation (t .place) → (a ≡ inputs → ⊥) → InputsAgree g m t l → InputsAgree g m′ t l
+  inputs-stay {t} p n h =
+      let other : (j : ℕ) → j < 3 → part m′ (inputsAt g j) (g .«input_len») ≡ part m (inputsAt g j) (g .«input_len») = λ j o. e .other inputs j (g .«input_len») o (omega arith) (λ z _. n z) in
+      record {
+        sending = other (fillOf (t .place)) (p .fill-in) ∙ h .sending;
+        next = other (nextOf (t .place)) (p .next-in) ∙ h .next;
+        held = other (heldOf (t .place)) (p .held-in) ∙ h .held;
+        fresh = h .fresh;
+      }
+
+  pub diagnoses-stay : {w : Bool} {l : Diagnoses} → (a ≡ diagnosis → ⊥) → DiagnosesAgree g m w l → DiagnosesAgree g m′ w l
+  diagnoses-stay {w} n h =
+      let other : (j : ℕ) → j < 2 → part m′ (diagnosisAt g j) (g .«diagnosis_len») ≡ part m (diagnosisAt g j) (g .«diagnosis_len») = λ j o. e .other diagnosis j (g .«diagnosis_len») o (omega arith) (λ z _. n z) in
+      record { own = other (ownPlace w) (own-in w) ∙ h .own; user = other (userPlace w) (user-in w) ∙ h .user }
+
+  pub slice-stays : (a ≡ getCfg → ⊥) → part m′ (getCfgAt g) (g .«get_cfg_len») ≡ part m (getCfgAt g) (g .«get_cfg_len»)
+  slice-stays n =
+      let at = first-start g getCfg in
+      ap (λ (x : ℕ). part m′ x (g .«get_cfg_len»)) (sym at)
+      ∙ e .other getCfg 0 (g .«get_cfg_len») (omega arith) (omega arith) (λ z _. n z)
+      ∙ ap (λ (x : ℕ). part m x (g .«get_cfg_len»)) at
+
+-- sets whose octets are as they were
+pub sets-stay : {base : ℕ → ℕ} {m m′ : List ℕ} {x : station-sets.Sets} {l : Sets}
+    → part m′ (base (heldOf (x .set .place))) (x .shown) ≡ part m (base (heldOf (x .set .place))) (x .shown)
+    → part m′ (base (nextOf (x .set .place))) (x .waiting) ≡ part m (base (nextOf (x .set .place))) (x .waiting)
+    → SetsAgree base m x l → SetsAgree base m′ x l
+sets-stay p q h = record {
+  shown = p ∙ h .shown;
+  waiting = q ∙ h .waiting;
+  shown-count = h .shown-count;
+  waiting-count = h .waiting-count;
+  fresh = h .fresh;
+}

@@ -6,25 +6,24 @@ use mathlib.Core.Bool.{Bool, true, false, cond, not, _&&_}
 use mathlib.Core.List.{List}
 use lib.Dec.{eqb, leb}
 use lib.ListN.{getD, set}
-use borrow.Author.Tests.{not-true, not-false}
-use Rattle.buffers.specs.Events.{watchdog, parameters, configuration}
+use borrow.Author.Tests.{not-false}
+use Rattle.buffers.specs.Events.{parameters, configuration}
 use Rattle.buffers.specs.Triple.{taken}
 use Rattle.telegram.specs.Reading.{start}
 use Rattle.telegram.specs.Sending.{left}
 use Rattle.telegram.proofs.Run.{no-true}
 use Rattle.state.specs.declared.answer.Refusal.the-variants.{Judging, Range, Absent, Delayed}
 use Rattle.state.specs.declared.control.Control.{Control}
+use Rattle.state.specs.declared.setup.Setup.{Setup}
 use Rattle.state.specs.declared.state.Drawn.the-variants as drawn
 use Rattle.state.specs.declared.state.Reply.{Reply}
 use Rattle.state.specs.declared.state.State.{State}
 use Rattle.state.specs.Layout.{parametersAt, configurationAt}
 use Rattle.rules.specs.declared.outcome.Outcome.{Outcome}
 use Rattle.state.specs.Well.{within}
-use Rattle.rules.specs.Control.{inExchange, raise}
-use Rattle.rules.specs.Phases.{dataExch}
+use Rattle.rules.specs.Control.{inExchange}
 use Rattle.rules.specs.Diagnosis.{delayed, diagnosed, delaying, caughtUp}
-use Rattle.rules.specs.Line.{settled, clearOn, counts, withLeft, ticked}
-use Rattle.rules.specs.User.{judgedParameters, judgedConfiguration}
+use Rattle.rules.specs.Line.{settled, ticked}
 use Rattle.ledger.specs.Ledger.{Ledger}
 use Rattle.rules.specs.Kinds.{inRange, writable}
 use Rattle.rules.specs.Call.{gap, tick, take, read, write, hand-over, new-diagnosis, judge-parameters, judge-configuration, events, acknowledge, pending, leave}
@@ -37,39 +36,23 @@ use Rattle.steps.specs.Bus.{paused, silencedReader, elapsed}
 use Rattle.steps.specs.User.{Told, told, refusing, absent, kindAt, takeOutputs, readOctet, writeOctet, handOver, newDiagnosis, judgeParameters, judgeConfiguration, acknowledgeEvents, leaveMaster}
 use Rattle.steps.specs.Step.{step}
 use Rattle.agreement.proofs.Steady.{ReplySteady, Related}
-use Rattle.state.proofs.Choice.{by-test, and-left, and-right}
-use Rattle.agreement.proofs.Settles.{Spared, idle-spared, after-reply-keeps}
+use Rattle.state.proofs.Choice.{by-test, and-left}
+use Rattle.rules.proofs.Served.{Publishes, Quiet, clear-quiet, settled-quiet, ticked-quiet, parameters-quiet, configuration-quiet}
+use Rattle.agreement.proofs.OutcomeCarried.{Spared}
+use Rattle.agreement.proofs.Settles.{idle-spared, after-reply-keeps}
 use Rattle.agreement.proofs.Matches.{open-spared}
 
 -- with this control part the reply may be unfinished
 abbrev pub Allows : Control → Reply → Type 0
 Allows c r = r .drawn ≡ drawn.Outputs → left (r .sender) ≡ true → inExchange c ≡ true
 
-module _ (r : Reply) where
-  chosen : (t : Bool) (x y : Outcome) → (t ≡ true → Allows (x .control) r) → (t ≡ false → Allows (y .control) r) → Allows (cond t x y .control) r
-  chosen t x y = by-test (λ (o : Outcome). Allows (o .control) r) t x y
-
-  spared : {A : Type 0} → Spared r → r .drawn ≡ drawn.Outputs → left (r .sender) ≡ true → A
-  spared f w h = absurd (f w h)
-
-  settled-allows : (b : Bool) (c : Control) → (b ≡ false → Spared r) → Allows c r → Allows (settled b c .control) r
-  settled-allows b c f g = chosen (c .noted && not b) _ _ (λ e. spared (f (not-true b (and-right (c .noted) (not b) e)))) (λ _. g)
-
-  clear-allows : (b : Bool) (c : Control) → (b ≡ false → Spared r) → Allows c r → Allows (clearOn b c .control) r
-  clear-allows b c f g = chosen b _ _ (λ _. g) (λ e. spared (f e))
-
-  ticked-allows : (b : Bool) (c : Control) → (b ≡ false → Spared r) → Allows c r → Allows (ticked b c .control) r
-  unfolding ticked
-  ticked-allows b c f g =
-      chosen (not (counts c)) _ _ (λ _. g) (λ _. chosen (leb (c .watchdog .left) 1) _ _ (λ _. clear-allows b (raise (withLeft c 0) watchdog) f g) (λ _. g))
-
-  parameters-allows : (c : Control) (waits good : Bool) → Spared r → Allows c r → Allows (judgedParameters c waits good .control) r
-  unfolding judgedParameters
-  parameters-allows c waits good f g = chosen waits _ _ (λ _. g) (λ _. chosen good _ _ (λ _. g) (λ _. spared f))
-
-  configuration-allows : (c : Control) (waits good : Bool) → Spared r → Allows c r → Allows (judgedConfiguration c waits good .control) r
-  unfolding judgedConfiguration dataExch
-  configuration-allows c waits good f g = chosen waits _ _ (λ _. g) (λ _. chosen good _ _ (λ _ _ _. refl) (λ _. spared f))
+-- an outcome without data that spares the reply leaves no DATA_EXCH under it
+quiet-allows : {g : Setup} {c : Control} {o : Outcome} (r : Reply) → Quiet g c (Spared r) o → Allows c r → Allows (o .control) r
+quiet-allows {g} {c} {o} r q f w h = go (inExchange (o .control)) refl
+  where
+    go : (t : Bool) → inExchange (o .control) ≡ t → t ≡ true
+    go true e = refl
+    go false e = absurd (subst (Publishes (⊥ × (0 ≡ g .«output_len»)) (Spared r)) (q .leaves (f w h) e) (q .outputs-come) w h)
 
 -- no reply is allowed everywhere
 none-allowed : (c : Control) → Allows c noReply
@@ -88,7 +71,7 @@ module _ (s : State) (g : ReplySteady s) where
   unfolding settle carried
   settle-keeps m =
       subst (Allows (settled (busy s) (afterReply s .control) .control)) (sym (after-reply-keeps s))
-      (settled-allows (s .reply) (busy s) (afterReply s .control) (idle-spared s) after-reply-steady)
+      (quiet-allows (s .reply) (settled-quiet (s .setup) (afterReply s .control) (busy s) (idle-spared s)) after-reply-steady)
 
 -- ---- the calls
 
@@ -106,11 +89,11 @@ module _ {s : State} {m : List ℕ} {l : Ledger} (r : Related s m l) where
       by-test (λ (x : Stepped). ReplySteady (x .state)) (s .control .noted)
       (settle (withReply (readBy s (silencedReader (begun s) (s .incoming .reader))) noReply) m) (carried s m (ticked (busy s) (s .control)) 0)
       (λ _. settle-keeps (withReply (readBy s (silencedReader (begun s) (s .incoming .reader))) noReply) (none-allowed (s .control)) m)
-      (λ _. ticked-allows (s .reply) (busy s) (s .control) (idle-spared s) g)
+      (λ _. quiet-allows (s .reply) (ticked-quiet (s .setup) (s .control) (busy s) (idle-spared s)) g)
 
   pub leave-keeps : ReplySteady (step s m leave .state)
   unfolding leaveMaster carried
-  leave-keeps = clear-allows (s .reply) (busy s) (s .control) (idle-spared s) g
+  leave-keeps = quiet-allows (s .reply) (clear-quiet (s .setup) (s .control) (busy s) (idle-spared s)) g
 
   pub events-keeps : ReplySteady (step s m events .state)
   events-keeps = g
@@ -160,8 +143,9 @@ module _ {s : State} {m : List ℕ} {l : Ledger} (r : Related s m l) where
   judge-parameters-keeps j =
       by-test Keeps (not (isOpen (s .parameters))) (refusing Judging s m) _ (λ _. g)
       (λ e. by-test Keeps (not (leb j 1)) (refusing Range s m) _ (λ _. g)
-      (λ _. parameters-allows (s .reply) (s .control) (s .parameters .set .fresh) (eqb j 1)
-      (open-spared r (s .parameters) (l .buffers .parameters) (parametersAt (s .setup)) (r .agrees .parameters) (r .steady .parameters-closed) (not-false _ e))
+      (λ _. quiet-allows (s .reply)
+      (parameters-quiet (s .setup) (s .control) (s .parameters .set .fresh) (eqb j 1)
+      (open-spared r (s .parameters) (l .buffers .parameters) (parametersAt (s .setup)) (r .agrees .parameters) (r .steady .parameters-closed) (not-false _ e)))
       g))
 
   pub judge-configuration-keeps : (j : ℕ) → ReplySteady (step s m (judge-configuration j) .state)
@@ -169,7 +153,8 @@ module _ {s : State} {m : List ℕ} {l : Ledger} (r : Related s m l) where
   judge-configuration-keeps j =
       by-test Keeps (not (isOpen (s .configuration) && s .control .flags .«parameters_good»)) (refusing Judging s m) _ (λ _. g)
       (λ e. by-test Keeps (not (leb j 1)) (refusing Range s m) _ (λ _. g)
-      (λ _. configuration-allows (s .reply) (s .control) (s .configuration .set .fresh) (eqb j 1)
+      (λ _. quiet-allows (s .reply)
+      (configuration-quiet (s .setup) (s .control) (s .configuration .set .fresh) (eqb j 1)
       (open-spared r (s .configuration) (l .buffers .configuration) (configurationAt (s .setup)) (r .agrees .configuration) (r .steady .configuration-closed)
-      (and-left (isOpen (s .configuration)) (s .control .flags .«parameters_good») (not-false _ e)))
+      (and-left (isOpen (s .configuration)) (s .control .flags .«parameters_good») (not-false _ e))))
       g))

@@ -2,7 +2,7 @@ pub mod Relation
 pub mod Elsewhere
 pub mod Stays
 pub mod SameLine
-pub mod Carries
+pub mod OutcomeCarried
 pub mod Changes
 pub mod Settles
 pub mod Steady
@@ -22,7 +22,6 @@ pub mod Begins
 mod Replied
 mod SendStep
 mod Drawing
-mod Received
 mod Completes
 mod Hears
 mod KeepsOctet

@@ -6,11 +6,10 @@ use mathlib.Core.Bool.{Bool, true, false, cond, not, _&&_, _||_, or-true, or-fal
 use mathlib.Core.List.{List, []}
 use lib.Dec.{eqb, leb}
 use borrow.Author.Tests.{not-false}
-use Rattle.buffers.specs.Events.{watchdog, acknowledged, pendingOf}
+use Rattle.buffers.specs.Events.{acknowledged, pendingOf}
 use Rattle.buffers.specs.Triple as triple
 use Rattle.buffers.proofs.Roles.{taken-permutes, handed-over-permutes}
 use Rattle.telegram.specs.Reading.{start, off, run}
-use Rattle.telegram.specs.Sending.{left}
 use Rattle.telegram.proofs.Run.{no-true}
 use Rattle.state.specs.declared.answer.Answer.the-variants.{Value}
 use Rattle.state.specs.declared.answer.Refusal.{Refusal}
@@ -20,9 +19,9 @@ use Rattle.state.specs.declared.state.Sets as station-sets
 use Rattle.state.specs.declared.state.State.{State}
 use Rattle.state.specs.Layout.{parametersAt, configurationAt}
 use Rattle.state.specs.Well.{within}
-use Rattle.rules.specs.Control.{withEvents, raise, inExchange}
+use Rattle.rules.specs.Control.{withEvents, inExchange}
 use Rattle.rules.specs.Diagnosis.{delayed, diagnosed, delaying}
-use Rattle.rules.specs.Line.{clearOn, counts, withLeft, ticked}
+use Rattle.rules.specs.Line.{clearOn, ticked}
 use Rattle.rules.specs.User.{judgedParameters, judgedConfiguration}
 use Rattle.ledger.specs.Lists as lists
 use Rattle.ledger.specs.Lists.{some}
@@ -45,11 +44,13 @@ use Rattle.agreement.proofs.Relation.{SetsAgree, ReadingAgrees, Agrees}
 use Rattle.agreement.proofs.Steady.{Related}
 use Rattle.agreement.proofs.SameLine.{begun-agrees, busy-agrees, leaves-agrees, open-agrees}
 use Rattle.agreement.proofs.Stays.{reading-stays, reply-stays}
-use Rattle.agreement.proofs.Carries.{Quiet, carried-agrees}
+use Rattle.rules.proofs.Served.{clear-quiet, ticked-quiet, parameters-quiet, configuration-quiet}
+use Rattle.steps.proofs.Safety.{safe-outputs, safe-inputs}
+use Rattle.agreement.proofs.OutcomeCarried.{Spared, quiet-agrees}
 use Rattle.agreement.proofs.Changes.{gathered-none, control-changed, diagnosis-changed, reading-changed, reply-dropped}
 use Rattle.agreement.proofs.InOrder.{closed-list}
 use Rattle.state.proofs.Choice.{both, and-left}
-use Rattle.agreement.proofs.Settles.{Spared, idle-spared, quiet-by, draws, enters, settle-agrees}
+use Rattle.agreement.proofs.Settles.{idle-spared, settle-agrees}
 
 -- the answers are equal, and what is left agrees
 pub record Matches (t : Told) (u : ledger-user.Told) : Type 0 where
@@ -89,15 +90,6 @@ silenced {s} {m} {l} a = go (begun s) refl
     go true e = rw (sym (begun-agrees a) ∙ e, or-true (l .line .ignored)) broken
     go false e = let f = sym (begun-agrees a) ∙ e in rw (f, or-false (l .line .ignored)) (as-before f)
 
-module _ {s : State} where
-  clear-quiet : (b : Bool) (c : Control) → (b ≡ false → Spared (s .reply)) → Quiet s (clearOn b c)
-  clear-quiet b c f = quiet-by b (λ _. draws) (λ e. enters _ (f e))
-
-  ticked-quiet : (b : Bool) (c : Control) → (b ≡ false → Spared (s .reply)) → Quiet s (ticked b c)
-  unfolding ticked
-  ticked-quiet b c f =
-      quiet-by (not (counts c)) (λ _. draws) (λ _. quiet-by (leb (c .watchdog .left) 1) (λ _. clear-quiet b (raise (withLeft c 0) watchdog) f) (λ _. draws))
-
 module _ {s : State} {m : List ℕ} {l : Ledger} (a : Agrees s m l) where
   gap-agrees : Agrees (paused s m .state) (paused s m .memory) (ledger-bus.paused l)
   unfolding paused ledger-bus.paused
@@ -117,8 +109,8 @@ module _ {s : State} {m : List ℕ} {l : Ledger} (a : Agrees s m l) where
       (ledger-deeds.settle (withLine l (ledger-bus.silenced l))) (ledger-deeds.carried l (ticked (ledger.busy l) (l .control)) [])
       (ap (λ (c : Control). c .noted) (a .control))
       (λ _. settle-agrees (reply-dropped (reading-changed a (silencedReader (begun s) (s .incoming .reader)) (l .line .ignored || ledger.begun l) [] (silenced a))))
-      (λ _. carried-agrees a (ticked (busy s) (s .control)) (ticked (ledger.busy l) (l .control)) (λ i. ticked (busy-agrees a i) (a .control i))
-      (ticked-quiet (busy s) (s .control) (idle-spared s)))
+      (λ _. quiet-agrees a (ticked-quiet (s .setup) (s .control) (busy s) (idle-spared s)) (ticked (ledger.busy l) (l .control))
+      (λ i. ticked (busy-agrees a i) (a .control i)))
 
   pub sim-tick : Matches (step s m tick) (ledger-calls.step l tick)
   sim-tick = record { answers = refl; agrees = tick-agrees }
@@ -130,8 +122,8 @@ module _ {s : State} {m : List ℕ} {l : Ledger} (a : Agrees s m l) where
   sim-leave = record {
     answers = refl;
     agrees =
-        carried-agrees a (clearOn (busy s) (s .control)) (clearOn (ledger.busy l) (l .control)) (λ i. clearOn (busy-agrees a i) (a .control i))
-        (clear-quiet (busy s) (s .control) (idle-spared s));
+        quiet-agrees a (clear-quiet (s .setup) (s .control) (busy s) (idle-spared s)) (clearOn (ledger.busy l) (l .control))
+        (λ i. clearOn (busy-agrees a i) (a .control i));
   }
 
   pub sim-events : Matches (step s m events) (ledger-calls.step l events)
@@ -172,15 +164,7 @@ module _ {s : State} {m : List ℕ} {l : Ledger} (a : Agrees s m l) where
             reply-stays s s′ m m refl (l .line)
             (λ _. record { ident = refl; inputs = refl; outputs = λ _. refl; slice = refl; diagnosis = λ _. refl })
             (a .reply);
-        safe = record {
-          outputs = taken-permutes (s .outputs .set) (a .safe .outputs);
-          inputs = a .safe .inputs;
-          parameters = a .safe .parameters;
-          configuration = a .safe .configuration;
-          reply = a .safe .reply;
-          long = a .safe .long;
-          room = a .safe .room;
-        };
+        safe = safe-outputs s m (s′ .outputs) (taken-permutes (s .outputs .set) (a .safe .outputs)) (a .safe);
       }
 
   pub sim-take : Matches (step s m take) (ledger-calls.step l take)
@@ -218,15 +202,7 @@ module _ {s : State} {m : List ℕ} {l : Ledger} (a : Agrees s m l) where
               reply-stays s s′ m m refl (l .line)
               (λ _. record { ident = refl; inputs = refl; outputs = λ _. refl; slice = refl; diagnosis = λ _. refl })
               (a .reply);
-          safe = record {
-            outputs = a .safe .outputs;
-            inputs = handed-over-permutes (s .inputs) (a .safe .inputs);
-            parameters = a .safe .parameters;
-            configuration = a .safe .configuration;
-            reply = a .safe .reply;
-            long = a .safe .long;
-            room = a .safe .room;
-          };
+          safe = safe-inputs s m (s′ .inputs) (handed-over-permutes (s .inputs) (a .safe .inputs)) (a .safe);
         };
       }
 
@@ -257,19 +233,6 @@ module _ {s : State} {m : List ℕ} {l : Ledger} (a : Agrees s m l) where
 
 -- ---- judging
 
-module _ {s : State} where
-  parameters-quiet : (c : Control) (waits good : Bool) → Spared (s .reply) → Quiet s (judgedParameters c waits good)
-  unfolding judgedParameters
-  parameters-quiet c waits good f =
-      quiet-by waits (λ _. record { outputs-kept = tt; parameters-kept = tt; configuration-kept = tt })
-      (λ _. quiet-by good (λ _. record { outputs-kept = tt; parameters-kept = tt; configuration-kept = tt }) (λ _. enters _ f))
-
-  configuration-quiet : (c : Control) (waits good : Bool) → Spared (s .reply) → Quiet s (judgedConfiguration c waits good)
-  unfolding judgedConfiguration
-  configuration-quiet c waits good f =
-      quiet-by waits (λ _. record { outputs-kept = tt; parameters-kept = tt; configuration-kept = tt })
-      (λ _. quiet-by good (λ _. record { outputs-kept = tt; parameters-kept = tt; configuration-kept = tt }) (λ _. enters _ f))
-
 -- a set is open only outside DATA_EXCH, where no Read_Outputs reply is unfinished
 pub open-spared : {s : State} {m : List ℕ} {l : Ledger} → Related s m l → (x : station-sets.Sets) (y : lists.Sets) (base : ℕ → ℕ) → SetsAgree base m x y
     → (inExchange (l .control) ≡ true → y .shown ≡ []) → isOpen x ≡ true → Spared (s .reply)
@@ -290,10 +253,10 @@ module _ {s : State} {m : List ℕ} {l : Ledger} (r : Related s m l) where
       (λ _. record {
         answers = ap (λ (t : Bool). Value (cond t 1 0)) fresh;
         agrees =
-            carried-agrees a (judgedParameters (s .control) (s .parameters .set .fresh) (eqb j 1)) (judgedParameters (l .control) (some (l .buffers .parameters .waiting)) (eqb j 1))
-            (λ i. judgedParameters (a .control i) (fresh i) (eqb j 1))
-            (parameters-quiet (s .control) (s .parameters .set .fresh) (eqb j 1)
-            (open-spared r (s .parameters) (l .buffers .parameters) (parametersAt (s .setup)) (a .parameters) (r .steady .parameters-closed) (not-false _ e)));
+            quiet-agrees a
+            (parameters-quiet (s .setup) (s .control) (s .parameters .set .fresh) (eqb j 1)
+            (open-spared r (s .parameters) (l .buffers .parameters) (parametersAt (s .setup)) (a .parameters) (r .steady .parameters-closed) (not-false _ e)))
+            (judgedParameters (l .control) (some (l .buffers .parameters .waiting)) (eqb j 1)) (λ i. judgedParameters (a .control i) (fresh i) (eqb j 1));
       }))
 
   pub sim-judge-configuration : (j : ℕ) → Matches (step s m (judge-configuration j)) (ledger-calls.step l (judge-configuration j))
@@ -310,9 +273,9 @@ module _ {s : State} {m : List ℕ} {l : Ledger} (r : Related s m l) where
       (λ _. record {
         answers = ap (λ (t : Bool). Value (cond t 1 0)) fresh;
         agrees =
-            carried-agrees a (judgedConfiguration (s .control) (s .configuration .set .fresh) (eqb j 1)) (judgedConfiguration (l .control) (some (l .buffers .configuration .waiting)) (eqb j 1))
-            (λ i. judgedConfiguration (a .control i) (fresh i) (eqb j 1))
-            (configuration-quiet (s .control) (s .configuration .set .fresh) (eqb j 1)
+            quiet-agrees a
+            (configuration-quiet (s .setup) (s .control) (s .configuration .set .fresh) (eqb j 1)
             (open-spared r (s .configuration) (l .buffers .configuration) (configurationAt (s .setup)) (a .configuration) (r .steady .configuration-closed)
-            (and-left (isOpen (s .configuration)) (s .control .flags .«parameters_good») (not-false _ e))));
+            (and-left (isOpen (s .configuration)) (s .control .flags .«parameters_good») (not-false _ e))))
+            (judgedConfiguration (l .control) (some (l .buffers .configuration .waiting)) (eqb j 1)) (λ i. judgedConfiguration (a .control i) (fresh i) (eqb j 1));
       }))

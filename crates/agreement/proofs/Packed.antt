@@ -2,7 +2,7 @@
 use Prim.Native.Nat.{ℕ, _≤_, _<_}
 use native.Mathlib.Omega.{arith}
 use mathlib.Core.Path.{_≡_, refl, sym, ap, _∙_}
-use mathlib.Core.Bool.{Bool, true, false, not}
+use mathlib.Core.Bool.{not}
 use mathlib.Core.List.{List, [], _∷_}
 use mathlib.Core.Logic.{inl, inr}
 use lib.Dec.{eqb}
@@ -25,15 +25,7 @@ use Rattle.ledger.specs.ReadBack.{Fit}
 use Rattle.steps.specs.Replies.{ownPlace, userPlace}
 use Rattle.agreement.proofs.Relation.{SetsAgree, Agrees}
 use Rattle.agreement.proofs.Stays.{SameSource, SameFills, reply-stays, reading-stays}
-use Rattle.steps.proofs.Safety.{safe-length}
-
-own-place : (b : Bool) → ownPlace b < 2
-own-place true = omega arith
-own-place false = omega arith
-
-user-place : (b : Bool) → userPlace b < 2
-user-place true = omega arith
-user-place false = omega arith
+use Rattle.steps.proofs.Safety.{own-in, user-in, safe-length}
 
 -- the relation holds of the packed memory
 pub kept-agrees : {s : State} {m : List ℕ} {l : Ledger} → stateLength ≤ length m → Agrees s m l → Agrees s (kept s m) l
@@ -67,8 +59,8 @@ kept-agrees {s} {m} {l} long a = record {
     fresh = a .configuration .fresh;
   };
   diagnosis = record {
-    own = same diagnosis (ownPlace (s .swapped)) (s .setup .«diagnosis_len») (own-place (s .swapped)) ∙ a .diagnosis .own;
-    user = same diagnosis (userPlace (s .swapped)) (s .setup .«diagnosis_len») (user-place (s .swapped)) ∙ a .diagnosis .user;
+    own = same diagnosis (ownPlace (s .swapped)) (s .setup .«diagnosis_len») (own-in (s .swapped)) ∙ a .diagnosis .own;
+    user = same diagnosis (userPlace (s .swapped)) (s .setup .«diagnosis_len») (user-in (s .swapped)) ∙ a .diagnosis .user;
   };
   slice = in-slice ∙ a .slice;
   reading = reading-stays s s m (kept s m) refl fills (l .line) (a .reading);
@@ -99,7 +91,7 @@ kept-agrees {s} {m} {l} long a = record {
       inputs = same inputs (fillOf (s .inputs .place)) (g .«input_len») (a .safe .inputs .fill-in);
       outputs = λ _. same outputs (s .reply .place) (g .«output_len») (let h = a .safe .reply in omega arith);
       slice = in-slice;
-      diagnosis = λ _. same diagnosis (ownPlace (s .swapped)) (g .«diagnosis_len») (own-place (s .swapped));
+      diagnosis = λ _. same diagnosis (ownPlace (s .swapped)) (g .«diagnosis_len») (own-in (s .swapped));
     }
 
 -- ---- the state is sound

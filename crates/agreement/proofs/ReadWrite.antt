@@ -30,9 +30,9 @@ use Rattle.steps.specs.User.{refusing, absent, kindAt, readOctet, writeOctet}
 use Rattle.steps.specs.Step.{step}
 use Rattle.agreement.proofs.Relation.{InputsAgree, SetsAgree, DiagnosesAgree, Agrees}
 use Rattle.agreement.proofs.Steady.{SetsFit, Steady, Related}
-use Rattle.agreement.proofs.Elsewhere.{Elsewhere, set-elsewhere}
+use Rattle.agreement.proofs.Elsewhere.{Elsewhere, set-elsewhere, inputs-stay, diagnoses-stay, slice-stays, sets-stay}
 use Rattle.agreement.proofs.Stays.{reading-stays, reply-stays}
-use Rattle.agreement.proofs.Carries.{own-in, user-in, inputs-stay, diagnoses-stay, slice-stays, sets-stay}
+use Rattle.steps.proofs.Safety.{own-in, user-in, safe-length}
 use Rattle.state.proofs.Choice.{both, and-left, and-right, or-left}
 use Rattle.agreement.proofs.Matches.{Matches, refuses}
 
@@ -169,15 +169,7 @@ module _ {s : State} {m m′ : List ℕ} {l : Ledger} (r : Agrees s m l) (t : St
               diagnosis = λ _. e .other diagnosis (ownPlace (s .swapped)) (s .setup .«diagnosis_len») (own-in (s .swapped)) (omega arith) not-own;
             })
             (r .reply);
-        safe = record {
-          outputs = f .outputs;
-          inputs = f .inputs;
-          parameters = f .parameters;
-          configuration = f .configuration;
-          reply = f .reply;
-          long = f .long;
-          room = rw (e .long) (f .room);
-        };
+        safe = safe-length s m m′ (e .long) f;
       }
 
 module _ {s : State} {m : List ℕ} {l : Ledger} (r : Related s m l) (index x : ℕ) where

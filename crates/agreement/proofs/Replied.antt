@@ -6,7 +6,7 @@ use mathlib.Core.List.{List}
 use Rattle.state.specs.declared.state.Reply.{Reply}
 use Rattle.state.specs.declared.state.State.{State}
 use Rattle.ledger.specs.Ledger.{Line, Ledger, withLine}
-use Rattle.steps.specs.Safe.{Safe}
+use Rattle.steps.proofs.Safety.{safe-reply}
 use Rattle.state.specs.With.{withReply}
 use Rattle.agreement.proofs.Relation.{ReplyAgrees, Agrees}
 use Rattle.agreement.proofs.Stays.{gathered-stays}
@@ -14,18 +14,6 @@ use Rattle.agreement.proofs.Stays.{gathered-stays}
 -- the line with another reply
 abbrev pub replied : Line → List ℕ → Bool → Line
 replied n xs t = record { ignored = n .ignored; telegram = n .telegram; reply = xs; diagnosing = t }
-
--- every place is a buffer's as before
-pub safe-reply : {s : State} {m : List ℕ} (x : Reply) → x .place ≤ 2 → Safe s m → Safe (withReply s x) m
-safe-reply x h f = record {
-  outputs = f .outputs;
-  inputs = f .inputs;
-  parameters = f .parameters;
-  configuration = f .configuration;
-  reply = h;
-  long = f .long;
-  room = f .room;
-}
 
 pub with-reply : {s : State} {m : List ℕ} {l : Ledger} → Agrees s m l → (x : Reply) (xs : List ℕ) (t : Bool) → x .place ≤ 2
     → (ds : List ℕ) × ReplyAgrees (withReply s x) m (replied (l .line) xs t) ds → Agrees (withReply s x) m (withLine l (replied (l .line) xs t))
@@ -47,5 +35,5 @@ with-reply {s} {m} {l} a x xs t h r = record {
         (record { setup = refl; outputs = λ k g. refl; parameters = λ k g. refl; configuration = λ k g. refl }) _ (a .reading .stored e);
   };
   reply = r;
-  safe = safe-reply x h (a .safe);
+  safe = safe-reply s m x h (a .safe);
 }

@@ -6,6 +6,7 @@ use mathlib.Core.Bool.{Bool, true, false, cond}
 use mathlib.Core.List.{List, [], _∷_}
 use lib.Dec.{eqb, ltb}
 use lib.ListN.{length, getD, take, length-take}
+use lib.Seq.{take-all}
 use Rattle.buffers.specs.Triple.{fillOf}
 use Rattle.octets.specs.Part.{part}
 use Rattle.telegram.specs.Reading.{start, gathered, status}
@@ -122,9 +123,14 @@ pub record SameFills (s : State) (m : List ℕ) (s′ : State) (m′ : List ℕ)
       → part m′ (configurationAt (s′ .setup) (fillOf (s′ .configuration .set .place))) k
       ≡ part m (configurationAt (s .setup) (fillOf (s .configuration .set .place))) k
 
-begins-stays : (m m′ : List ℕ) (a a′ n n′ : ℕ) (ds : List ℕ) → n′ ≡ n → ((k : ℕ) → k ≤ n → part m′ a′ k ≡ part m a k)
+-- a buffer begins as before with what was gathered
+pub begins-stays : (m m′ : List ℕ) (a a′ n n′ : ℕ) (ds : List ℕ) → n′ ≡ n → ((k : ℕ) → k ≤ n → part m′ a′ k ≡ part m a k)
     → BeginsWith m a n ds → BeginsWith m′ a′ n′ ds
 begins-stays m m′ a a′ n n′ ds e f b = rw e (f (length (take n ds)) (rw length-take (omega arith)) ∙ b)
+
+-- a buffer that is long enough begins with all that was gathered
+pub begins-whole : (m : List ℕ) (a n : ℕ) (ds : List ℕ) → length ds ≤ n → BeginsWith m a n ds → part m a (length ds) ≡ ds
+begins-whole m a n ds h b = rw (take-all n ds h) at b
 
 module _ (s s′ : State) (m m′ : List ℕ) (same : s′ .incoming ≡ s .incoming) (f : SameFills s m s′ m′) where
   pub gathered-stays : (ds : List ℕ) → Gathered s m ds → Gathered s′ m′ ds

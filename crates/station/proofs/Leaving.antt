@@ -1,6 +1,6 @@
 -- A reply leaves octet by octet: the buffers that it is read from lie in the memory, and where nothing waits only a part of
 -- the state is packed again.
-use Prim.Native.Nat.{ℕ, _+_, _-_, _≤_, _<_}
+use Prim.Native.Nat.{ℕ, _+_, _-_, _≤_}
 use native.Mathlib.Omega.{arith}
 use mathlib.Core.Path.{_≡_, refl, sym, ap, _∙_}
 use mathlib.Core.Bool.{Bool, true, false, _||_}
@@ -25,14 +25,10 @@ use Rattle.steps.specs.Replies.{ownPlace, contentAt, isExchange, datumAt, asked
 use Rattle.steps.specs.Reading.{readOn, readBy}
 use Rattle.steps.specs.Bus.{paused, sendTold, sendLeft}
 use Rattle.steps.proofs.Idle.{idle}
-use Rattle.steps.proofs.Safety.{buffer-room}
+use Rattle.steps.proofs.Safety.{own-in, buffer-room}
 use Rattle.steps.proofs.Holding.{holds-safe, fronted}
 
 -- ---- the buffers that a reply is read from
-
-own-in : (swapped : Bool) → ownPlace swapped < 2
-own-in true = omega arith
-own-in false = omega arith
 
 module _ (m : List ℕ) (s : State) (h : Holds m s) where
   -- the inputs that are sent

@@ -19,11 +19,7 @@ use Rattle.rules.specs.Kinds.{lengthOf, inRange, writable}
 use Rattle.steps.specs.Safe.{Safe}
 use Rattle.steps.specs.Replies.{userPlace}
 use Rattle.steps.specs.User.{told, refusing, absent, kindAt, writeOctet}
-
--- the user's diagnosis buffer is one of two
-user-place-in : (swapped : Bool) → userPlace swapped < 2
-user-place-in true = omega arith
-user-place-in false = omega arith
+use Rattle.steps.proofs.Safety.{user-in}
 
 -- an octet lies behind the state and in the memory
 abbrev pub Lies : List ℕ → ℕ → Type 0
@@ -61,7 +57,7 @@ module _ (s : State) (m : List ℕ) (kind index : ℕ) (safe : Safe s m) where
       go false true b₃ b₄ b₅ f = in-buffer parameters (heldOf (s .parameters .set .place)) (safe .parameters .held-in) f
       go false false true b₄ b₅ f = in-buffer configuration (heldOf (s .configuration .set .place)) (safe .configuration .held-in) f
       go false false false true b₅ f = in-buffer inputs (heldOf (s .inputs .place)) (safe .inputs .held-in) f
-      go false false false false true f = in-buffer diagnosis (userPlace (s .swapped)) (user-place-in (s .swapped)) f
+      go false false false false true f = in-buffer diagnosis (userPlace (s .swapped)) (user-in (s .swapped)) f
       go false false false false false f = let z : index < 0 = ltb-true index 0 f in absurd (omega arith)
 
   -- a write leaves the state's octets

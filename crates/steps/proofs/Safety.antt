@@ -37,14 +37,23 @@ use Rattle.rules.specs.Line.{settled, ticked}
 use Rattle.rules.specs.Diagnosis.{delayed, caughtUp}
 use Rattle.steps.specs.Safe.{Safe}
 use Rattle.steps.specs.Stepped.{Stepped, Steps, unchanged}
-use Rattle.state.specs.With.{withIncoming, withReply}
+use Rattle.state.specs.With.{withOutputs, withInputs, withIncoming, withReply}
 use Rattle.state.specs.Start.{noReply}
-use Rattle.steps.specs.Replies.{replyFor, askedFor}
+use Rattle.steps.specs.Replies.{ownPlace, userPlace, replyFor, askedFor}
 use Rattle.steps.specs.Reading.{storedData, keptOctets, readBy, storedAs, requestBy, outcomeOf, answered, completed, beginning, heardAs, isIgnored, heard}
 use Rattle.steps.specs.Bus.{paused, sentBy, sendLeft, silencedReader, elapsed}
 use Rattle.steps.specs.Deeds.{begun, busy, diagnosisLeaves, isOpen, onOutputs, onInputs, receivedSet, onSets, onMemory, carried, diagnosisChanged, afterReply, settle}
 
 -- ---- the buffers lie in the memory
+
+-- the diagnosis buffers are two
+pub own-in : (swapped : Bool) → ownPlace swapped < 2
+own-in true = omega arith
+own-in false = omega arith
+
+pub user-in : (swapped : Bool) → userPlace swapped < 2
+user-in true = omega arith
+user-in false = omega arith
 
 -- buffer k of a kind
 pub buffer-room : (s : State) (m : List ℕ) (kind k : ℕ) → Safe s m → k < countOf kind
@@ -86,6 +95,38 @@ safe-cond false a b h g = g
 
 pub safe-length : (s : State) (m n : List ℕ) → length n ≡ length m → Safe s m → Safe s n
 safe-length s m n e h = omega arith
+
+-- ---- other parts of the state
+
+-- another control part, and which diagnosis buffer is whose
+pub safe-control : (s : State) (m : List ℕ) (c : Control) (swapped : Bool) → Safe s m
+    → Safe (record { setup = s .setup; control = c; outputs = s .outputs; inputs = s .inputs; parameters = s .parameters; configuration = s .configuration; swapped = swapped; incoming = s .incoming; reply = s .reply }) m
+safe-control s m c swapped h = omega arith
+
+-- other roles of the outputs
+pub safe-outputs : (s : State) (m : List ℕ) (o : Outputs) → Permutation (o .set .place) → Safe s m → Safe (withOutputs s o) m
+safe-outputs s m o p h = omega arith
+
+-- and of the inputs
+pub safe-inputs : (s : State) (m : List ℕ) (t : Triple) → Permutation (t .place) → Safe s m → Safe (withInputs s t) m
+safe-inputs s m t p h = omega arith
+
+-- another reading
+pub safe-incoming : (s : State) (m : List ℕ) (i : Incoming) → Safe s m → Safe (withIncoming s i) m
+safe-incoming s m i h = omega arith
+
+pub safe-read-by : (s : State) (m : List ℕ) (r : Reader) → Safe s m → Safe (readBy s r) m
+safe-read-by s m r h = safe-incoming s m (record { reader = r; first = s .incoming .first; second = s .incoming .second }) h
+
+-- another reply
+pub safe-reply : (s : State) (m : List ℕ) (r : Reply) → r .place ≤ 2 → Safe s m → Safe (withReply s r) m
+safe-reply s m r g h = omega arith
+
+pub safe-no-reply : (s : State) (m : List ℕ) → Safe s m → Safe (withReply s noReply) m
+safe-no-reply s m h = safe-reply s m noReply (omega arith) h
+
+pub safe-beginning : (s : State) (m : List ℕ) (r : Reader) → Safe s m → Safe (beginning s r) m
+safe-beginning s m r h = safe-no-reply (readBy s r) m (safe-read-by s m r h)
 
 -- ---- an outcome carried out
 
@@ -140,41 +181,23 @@ safe-carried s m o count h =
 
 -- ---- the line settled
 
-pub safe-diagnosis-changed : (s : State) (m : List ℕ) (c : Control) → Safe s m → Safe (diagnosisChanged s c) m
-safe-diagnosis-changed s m c h = omega arith
-
 pub safe-after-reply : (s : State) (m : List ℕ) → Safe s m → Safe (afterReply s) m
 unfolding afterReply
 safe-after-reply s m h = go (delayed (s .control) && not (diagnosisLeaves s))
   where
     go : (b : Bool) → Safe (cond b (diagnosisChanged s (caughtUp (s .control))) s) m
-    go true = safe-diagnosis-changed s m (caughtUp (s .control)) h
+    go true = safe-control s m (caughtUp (s .control)) (not (s .swapped)) h
     go false = h
 
 pub safe-settle : (s : State) (m : List ℕ) → Safe s m → Safely (settle s m)
 unfolding settle
 safe-settle s m h = safe-carried (afterReply s) m (settled (busy s) (afterReply s .control)) 0 (safe-after-reply s m h)
 
--- ---- the reader goes on, and a reply is drawn
-
-pub safe-incoming : (s : State) (m : List ℕ) (i : Incoming) → Safe s m → Safe (withIncoming s i) m
-safe-incoming s m i h = omega arith
-
-pub safe-read-by : (s : State) (m : List ℕ) (r : Reader) → Safe s m → Safe (readBy s r) m
-safe-read-by s m r h = safe-incoming s m (record { reader = r; first = s .incoming .first; second = s .incoming .second }) h
-
-pub safe-reply : (s : State) (m : List ℕ) (r : Reply) → r .place ≤ 2 → Safe s m → Safe (withReply s r) m
-safe-reply s m r g h = omega arith
-
-pub safe-no-reply : (s : State) (m : List ℕ) → Safe s m → Safe (withReply s noReply) m
-safe-no-reply s m h = safe-reply s m noReply (omega arith) h
+-- ---- a reply drawn
 
 pub safe-reply-for : (s : State) (m : List ℕ) (d : Drawn) (master : ℕ) → Safe s m → Safe (withReply s (replyFor d s master)) m
 unfolding replyFor
 safe-reply-for s m d master h = let u = h .outputs .held-in in safe-reply s m (replyFor d s master) (omega arith) h
-
-pub safe-beginning : (s : State) (m : List ℕ) (r : Reader) → Safe s m → Safe (beginning s r) m
-safe-beginning s m r h = safe-no-reply (readBy s r) m (safe-read-by s m r h)
 
 -- ---- an octet heard
 
