@@ -30,12 +30,12 @@ extern "C" {
 
 /* Limits. */
 enum {
-    DP_MEMORY_MIN = 1536,  /* least length of the memory */
+    DP_MEMORY_MIN = 1536,  /* least length of the memory, enough where all six lengths are at most 96 */
     DP_MEMORY_MAX = 4096,  /* greatest length of the memory */
     DP_MEMORY_STEP = 8,    /* its length is a multiple of this */
     DP_ADDRESS_MAX = 126,  /* station addresses are 0 to this */
     DP_LENGTH_MAX = 244,   /* greatest length of outputs, inputs, parameters, configuration, diagnosis, Get_Cfg */
-    DP_PARAMETERS_MIN = 7, /* least length for parameters; for the others it is 1 */
+    DP_PARAMETERS_MIN = 7, /* least length of parameters; of outputs, inputs, configuration and Get_Cfg it is 1 */
     DP_DIAGNOSIS_MIN = 6,  /* least length and count of diagnosis; its first index to read and write */
     DP_NO_OCTET = 256,     /* dp_send: no octet is left */
     DP_NO_EVENT = 16       /* dp_pending: no event is set */
@@ -46,10 +46,10 @@ enum dp_refusal {
     /* the starter */
     DP_REFUSED_MEMORY_LENGTH = 1, /* the memory is too short or too long, or its length is no multiple of 8 */
     DP_REFUSED_ADDRESS = 2,       /* the address is above 126 */
-    DP_REFUSED_LENGTH = 3,        /* a length, or that of the Get_Cfg slice, is outside its range */
+    DP_REFUSED_LENGTH = 3,        /* one of the six lengths, the Get_Cfg slice's too, is outside its range */
     DP_REFUSED_ROOM = 4,          /* the buffers would end beyond the memory */
     /* whoever damaged the memory */
-    DP_REFUSED_DAMAGED = 5, /* the memory holds no station: never started, overwritten, or handed in too short */
+    DP_REFUSED_DAMAGED = 5, /* the memory holds no station: never started, overwritten, or its length is wrong */
     /* the vat program */
     DP_REFUSED_JUDGING = 6, /* no set is open, or configuration is judged before good parameters */
     DP_REFUSED_RANGE = 7,   /* a kind, flags, a count, an index or a judgement is out of range */
@@ -92,7 +92,10 @@ enum dp_judgement { DP_BAD = 0, DP_GOOD = 1 };
 
 /*
  * Start: sets a fresh station up in the memory, whatever was there before. It waits for a gap and then for Set_Prm.
- * The lengths are what the buffers hold at most; get_cfg is the configuration that Get_Cfg sends, and is copied.
+ * Data_Exchange brings output_len octets and is answered with input_len (1 to 244 each). A parameter set has at most
+ * parameter_len octets (7 to 244), a configuration set configuration_len (1 to 244), a diagnosis diagnosis_len (6 to
+ * 244). get_cfg are the get_cfg_len octets (1 to 244) that Get_Cfg sends; they are copied. DP_MEMORY_MIN is room enough
+ * where all six lengths are at most 96; DP_MEMORY_MAX always is.
  * Answers 0. Refused by 1, 2, 3, 4.
  */
 int64_t dp_start(uint8_t *memory, size_t memory_len, uint32_t address, uint16_t ident, uint32_t output_len,
@@ -134,8 +137,8 @@ int64_t dp_take_outputs(uint8_t *memory, size_t memory_len);
 
 /*
  * Reads the octet at an index of a kind (enum dp_kind). The index is from 0 on, for diagnosis from 6 on, and below the
- * length that dp_start was given. How many octets a set has is told by no call: the first index refused by 8, or by 7
- * at the set length, is its count.
+ * length that dp_start was given for the kind. How many octets a set has is told by no call: the first index refused by
+ * 8, or by 7 at that length, is its count.
  * Answers the octet, 0 to 255. Refused by 5; 7 kind or index; 8 no set is shown, it has fewer octets, or kind 5 while
  * a new diagnosis is delayed.
  */
@@ -156,8 +159,9 @@ int64_t dp_hand_over_inputs(uint8_t *memory, size_t memory_len);
 
 /*
  * New diagnosis: the vat program's buffer becomes the station's. count: of all octets, the six of the station at the
- * front among them; flags: enum dp_diagnosis_flag, 0 to 7. The master is told by FC 0A until its Slave_Diag, with
- * Stat_Diag after it too. While a Slave_Diag reply is being sent all of this is delayed until that has ended.
+ * front among them, 6 to diagnosis_len; flags: enum dp_diagnosis_flag, 0 to 7. The master is told by FC 0A until its
+ * Slave_Diag, with Stat_Diag after it too. While a Slave_Diag reply is being sent all of this is delayed until that has
+ * ended.
  * Answers 0. Refused by 5; 7 count or flags; 9 an earlier one is delayed.
  */
 int64_t dp_new_diagnosis(uint8_t *memory, size_t memory_len, uint32_t count, uint32_t flags);

@@ -10,7 +10,7 @@ abbrev pub some : List ℕ → Bool
 some [] = false
 some (x ∷ xs) = true
 
--- the outputs held and next; fresh: next is new; zeros: it was published by the station as zeros
+-- the outputs held and next; fresh: next is new; zeros: what was published last were zeros by the station
 pub record Outputs : Type 0 where
   pub held : List ℕ
   pub next : List ℕ

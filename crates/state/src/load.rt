@@ -1,4 +1,4 @@
-// The octets of a memory read straight as a state, as a whole and part by part: a call that needs a part reads no other.
+// The octets of a memory read straight as a state, as a whole or a part of it alone.
 use crate::control::Control;
 use crate::control::Diagnosis;
 use crate::control::Flags;

@@ -5,7 +5,7 @@ use buffers::triple::Triple;
 use telegram::reader::Reader;
 use telegram::sender::Sender;
 
-// The output buffers. zeros: what is new was published by the station itself as zeros.
+// The output buffers. zeros: what was published last were zeros by the station.
 pub struct Outputs {
     pub set: Triple,
     pub zeros: bool,
@@ -18,7 +18,7 @@ pub struct Sets {
     pub waiting: u8,
 }
 
-// The telegram that is coming, and the first two data octets of one with another service point than Set_Prm's and Chk_Cfg's.
+// The telegram that is coming. first and second: the data octets 0 and 1 that came last; only Global_Control looks at them.
 pub struct Incoming {
     pub reader: Reader,
     pub first: u8,

@@ -1,4 +1,4 @@
-// The bus's octet over the memory that holds the state: nothing of the state part is read or written that the octet has no need of.
+// The bus's octet over the memory that holds the state: an inner octet reads and writes only the part of the state that it needs.
 // Every step leaves the memory as the step on the unpacked state (`reading`) would leave it, packed again.
 use crate::reading::hear_as;
 use crate::reading::is_ignored;
@@ -47,7 +47,7 @@ fn store_received(mem: &mut [u8], k: u8, b: u8)
     }
 }
 
-// A data octet: it is stored, and four octets of the state part change.
+// A data octet: it is stored, and four octets of the state part are written.
 fn hear_data(mem: &mut [u8], b: u8)
     requires { ⌜ (Holds (now mem) (unpacked (now mem))) × (takesData (unpacked (now mem) .incoming .reader) ≡ true) ⌝ }
     ensures { λ _. ⌜ now (mem .exit) ≡ packedAfter (heard (unpacked (now (mem .entry))) (now (mem .entry)) b false) ⌝ }
@@ -73,7 +73,7 @@ fn is_plain(reader: Reader, next: Reader) -> bool
     is_inside(reader.status()) & is_inside(next.status()) & !reader.takes_data()
 }
 
-// Any other octet: an inner one changes only the reader; at the others the whole state is unpacked.
+// Any other octet: one that is ignored changes nothing, an inner one only the reader; at the others the whole state is unpacked.
 fn hear_other(mem: &mut [u8], b: u8, bad: bool)
     requires { ⌜ Holds (now mem) (unpacked (now mem)) ⌝ }
     ensures { λ _. ⌜ now (mem .exit) ≡ packedAfter (heard (unpacked (now (mem .entry))) (now (mem .entry)) b bad) ⌝ }

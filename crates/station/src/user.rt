@@ -129,7 +129,7 @@ fn kind_at(mem: &[u8], kind: u32) -> usize
     diagnosis_at(setup, user_place(load::swapped(mem)))
 }
 
-// Reading answers the octet; only what its kind needs is unpacked.
+// Reading answers the octet; the state is not unpacked as a whole.
 pub fn read_octet(mem: &[u8], kind: u32, index: u32) -> Answer
     requires { ⌜ Holds (now mem) (unpacked (now mem)) ⌝ }
     ensures { λ r. ⌜ Tells (readOctet (unpacked (now (mem .entry))) (now (mem .entry)) kind index) r (unpacked (now (mem .entry))) (now (mem .entry)) ⌝ }

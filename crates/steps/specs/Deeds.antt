@@ -95,7 +95,8 @@ onState s o count =
       reply = s .reply;
     }
 
--- zeros in next, where it lies: nobody reads it, and a telegram that is coming goes on filling fill
+-- zeros in next, where it lies: a telegram that is coming goes on filling fill. A Read_Outputs reply may leave from that buffer,
+-- but none is unfinished when zeros are published (docs/DECISIONS.md, point 16)
 abbrev pub onMemory : OutputsDeed → State → List ℕ → List ℕ
 onMemory outputs-deed.Keep s m = m
 onMemory outputs-deed.Publish s m = m

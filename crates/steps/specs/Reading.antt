@@ -27,8 +27,8 @@ use Rattle.steps.specs.Deeds.{isInside, begun, openSets, carried, settle
 use Rattle.state.specs.Start.{noReply}
 use Rattle.steps.specs.Replies.{replyFor}
 
--- data octet k goes into the fill buffer of the set that the header names. Storing depends on the header alone, since a
--- user call may change all else while the telegram is coming.
+-- data octet k goes into the fill buffer of the set that the header names: by the header alone, since user calls may change the
+-- control part while the telegram is coming
 abbrev pub storedData : State → List ℕ → ℕ → ℕ → List ℕ
 storedData s m k b =
     cond (ltb (s .incoming .reader .da) 128)

@@ -6,7 +6,7 @@ use Rattle.state.specs.declared.answer.Answer.{Answer}
 use Rattle.state.specs.declared.state.State.{State}
 use Rattle.state.specs.Memory.{kept}
 
--- the state and the memory behind the state part
+-- the state, and the memory, of which only what lies behind the state part counts
 pub record Stepped : Type 0 where
   pub state : State
   pub memory : List ℕ
