@@ -11,7 +11,7 @@ use Rattle.rules.specs.Call.{octet, gap, send, tick, take, read, write, hand-ov
 use Rattle.ledger.specs.Calls.{after}
 use Rattle.ledger.specs.Exchange.{Inner}
 use Rattle.ledger.specs.Script.{Part, hears, sends, does, refuses, Answers, station}
-use Rattle.ledger.specs.ReadBack.{Accepted}
+use Rattle.ledger.specs.ReadBack.{StartTakes}
 use Rattle.ledger.proofs.Scripts.{written}
 use Rattle.ledger.proofs.Computing.{computing}
 
@@ -496,5 +496,5 @@ inner-octet : Inner (after started (gap ∷ octet 0x10 false ∷ [])) 0x05 false
 unfolding computing
 inner-octet = record { before = record { listens = refl; inside = refl }; behind = record { listens = refl; inside = refl } }
 
-accepted-values : Accepted (station 1 1 10 4 10 2) (0x20 ∷ 0x21 ∷ [])
-accepted-values = omega arith
+start-takes-values : StartTakes (station 1 1 10 4 10 2) (0x20 ∷ 0x21 ∷ [])
+start-takes-values = omega arith

@@ -36,7 +36,7 @@ use Rattle.ledger.specs.Bus.{telegramOn, requestBy, dataBy, outcomeOf, a
 use Rattle.ledger.specs.User.{handOver, acknowledgeEvents, leaveMaster, writtenOctet}
 use Rattle.rules.specs.Call.{Call, octet, gap, send, tick, take, read, write, hand-over, new-diagnosis, judge-parameters, judge-configuration, events, acknowledge, pending, leave}
 use Rattle.ledger.specs.Calls.{step, after}
-use Rattle.ledger.specs.ReadBack.{Accepted, OutputsFit, InputsFit, SetsFit, DiagnosesFit, ListsFit, CountsFit, Left, Fit, Draws, Fixes, RepliesRead}
+use Rattle.ledger.specs.ReadBack.{StartTakes, OutputsFit, InputsFit, SetsFit, DiagnosesFit, ListsFit, CountsFit, Left, Fit, Draws, Fixes, RepliesRead}
 use Rattle.ledger.proofs.Settling.{settle-line}
 use Rattle.ledger.proofs.ByCases.{take-cases, read-cases, write-cases, diagnosis-cases, parameters-cases, configuration-cases}
 use Rattle.ledger.proofs.Hearing.{last-heard}
@@ -88,7 +88,7 @@ lists-fit {s} {c} {Given} {Clear} {At} {o} b ds f w = record {
 module _ {l : Ledger} (f : Fit l) where
   carried-fit : {Given Clear : Type 0} {At : ℕ → Type 0} {o : Outcome} (ds : List ℕ) → Lawful (l .setup) (l .control) (length ds) Given Clear At o → Fit (carried l o ds)
   carried-fit ds w = record {
-    accepted = f .accepted;
+    start-takes = f .start-takes;
     lists = lists-fit (l .buffers) ds (f .lists) w;
     counts = rw (w .counts-stay) (f .counts);
     reply = f .reply;
@@ -99,12 +99,12 @@ module _ {l : Ledger} (f : Fit l) where
   quiet-fit = carried-fit []
 
   on-line : (n : Line) → Left (n .reply) → Fit (withLine l n)
-  on-line n w = record { accepted = f .accepted; lists = f .lists; counts = f .counts; reply = w }
+  on-line n w = record { start-takes = f .start-takes; lists = f .lists; counts = f .counts; reply = w }
 
   -- other lists and another control part
   on-lists : (b : Buffers) (c : Control) → ListsFit (l .setup) b → CountsFit (l .setup) (c .diagnosis)
       → Fit (record { setup = l .setup; slice = l .slice; control = c; buffers = b; line = l .line })
-  on-lists b c x y = record { accepted = f .accepted; lists = x; counts = y; reply = f .reply }
+  on-lists b c x y = record { start-takes = f .start-takes; lists = x; counts = y; reply = f .reply }
 
   on-outputs : (o : Outputs) → OutputsFit (l .setup .«output_len») o → ListsFit (l .setup) (withOutputs (l .buffers) o)
   on-outputs o w = record {
@@ -177,7 +177,7 @@ module _ {l : Ledger} (f : Fit l) (t : Telegram) where
       let o = outcomeOf l (requestBy t) (payloadOf t) in
       let m = carried l o (payloadOf t) in
       on-line outcome-fit (completed l t .line)
-      (reply-left (l .setup) (l .slice) (o .control) (m .buffers) (masterOf (requestBy t)) (f .accepted) (outcome-fit .lists) (outcome-fit .counts) (master-low (requestBy t)) (o .drawn))
+      (reply-left (l .setup) (l .slice) (o .control) (m .buffers) (masterOf (requestBy t)) (f .start-takes) (outcome-fit .lists) (outcome-fit .counts) (master-low (requestBy t)) (o .drawn))
 
 -- the master of a telegram that acts is at most 126
 pub acts-master : (s : Setup) (r : Request) → acts s r ≡ true → masterOf r ≤ 126
@@ -287,9 +287,9 @@ step-fit l leave f = quiet-fit f (clear-quiet (l .setup) (l .control) (busy l) (
 -- ---------------------------------------------------------------------------------------------------
 -- Every list.
 
-fresh-fit : (s : Setup) (slice : List ℕ) → Accepted s slice → Fit (fresh s slice)
+fresh-fit : (s : Setup) (slice : List ℕ) → StartTakes s slice → Fit (fresh s slice)
 fresh-fit s slice a = record {
-  accepted = a;
+  start-takes = a;
   lists = record {
     outputs = record { held = length-replicate (s .«output_len») 0; next = length-replicate (s .«output_len») 0 };
     inputs = record { sending = length-replicate (s .«input_len») 0; next = length-replicate (s .«input_len») 0; held = length-replicate (s .«input_len») 0 };
@@ -297,7 +297,7 @@ fresh-fit s slice a = record {
     configuration = record { shown = inl refl; waiting = inl refl };
     diagnosis = record { own = length-replicate (s .«diagnosis_len») 0; user = length-replicate (s .«diagnosis_len») 0 };
   };
-  counts = record { count = (omega arith, a .diagnosis .0); delayed = inl refl; flags = omega arith };
+  counts = record { count = (omega arith, a .ranged .diagnosis-len .0); delayed = inl refl; flags = omega arith };
   reply = inl refl;
 }
 
@@ -312,7 +312,7 @@ draws {l} f t =
     let g = outcome-fit f t in
     record {
       reads-back =
-          reply-reads (l .setup) (l .slice) (o .control) (onBuffers o (l .setup) (payloadOf t) (l .buffers)) (masterOf (requestBy t)) (f .accepted) (g .lists) (g .counts) (master-low (requestBy t)) (o .drawn);
+          reply-reads (l .setup) (l .slice) (o .control) (onBuffers o (l .setup) (payloadOf t) (l .buffers)) (masterOf (requestBy t)) (f .start-takes) (g .lists) (g .counts) (master-low (requestBy t)) (o .drawn);
       master = draws-master l t;
     }
 
@@ -321,7 +321,7 @@ fixes l b bad i e =
     ap (λ (m : Ledger). m .line .reply) (last-heard l b bad i e)
     ∙ ap (λ (n : Line). n .reply) (settle-line (completed l (telegramOn (l .line .telegram ++ b ∷ []))))
 
-pub replies-read : (s : Setup) (slice : List ℕ) (cs : List Call) → Accepted s slice → RepliesRead s slice cs
+pub replies-read : (s : Setup) (slice : List ℕ) (cs : List Call) → StartTakes s slice → RepliesRead s slice cs
 replies-read s slice cs a =
     let f = after-fit (fresh s slice) cs (fresh-fit s slice a) in
     record {

@@ -17,7 +17,7 @@ use Rattle.state.specs.declared.state.Drawn.the-variants.{Nothing, Acknowledge,
 use Rattle.rules.specs.Diagnosis.{headerOf}
 use Rattle.ledger.specs.Lists.{Buffers}
 use Rattle.ledger.specs.Replies.{headerOctets, diagnosisOctets, replyOf}
-use Rattle.ledger.specs.ReadBack.{Accepted, ListsFit, CountsFit, Left, drawsTelegram, serviceTelegram, replyTelegram, ReadsBack}
+use Rattle.ledger.specs.ReadBack.{StartTakes, ListsFit, CountsFit, Left, drawsTelegram, serviceTelegram, replyTelegram, ReadsBack}
 
 -- as many diagnosis octets as the count says
 diagnosis-length : (s : Setup) (c : Control) (own : List ℕ) → length own ≡ s .«diagnosis_len» → CountsFit s (c .diagnosis)
@@ -32,7 +32,7 @@ service-valid : (s : Setup) (master point : ℕ) (ds : List ℕ) → length ds �
 service-valid s master point ds h = (omega arith, omega arith, inr (omega arith, omega arith, omega arith))
 
 module _ (s : Setup) (slice : List ℕ) (c : Control) (b : Buffers) (master : ℕ)
-    (a : Accepted s slice) (f : ListsFit s b) (k : CountsFit s (c .diagnosis)) (m : master < 128) where
+    (a : StartTakes s slice) (f : ListsFit s b) (k : CountsFit s (c .diagnosis)) (m : master < 128) where
   -- what is drawn is a telegram
   reply-valid : (d : Drawn) → drawsTelegram d ≡ true → Valid (replyTelegram d s slice c b master)
   reply-valid Nothing e = no-true e

@@ -14,6 +14,7 @@ use Rattle.state.specs.declared.control.Diagnosis.{Diagnosis as DiagnosisCounts
 use Rattle.state.specs.declared.control.Control.{Control}
 use Rattle.state.specs.declared.state.Drawn.{Drawn}
 use Rattle.state.specs.declared.state.Drawn.the-variants as drawn
+use Rattle.state.specs.Sound.{Within, NoneOr, Ranged}
 use Rattle.rules.specs.Requests.{masterOf}
 use Rattle.ledger.specs.Lists.{Outputs, Inputs, Sets, Diagnoses, Buffers}
 use Rattle.ledger.specs.Ledger.{Ledger, fresh}
@@ -27,19 +28,9 @@ use Rattle.ledger.specs.Hearing.{begunBy}
 
 -- The ranges --------------------------------------------------------------------------------------
 
--- low and high included
-abbrev pub Between : ℕ → ℕ → ℕ → Type 0
-Between low x high = (low ≤ x) × (x ≤ high)
-
 -- what Start takes
-pub record Accepted (s : Setup) (slice : List ℕ) : Type 0 where
-  pub address : s .address ≤ 126
-  pub outputs : Between 1 (s .«output_len») 244
-  pub inputs : Between 1 (s .«input_len») 244
-  pub parameters : Between 7 (s .«parameter_len») 244
-  pub configuration : Between 1 (s .«configuration_len») 244
-  pub diagnosis : Between 6 (s .«diagnosis_len») 244
-  pub get-cfg : Between 1 (s .«get_cfg_len») 244
+pub record StartTakes (s : Setup) (slice : List ℕ) : Type 0 where
+  pub ranged : Ranged s
   pub slice-is : length slice ≡ s .«get_cfg_len»
 
 -- the lists of the outputs are as long as their buffers
@@ -59,13 +50,13 @@ pub record DiagnosesFit (n : ℕ) (d : Diagnoses) : Type 0 where
   pub user : length (d .user) ≡ n
 
 -- no set, or one of low to high octets
-abbrev pub NoneOr : ℕ → List ℕ → ℕ → Type 0
-NoneOr low xs high = (length xs ≡ 0) ⊎ Between low (length xs) high
+abbrev pub NoSetOr : ℕ → List ℕ → ℕ → Type 0
+NoSetOr low xs high = NoneOr low (length xs) high
 
 -- and the sets no longer than theirs
 pub record SetsFit (low high : ℕ) (x : Sets) : Type 0 where
-  pub shown : NoneOr low (x .shown) high
-  pub waiting : NoneOr low (x .waiting) high
+  pub shown : NoSetOr low (x .shown) high
+  pub waiting : NoSetOr low (x .waiting) high
 
 -- all of them
 pub record ListsFit (s : Setup) (b : Buffers) : Type 0 where
@@ -77,8 +68,8 @@ pub record ListsFit (s : Setup) (b : Buffers) : Type 0 where
 
 -- diagnosis has 6 octets to the set length, and so has one that is delayed, with three flags
 pub record CountsFit (s : Setup) (d : DiagnosisCounts) : Type 0 where
-  pub count : Between 6 (d .count) (s .«diagnosis_len»)
-  pub delayed : (d .«delayed_count» ≡ 0) ⊎ Between 6 (d .«delayed_count») (s .«diagnosis_len»)
+  pub count : Within 6 (d .count) (s .«diagnosis_len»)
+  pub delayed : NoneOr 6 (d .«delayed_count») (s .«diagnosis_len»)
   pub flags : d .«delayed_flags» ≤ 7
 
 -- a reply is E5 or a telegram
@@ -91,7 +82,7 @@ Left xs = (xs ≡ []) ⊎ ((sent : List ℕ) × Reply (sent ++ xs))
 
 -- what every ledger keeps
 pub record Fit (l : Ledger) : Type 0 where
-  pub accepted : Accepted (l .setup) (l .slice)
+  pub start-takes : StartTakes (l .setup) (l .slice)
   pub lists : ListsFit (l .setup) (l .buffers)
   pub counts : CountsFit (l .setup) (l .control .diagnosis)
   pub reply : Left (l .line .reply)
