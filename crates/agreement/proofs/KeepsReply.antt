@@ -7,7 +7,7 @@ use mathlib.Core.List.{List}
 use lib.Dec.{eqb, leb}
 use lib.ListN.{getD, set}
 use borrow.Author.Tests.{not-false}
-use Rattle.buffers.specs.Events.{parameters, configuration}
+use Rattle.buffers.specs.Events.{parametersEvent, configurationEvent}
 use Rattle.buffers.specs.Triple.{taken}
 use Rattle.telegram.specs.Reading.{start}
 use Rattle.telegram.specs.Sending.{left}

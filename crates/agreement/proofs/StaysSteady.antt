@@ -8,7 +8,7 @@ use mathlib.Core.Logic.{_⊎_, inl, inr}
 use lib.Dec.{eqb, leb}
 use lib.ListN.{getD}
 use borrow.Author.Tests.{eqb-false, not-true, not-false}
-use Rattle.buffers.specs.Events.{watchdog}
+use Rattle.buffers.specs.Events.{watchdogEvent}
 use Rattle.telegram.specs.declared.reader.Status.{Status}
 use Rattle.telegram.specs.declared.reader.Status.the-variants.{Fresh, Inside, Complete, Broken}
 use Rattle.telegram.specs.Telegram.{Telegram, payloadOf}
@@ -105,7 +105,7 @@ module _ {l : Ledger} (s : Steady l) where
       by-test (Holds l) (not (counts (l .control))) _ _
       (λ _. record { order = order-of s; noted = s .noted; diagnosis = refl })
       (λ _. by-test (Holds l) (leb (l .control .watchdog .left) 1) _ _
-      (λ _. clear-holds (raise (withLeft (l .control) 0) watchdog) (alike refl refl refl))
+      (λ _. clear-holds (raise (withLeft (l .control) 0) watchdogEvent) (alike refl refl refl))
       (λ _. record { order = same (alike refl refl refl); noted = s .noted; diagnosis = refl }))
 
   parameters-holds : (waits good : Bool) → parametersOpen l ≡ true → Holds l (judgedParameters (l .control) waits good)

@@ -9,7 +9,7 @@ use lib.Bits.{or-lt}
 use lib.Count.{trailing-of-zero}
 use borrow.Author.Tests.{eq-eqb, ne-eqb, lt-ltb, ltb-true}
 use Rattle.buffers.specs.declared.events.Events.{Events}
-use Rattle.buffers.specs.Events.{width, configuration, parameters, kept, bit, without, noEvents, only, raised, cleared, acknowledged, pendingOf}
+use Rattle.buffers.specs.Events.{width, configurationEvent, parametersEvent, keptEvents, bit, without, noEvents, only, raised, cleared, acknowledged, pendingOf}
 use Rattle.buffers.proofs.Bits.{bit-or, bit-without, bit-zero, bit-power, without-lt, lowest-below, lowest-set, lowest-lt}
 
 -- ---- event by event
@@ -65,19 +65,19 @@ cleared-other e k n d = cleared-bit e k n ∙ ap (λ t. bit (e .word) n && not t
 -- ---- acknowledged
 
 -- the bits that are kept are those of two events
-pub kept-bit : (n : ℕ) → bit kept n ≡ (eqb configuration n || eqb parameters n)
+pub kept-bit : (n : ℕ) → bit keptEvents n ≡ (eqb configurationEvent n || eqb parametersEvent n)
 kept-bit n =
-    bit-or (2 ^ configuration) (2 ^ parameters) n
-    ∙ ap (λ t. t || bit (2 ^ parameters) n) (bit-power configuration n)
-    ∙ ap (λ t. eqb configuration n || t) (bit-power parameters n)
+    bit-or (2 ^ configurationEvent) (2 ^ parametersEvent) n
+    ∙ ap (λ t. t || bit (2 ^ parametersEvent) n) (bit-power configurationEvent n)
+    ∙ ap (λ t. eqb configurationEvent n || t) (bit-power parametersEvent n)
 
 -- those that were set, without those of the mask that are not kept
-pub acknowledged-bit : (e : Events) (mask n : ℕ) → bit (acknowledged e mask .word) n ≡ (bit (e .word) n && not (bit mask n && not (bit kept n)))
+pub acknowledged-bit : (e : Events) (mask n : ℕ) → bit (acknowledged e mask .word) n ≡ (bit (e .word) n && not (bit mask n && not (bit keptEvents n)))
 acknowledged-bit e mask n =
-    bit-without (e .word) (without mask kept) n ∙ ap (λ t. bit (e .word) n && not t) (bit-without mask kept n)
+    bit-without (e .word) (without mask keptEvents) n ∙ ap (λ t. bit (e .word) n && not t) (bit-without mask keptEvents n)
 
 -- an open set's event stays
-pub acknowledged-keeps : (e : Events) (mask n : ℕ) → bit kept n ≡ true → bit (acknowledged e mask .word) n ≡ bit (e .word) n
+pub acknowledged-keeps : (e : Events) (mask n : ℕ) → bit keptEvents n ≡ true → bit (acknowledged e mask .word) n ≡ bit (e .word) n
 acknowledged-keeps e mask n h =
     acknowledged-bit e mask n ∙ ap (λ t. bit (e .word) n && not (bit mask n && not t)) h ∙ go (bit (e .word) n) (bit mask n)
   where
@@ -86,7 +86,7 @@ acknowledged-keeps e mask n h =
     go s false = and-true s
 
 -- every other ends exactly if the mask has it
-pub acknowledged-clears : (e : Events) (mask n : ℕ) → bit kept n ≡ false → bit (acknowledged e mask .word) n ≡ (bit (e .word) n && not (bit mask n))
+pub acknowledged-clears : (e : Events) (mask n : ℕ) → bit keptEvents n ≡ false → bit (acknowledged e mask .word) n ≡ (bit (e .word) n && not (bit mask n))
 acknowledged-clears e mask n h =
     acknowledged-bit e mask n ∙ ap (λ t. bit (e .word) n && not (bit mask n && not t)) h
     ∙ ap (λ t. bit (e .word) n && not t) (and-true (bit mask n))
@@ -109,7 +109,7 @@ pub cleared-lt : (e : Events) (k : ℕ) → e .word < 2 ^ width → cleared e k 
 cleared-lt e k h = without-lt width (e .word) (only k .word) h
 
 pub acknowledged-lt : (e : Events) (mask : ℕ) → e .word < 2 ^ width → acknowledged e mask .word < 2 ^ width
-acknowledged-lt e mask h = without-lt width (e .word) (without mask kept) h
+acknowledged-lt e mask h = without-lt width (e .word) (without mask keptEvents) h
 
 -- ---- pending
 

@@ -11,36 +11,36 @@ abbrev pub width : ℕ
 width = 16
 
 -- DATA_EXCH entered or left
-abbrev pub dataExchange : ℕ
-dataExchange = 1
+abbrev pub dataExchangeEvent : ℕ
+dataExchangeEvent = 1
 
 -- the watchdog ran out
-abbrev pub watchdog : ℕ
-watchdog = 3
+abbrev pub watchdogEvent : ℕ
+watchdogEvent = 3
 
 -- a new Global_Control octet
-abbrev pub control : ℕ
-control = 8
+abbrev pub controlEvent : ℕ
+controlEvent = 8
 
 -- a configuration set is open
-abbrev pub configuration : ℕ
-configuration = 10
+abbrev pub configurationEvent : ℕ
+configurationEvent = 10
 
 -- a parameter set is open
-abbrev pub parameters : ℕ
-parameters = 11
+abbrev pub parametersEvent : ℕ
+parametersEvent = 11
 
 -- the diagnosis buffers changed
-abbrev pub diagnosis : ℕ
-diagnosis = 12
+abbrev pub diagnosisEvent : ℕ
+diagnosisEvent = 12
 
 -- outputs were published
-abbrev pub outputs : ℕ
-outputs = 13
+abbrev pub outputsEvent : ℕ
+outputsEvent = 13
 
 -- the events that end with the set that is open, never by being acknowledged
-abbrev pub kept : ℕ
-kept = bitOr (2 ^ configuration) (2 ^ parameters)
+abbrev pub keptEvents : ℕ
+keptEvents = bitOr (2 ^ configurationEvent) (2 ^ parametersEvent)
 
 -- whether bit n of a word is set
 unfoldable pub bit : ℕ → ℕ → Bool
@@ -68,7 +68,7 @@ cleared e n = record { word = without (e .word) (only n .word) }
 
 -- the mask's events are not set any more, but for those that are kept
 abbrev pub acknowledged : Events → ℕ → Events
-acknowledged e mask = record { word = without (e .word) (without mask kept) }
+acknowledged e mask = record { word = without (e .word) (without mask keptEvents) }
 
 -- the number of the lowest event that is set, or the width for none
 abbrev pub pendingOf : Events → ℕ

@@ -5,7 +5,7 @@ use mathlib.Core.Path.{_≡_, refl, sym, ap, _∙_}
 use mathlib.Core.Bool.{Bool, true, false, cond, not, _&&_, _||_}
 use lib.Dec.{eqb, leb}
 use borrow.Author.Tests.{eqb-true, not-true, not-false}
-use Rattle.buffers.specs.Events.{raised, watchdog, control, outputs}
+use Rattle.buffers.specs.Events.{raised, watchdogEvent, controlEvent, outputsEvent}
 use Rattle.telegram.proofs.Run.{no-true}
 use Rattle.state.specs.declared.setup.Setup.{Setup}
 use Rattle.state.specs.declared.control.Control.{Control}
@@ -129,7 +129,7 @@ module _ (g : Setup) (c : Control) {Clear : Type 0} where
   unfolding ticked
   ticked-quiet busy f =
       pick (not (counts c)) (λ _. draws (alike refl refl refl) (λ e. no-true e))
-      (λ _. pick (leb (c .watchdog .left) 1) (λ _. clears busy (raise (withLeft c 0) watchdog) (alike refl refl refl) f)
+      (λ _. pick (leb (c .watchdog .left) 1) (λ _. clears busy (raise (withLeft c 0) watchdogEvent) (alike refl refl refl) f)
       (λ _. draws (alike refl refl refl) (λ e. no-true e)))
 
   -- only sets that were there change
@@ -242,7 +242,7 @@ module _ (g : Setup) (c : Control) (r : Request) where
   unfolding waitCfg
   waitCfg-same =
       by-test (λ (d : Control). (d .flags .«parameters_good» ≡ c .flags .«parameters_good») × (d .diagnosis ≡ c .diagnosis))
-      (inExchange c) (withEvents c (raised (leftExchange c) outputs)) c (λ _. (refl, refl)) (λ _. (refl, refl))
+      (inExchange c) (withEvents c (raised (leftExchange c) outputsEvent)) c (λ _. (refl, refl)) (λ _. (refl, refl))
 
   chkCfg-served : (opened : Bool) → To r 62 → Served g c r (chkCfg g c opened r)
   unfolding chkCfg waitCfg
@@ -300,7 +300,7 @@ module _ (g : Setup) (c : Control) (r : Request) where
       (λ _. told refl)
     where
       stored : Alike c (storing c first)
-      stored = by-test (Alike c) (eqb first (c .stored)) c (raise (withStored c first) control) (λ _. alike refl refl refl) (λ _. alike refl refl refl)
+      stored = by-test (Alike c) (eqb first (c .stored)) c (raise (withStored c first) controlEvent) (λ _. alike refl refl refl) (λ _. alike refl refl refl)
 
   -- Read_Inputs and Read_Outputs
   reads : (d : Drawn) → Served g c r (cond (inExchange c) (drawing c d) (drawing c drawn.Rejected))

@@ -2,7 +2,7 @@
 use Prim.Native.Nat.{ℕ, _+_, _*_}
 use mathlib.Core.Bool.{Bool, true, false, cond, not}
 use lib.Dec.{eqb}
-use Rattle.buffers.specs.Events.{diagnosis}
+use Rattle.buffers.specs.Events.{diagnosisEvent}
 use Rattle.state.specs.declared.control.Phase.{Phase}
 use Rattle.state.specs.declared.control.Phase.the-variants.{WaitPrm, WaitCfg, DataExch}
 use Rattle.state.specs.declared.control.Diagnosis.{Diagnosis}
@@ -16,10 +16,10 @@ one true = 1
 one false = 0
 
 -- the phase is WAIT_PRM
-abbrev pub waiting : Phase → Bool
-waiting WaitPrm = true
-waiting WaitCfg = false
-waiting DataExch = false
+abbrev pub inWaitPrm : Phase → Bool
+inWaitPrm WaitPrm = true
+inWaitPrm WaitCfg = false
+inWaitPrm DataExch = false
 
 -- octet 0: bit 1 not DATA_EXCH, 2 Cfg_Fault, 3 Ext_Diag, 4 Not_Supported, 6 Prm_Fault
 abbrev pub status1 : Control → ℕ
@@ -30,7 +30,7 @@ status1 c =
 -- octet 1: bit 0 WAIT_PRM, 1 Stat_Diag, 2 always set, 3 watchdog on
 abbrev pub status2 : Control → ℕ
 status2 c =
-    one (waiting (c .phase)) + 2 * one (c .flags .«stat_diag») + 4 + 8 * one (not (eqb (c .watchdog .reload) 0))
+    one (inWaitPrm (c .phase)) + 2 * one (c .flags .«stat_diag») + 4 + 8 * one (not (eqb (c .watchdog .reload) 0))
 
 -- octet 2: bit 7 overflow
 abbrev pub status3 : Control → ℕ
@@ -54,7 +54,7 @@ diagnosed c count flags =
     raise
     (withDiagnosis (withFlags c (withDiagnosisFlags (c .flags) flags))
     (record { count = count; «delayed_count» = 0; «delayed_flags» = 0 }))
-    diagnosis
+    diagnosisEvent
 
 -- or all of it waits
 unfoldable pub delaying : Control → ℕ → ℕ → Control

@@ -2,14 +2,14 @@
 use Prim.Native.Nat.{ℕ, _-_}
 use mathlib.Core.Bool.{Bool, true, false, cond, not, _&&_, _||_}
 use lib.Dec.{eqb, leb}
-use Rattle.buffers.specs.Events.{watchdog}
+use Rattle.buffers.specs.Events.{watchdogEvent}
 use Rattle.state.specs.declared.control.Phase.{Phase}
 use Rattle.state.specs.declared.control.Control.{Control}
 use Rattle.state.specs.declared.state.Drawn.the-variants.{Nothing}
 use Rattle.rules.specs.declared.outcome.Outcome.{Outcome}
 use Rattle.rules.specs.Control.{withNoted, withWatchdog, raise}
 use Rattle.rules.specs.Phases.{drawing, enteringWaitPrm}
-use Rattle.rules.specs.Diagnosis.{waiting}
+use Rattle.rules.specs.Diagnosis.{inWaitPrm}
 
 -- a clear enters WAIT_PRM, and none is noted any more
 abbrev pub clearing : Control → Outcome
@@ -25,7 +25,7 @@ settled busy c = cond (c .noted && not busy) (clearing c) (drawing c Nothing)
 
 -- in WAIT_CFG or DATA_EXCH with the watchdog on
 abbrev pub counts : Control → Bool
-counts c = not (waiting (c .phase)) && not (eqb (c .watchdog .reload) 0)
+counts c = not (inWaitPrm (c .phase)) && not (eqb (c .watchdog .reload) 0)
 
 -- the watchdog with n ticks left
 abbrev pub withLeft : Control → ℕ → Control
@@ -35,5 +35,5 @@ withLeft c n = withWatchdog c (record { reload = c .watchdog .reload; left = n }
 unfoldable pub ticked : Bool → Control → Outcome
 ticked busy c =
     cond (not (counts c)) (drawing c Nothing)
-    (cond (leb (c .watchdog .left) 1) (clearOn busy (raise (withLeft c 0) watchdog))
+    (cond (leb (c .watchdog .left) 1) (clearOn busy (raise (withLeft c 0) watchdogEvent))
     (drawing (withLeft c (c .watchdog .left - 1)) Nothing))

@@ -2,7 +2,7 @@
 use Prim.Native.Nat.{ℕ}
 use mathlib.Core.Bool.{Bool, cond}
 use Rattle.buffers.specs.declared.events.Events.{Events}
-use Rattle.buffers.specs.Events.{raised, cleared, dataExchange, configuration, parameters, outputs}
+use Rattle.buffers.specs.Events.{raised, cleared, dataExchangeEvent, configurationEvent, parametersEvent, outputsEvent}
 use Rattle.state.specs.declared.control.Phase.the-variants.{WaitPrm, WaitCfg, DataExch}
 use Rattle.state.specs.declared.control.Control.{Control}
 use Rattle.state.specs.declared.state.Drawn.{Drawn}
@@ -21,7 +21,7 @@ drawing c d = record { control = c; outputs = outputs-deed.Keep; parameters = se
 
 -- event 1: DATA_EXCH is left
 abbrev pub leftExchange : Control → Events
-leftExchange c = cond (inExchange c) (raised (c .events) dataExchange) (c .events)
+leftExchange c = cond (inExchange c) (raised (c .events) dataExchangeEvent) (c .events)
 
 -- WAIT_PRM entered, even from itself: no owner, watchdog off, group and stored control 0, no set open, zeros published
 unfoldable pub waitPrm : Control → Control
@@ -33,7 +33,7 @@ waitPrm c =
       stored = 0;
       watchdog = record { reload = 0; left = 0 };
       flags = c .flags;
-      events = raised (cleared (cleared (leftExchange c) configuration) parameters) outputs;
+      events = raised (cleared (cleared (leftExchange c) configurationEvent) parametersEvent) outputsEvent;
       noted = c .noted;
       diagnosis = c .diagnosis;
     }
@@ -45,7 +45,7 @@ enteringWaitPrm c d =
 
 -- WAIT_CFG entered; leaving DATA_EXCH publishes zeros
 unfoldable pub waitCfg : Control → Control
-waitCfg c = withPhase (cond (inExchange c) (withEvents c (raised (leftExchange c) outputs)) c) WaitCfg
+waitCfg c = withPhase (cond (inExchange c) (withEvents c (raised (leftExchange c) outputsEvent)) c) WaitCfg
 
 -- what becomes of the outputs then
 abbrev pub zerosIfLeft : Control → OutputsDeed
@@ -53,4 +53,4 @@ zerosIfLeft c = cond (inExchange c) outputs-deed.Zeros outputs-deed.Keep
 
 -- DATA_EXCH entered, event 1
 unfoldable pub dataExch : Control → Control
-dataExch c = raise (withPhase c DataExch) dataExchange
+dataExch c = raise (withPhase c DataExch) dataExchangeEvent

@@ -4,7 +4,7 @@ use mathlib.Core.Bool.{Bool, true, false, cond, not, _&&_, _||_}
 use lib.Bits.{bitAnd}
 use lib.Dec.{eqb}
 use Rattle.buffers.specs.declared.events.Events.{Events}
-use Rattle.buffers.specs.Events.{raised, cleared, control, configuration, parameters, outputs}
+use Rattle.buffers.specs.Events.{raised, cleared, controlEvent, configurationEvent, parametersEvent, outputsEvent}
 use Rattle.state.specs.declared.setup.Setup.{Setup}
 use Rattle.state.specs.declared.control.Watchdog.{Watchdog}
 use Rattle.state.specs.declared.control.Control.{Control}
@@ -65,7 +65,7 @@ parametrized c opened master p =
       stored = c .stored;
       watchdog = record { reload = ticksOf p; left = ticksOf p };
       flags = withoutFaults (c .flags);
-      events = showing (cleared (waitCfg c .events) configuration) opened parameters;
+      events = showing (cleared (waitCfg c .events) configurationEvent) opened parametersEvent;
       noted = c .noted;
       diagnosis = c .diagnosis;
     }
@@ -102,7 +102,7 @@ cfgFault c = withFlags c (withCfgFault (c .flags))
 abbrev pub goodCfg : Control → Bool → Outcome
 goodCfg c opened =
     record {
-      control = withEvents (waitCfg c) (showing (waitCfg c .events) opened configuration);
+      control = withEvents (waitCfg c) (showing (waitCfg c .events) opened configurationEvent);
       outputs = zerosIfLeft c;
       parameters = set-deed.Keep;
       configuration = set-deed.Receive;
@@ -125,7 +125,7 @@ exchanges c r = owns c (masterOf r) && inExchange c
 -- the data is published, event 13; the inputs are drawn
 abbrev pub accepted : Control → Outcome
 accepted c =
-    record { control = raise c outputs; outputs = outputs-deed.Publish; parameters = set-deed.Keep; configuration = set-deed.Keep; drawn = drawn.Exchange }
+    record { control = raise c outputsEvent; outputs = outputs-deed.Publish; parameters = set-deed.Keep; configuration = set-deed.Keep; drawn = drawn.Exchange }
 
 -- in this order
 unfoldable pub dataExchange : Setup → Control → Request → Outcome
@@ -158,13 +158,13 @@ controls c r second = exchanges c r && eqb (r .count) 2 && (eqb second 0 || not 
 
 -- octet 0 is stored if it differs from the last one, event 8
 abbrev pub storing : Control → ℕ → Control
-storing c first = cond (eqb first (c .stored)) c (raise (withStored c first) control)
+storing c first = cond (eqb first (c .stored)) c (raise (withStored c first) controlEvent)
 
 -- bit 1 publishes zeros
 abbrev pub obeyed : Control → ℕ → Outcome
 obeyed c first =
     cond (bit first 1)
-    (record { control = raise (storing c first) outputs; outputs = outputs-deed.Zeros; parameters = set-deed.Keep; configuration = set-deed.Keep; drawn = drawn.Nothing })
+    (record { control = raise (storing c first) outputsEvent; outputs = outputs-deed.Zeros; parameters = set-deed.Keep; configuration = set-deed.Keep; drawn = drawn.Nothing })
     (drawing (storing c first) drawn.Nothing)
 
 -- obeyed where it controls, else without effect

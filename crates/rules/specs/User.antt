@@ -1,6 +1,6 @@
 -- Judging (document 01, User calls), on the control part. A new diagnosis is in Diagnosis.antt.
 use mathlib.Core.Bool.{Bool, true, false, cond, not, _&&_, _||_}
-use Rattle.buffers.specs.Events.{configuration, parameters}
+use Rattle.buffers.specs.Events.{configurationEvent, parametersEvent}
 use Rattle.state.specs.declared.control.Control.{Control}
 use Rattle.state.specs.declared.state.Drawn.the-variants.{Nothing}
 use Rattle.rules.specs.declared.outcome.OutputsDeed.the-variants as outputs-deed
@@ -19,12 +19,12 @@ onSets c p q = record { control = c; outputs = outputs-deed.Keep; parameters = p
 unfoldable pub judgedParameters : Control → Bool → Bool → Outcome
 judgedParameters c waits good =
     cond waits (onSets c set-deed.Advance set-deed.Keep)
-    (cond good (onSets (withFlags (clear c parameters) (withParametersGood (c .flags))) set-deed.Drop set-deed.Keep)
-    (enteringWaitPrm (withFlags (clear c parameters) (withPrmFault (c .flags))) Nothing))
+    (cond good (onSets (withFlags (clear c parametersEvent) (withParametersGood (c .flags))) set-deed.Drop set-deed.Keep)
+    (enteringWaitPrm (withFlags (clear c parametersEvent) (withPrmFault (c .flags))) Nothing))
 
 -- judge configuration: likewise; bad: Cfg_Fault, WAIT_PRM, and good: DATA_EXCH
 unfoldable pub judgedConfiguration : Control → Bool → Bool → Outcome
 judgedConfiguration c waits good =
     cond waits (onSets c set-deed.Keep set-deed.Advance)
-    (cond good (onSets (dataExch (clear c configuration)) set-deed.Keep set-deed.Drop)
-    (enteringWaitPrm (withFlags (clear c configuration) (withCfgFault (c .flags))) Nothing))
+    (cond good (onSets (dataExch (clear c configurationEvent)) set-deed.Keep set-deed.Drop)
+    (enteringWaitPrm (withFlags (clear c configurationEvent) (withCfgFault (c .flags))) Nothing))

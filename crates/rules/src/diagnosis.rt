@@ -1,6 +1,6 @@
 // The diagnosis octets that the station makes, and a new diagnosis of the user's.
 use crate::phases::in_exchange;
-use crate::phases::waiting;
+use crate::phases::in_wait_prm;
 use buffers::events::Events;
 use state::control::Control;
 use state::control::Diagnosis;
@@ -40,7 +40,7 @@ fn status2(control: Control) -> u8
     let phase = control.phase;
     let flags = control.flags;
     let on = control.watchdog.reload != 0;
-    one(waiting(phase)) + 2 * one(flags.stat_diag) + 4 + 8 * one(on)
+    one(in_wait_prm(phase)) + 2 * one(flags.stat_diag) + 4 + 8 * one(on)
 }
 
 // Octet 2: bit 7 overflow.

@@ -2,12 +2,12 @@
 use crate::outcome::Outcome;
 use crate::phases::drawing;
 use crate::phases::entering_wait_prm;
-use crate::phases::waiting;
+use crate::phases::in_wait_prm;
 use buffers::events::Events;
 use state::control::Control;
 use state::state::Drawn;
 ghost use mathlib.Core.Path.{_≡_};
-ghost use Rattle.buffers.specs.Events.{watchdog};
+ghost use Rattle.buffers.specs.Events.{watchdogEvent};
 ghost use Rattle.rules.specs.Control.{raise};
 ghost use Rattle.rules.specs.Line.{clearing, clearOn, settled, counts, withLeft, ticked};
 
@@ -45,13 +45,13 @@ fn counts(control: Control) -> bool
     ensures { λ b. ⌜ b ≡ counts control ⌝ }
 {
     let phase = control.phase;
-    let waits = waiting(phase);
+    let waits = in_wait_prm(phase);
     !waits & (control.watchdog.reload != 0)
 }
 
 // The watchdog at 0: event 3 and a clear.
 fn expired(busy: bool, mut control: Control) -> Outcome
-    ensures { λ o. ⌜ o ≡ clearOn busy (raise (withLeft control 0) watchdog) ⌝ }
+    ensures { λ o. ⌜ o ≡ clearOn busy (raise (withLeft control 0) watchdogEvent) ⌝ }
 {
     let events = control.events.raise(Events::WATCHDOG);
     control.events = events;

@@ -9,7 +9,7 @@ use state::control::Watchdog;
 use state::state::Drawn;
 ghost use mathlib.Core.Path.{_≡_};
 ghost use Rattle.rules.specs.Control.{exchanging, withPhase};
-ghost use Rattle.rules.specs.Diagnosis.{waiting};
+ghost use Rattle.rules.specs.Diagnosis.{inWaitPrm};
 ghost use Rattle.rules.specs.Phases.{drawing, leftExchange, waitPrm, enteringWaitPrm, waitCfg, zerosIfLeft, dataExch};
 
 // Whether the phase is DATA_EXCH.
@@ -24,8 +24,8 @@ pub fn in_exchange(phase: Phase) -> bool
 }
 
 // Whether the phase is WAIT_PRM.
-pub fn waiting(phase: Phase) -> bool
-    ensures { λ r. ⌜ r ≡ waiting phase ⌝ }
+pub fn in_wait_prm(phase: Phase) -> bool
+    ensures { λ r. ⌜ r ≡ inWaitPrm phase ⌝ }
 {
     match phase {
         Phase::WaitPrm => true,

@@ -2,8 +2,8 @@ use borrow.Author.Needs.{needs}
 use Rattle.rules.proofs.diagnosis.status2.Statement.{statement}
 use Rattle.rules.proofs.diagnosis.status2.Tie as tie
 
-waiting-requires : tie.Need-waiting-requires
-waiting-requires c κs = search needs
+in-wait-prm-requires : tie.Need-in-wait-prm-requires
+in-wait-prm-requires c κs = search needs
 
 one-requires : tie.Need-one-requires
 one-requires c κs = search needs
@@ -35,14 +35,14 @@ returns c =
       c .one3 .ensures .0,
       c .before .one2 .ensures .0,
       c .before .before .one .ensures .0,
-      c .before .before .before .waiting .ensures,
+      c .before .before .before .in-wait-prm .ensures,
     )
 
 pub status2-spec : {M : Type 1} → statement M
 status2-spec =
     tie.close
     (tie.spec
-    waiting-requires
+    in-wait-prm-requires
     one-requires
     one-requires-2
     mul-result

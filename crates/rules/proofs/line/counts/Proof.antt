@@ -2,11 +2,11 @@ use borrow.Author.Needs.{needs}
 use Rattle.rules.proofs.line.counts.Statement.{statement}
 use Rattle.rules.proofs.line.counts.Tie as tie
 
-waiting-requires : tie.Need-waiting-requires
-waiting-requires c κs = search needs
+in-wait-prm-requires : tie.Need-in-wait-prm-requires
+in-wait-prm-requires c κs = search needs
 
 returns : tie.Need-returns
-returns c = rw (c .before .waiting .ensures)
+returns c = rw (c .before .in-wait-prm .ensures)
 
 pub counts-spec : {M : Type 1} → statement M
-counts-spec = tie.close (tie.spec waiting-requires returns)
+counts-spec = tie.close (tie.spec in-wait-prm-requires returns)
