@@ -23,7 +23,7 @@ use Rattle.rules.specs.Call.{Call, octet, read}
 use Rattle.ledger.specs.Calls.{after}
 use Rattle.ledger.specs.Exchange.{Exchanged}
 use Rattle.ledger.specs.History.{readable, history}
-use Rattle.ledger.specs.ReadBack.{Accepted, Fit}
+use Rattle.ledger.specs.ReadBack.{Fit}
 use Rattle.ledger.proofs.Exchange.{exchange}
 use Rattle.ledger.proofs.Fit.{step-fit, replies-read}
 use Rattle.ledger.proofs.History.{outputs-read}
@@ -32,11 +32,9 @@ use Rattle.steps.specs.Step.{step, stepOver}
 use Rattle.steps.specs.Calls.{called, answers}
 use Rattle.agreement.specs.Agreement.{memoryOf, PlacesChanged, Agreement}
 use Rattle.agreement.proofs.Steady.{Related}
-use Rattle.agreement.proofs.Follows.{Follows}
-use Rattle.agreement.proofs.Facts.{Ranges}
-use Rattle.agreement.proofs.Begins.{start-related}
-use Rattle.agreement.proofs.OctetSend.{all-follow}
-use Rattle.agreement.proofs.Packed.{kept-agrees, agrees-sound}
+use Rattle.agreement.proofs.StartAgrees.{start-related}
+use Rattle.agreement.proofs.EveryCallAgrees.{Follows, all-follow}
+use Rattle.agreement.proofs.PackedAgrees.{kept-agrees, agrees-sound}
 use Rattle.steps.proofs.Holding.{step-whole}
 use Rattle.steps.proofs.Guarded.{LengthIn, holds-well, called-steps, Begins, started-begins, begins-started}
 use Rattle.steps.proofs.KeepsSetup.{step-keeps}
@@ -55,23 +53,12 @@ pub record Does (m : List ℕ) (l : Ledger) (c : Call) : Type 0 where
   pub same-length : length memory-after ≡ length m
   pub again : On memory-after state-after (ledger.step l c .ledger)
 
-fit-ranges : {l : Ledger} → Fit l → Ranges (l .setup)
-fit-ranges f = record {
-  address = f .accepted .address;
-  outputs = f .accepted .outputs;
-  inputs = f .accepted .inputs;
-  parameters = f .accepted .parameters;
-  configuration = f .accepted .configuration;
-  diagnosis = f .accepted .diagnosis;
-  get-cfg = f .accepted .get-cfg;
-}
-
 module _ (m : List ℕ) (s : State) (l : Ledger) (o : On m s l) (c : Call) where
   t : Told
   t = step s m c
 
   follow : Follows s m l c
-  follow = all-follow (o .related) (fit-ranges (o .fit)) c
+  follow = all-follow (o .related) (o .fit .start-takes .ranged) c
 
   after-fit : Fit (ledger.step l c .ledger)
   after-fit = step-fit l c (o .fit)
@@ -137,20 +124,6 @@ module _ (m : List ℕ) (s : Setup) (slice : List ℕ) (long : s .«get_cfg_len�
   left-is : memoryOf m s slice ≡ laidOut m s slice
   left-is = ap (λ (c : Called). c .memory) (begins-started m s slice begins)
 
-  accepted : Accepted s slice
-  accepted =
-      let r = begins .ranged in
-      record {
-        address = r .address;
-        outputs = r .output-len;
-        inputs = r .input-len;
-        parameters = r .parameter-len;
-        configuration = r .configuration-len;
-        diagnosis = r .diagnosis-len;
-        get-cfg = r .get-cfg-len;
-        slice-is = sym long;
-      }
-
   -- a freshly started station
   pub begins-ready : Ready (memoryOf m s slice) (initialState s) (fresh s slice)
   begins-ready =
@@ -161,7 +134,7 @@ module _ (m : List ℕ) (s : Setup) (slice : List ℕ) (long : s .«get_cfg_len�
         on = record {
           holds = laid-holds m s slice long (b .room) (b .ranged);
           related = start-related m s slice long (b .room) (b .ranged);
-          fit = replies-read s slice [] accepted .fit;
+          fit = replies-read s slice [] (record { ranged = b .ranged; slice-is = sym long }) .fit;
         };
       })
 

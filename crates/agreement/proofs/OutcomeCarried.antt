@@ -36,12 +36,10 @@ use Rattle.steps.specs.Safe.{Safe}
 use Rattle.steps.specs.Deeds.{isOpen, onOutputs, onInputs, onSets, onState, onMemory, carried}
 use Rattle.steps.specs.Replies.{ownPlace}
 use Rattle.steps.proofs.Safety.{safe-carried}
-use Rattle.agreement.proofs.Relation.{OutputsAgree, InputsAgree, SetsAgree, BeginsWith, Gathered, ReadingAgrees, ReplyAgrees, Agrees}
-use Rattle.agreement.proofs.Facts.{After}
-use Rattle.agreement.proofs.Elsewhere.{Elsewhere, same-elsewhere, pasted-elsewhere, inputs-stay, diagnoses-stay, slice-stays, sets-stay}
-use Rattle.agreement.proofs.Stays.{SameSource, SameFills, begins-stays, begins-whole, reply-stays, reading-stays}
+use Rattle.agreement.proofs.Relation.{OutputsAgree, InputsAgree, SetsAgree, BeginsWith, Gathered, ReadingAgrees, ReplyAgrees, Agrees, After}
+use Rattle.agreement.proofs.OtherBuffersStay.{Elsewhere, same-elsewhere, pasted-elsewhere, inputs-stay, diagnoses-stay, slice-stays, sets-stay}
+use Rattle.agreement.proofs.LineStays.{SameSource, SameFills, begins-stays, begins-whole, reply-stays, reading-stays, ignored-agrees}
 use Rattle.agreement.proofs.SameLine.{open-agrees}
-use Rattle.agreement.proofs.OnLine.{ignored-agrees}
 
 -- ---- the outputs and the inputs
 

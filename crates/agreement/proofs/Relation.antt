@@ -17,7 +17,10 @@ use Rattle.state.specs.declared.state.State.{State}
 use Rattle.state.specs.Layout.{outputsAt, inputsAt, parametersAt, configurationAt, diagnosisAt, getCfgAt}
 use Rattle.ledger.specs.Lists.{some, Outputs, Inputs, Sets, Diagnoses}
 use Rattle.ledger.specs.Ledger.{Line, Ledger}
+use Rattle.ledger.specs.User as ledger-user
 use Rattle.steps.specs.Safe.{Safe}
+use Rattle.steps.specs.Stepped.{Stepped}
+use Rattle.steps.specs.User.{Told}
 use Rattle.rules.specs.Replies.{diagnoses}
 use Rattle.steps.specs.Replies.{ownPlace, userPlace, datumAt}
 use Rattle.steps.specs.Reading.{isIgnored}
@@ -89,3 +92,12 @@ pub record Agrees (s : State) (m : List ℕ) (l : Ledger) : Type 0 where
   pub reading : ReadingAgrees s m (l .line)
   pub reply : (ds : List ℕ) × ReplyAgrees s m (l .line) ds
   pub safe : Safe s m
+
+-- what a step leaves agrees with the ledger after it
+abbrev pub After : Stepped → Ledger → Type 0
+After x l = Agrees (x .state) (x .memory) l
+
+-- a call told alike: the answers are equal, and what is left agrees
+pub record Matches (t : Told) (u : ledger-user.Told) : Type 0 where
+  pub answers : t .answer ≡ u .answer
+  pub agrees : Agrees (t .state) (t .memory) (u .ledger)

@@ -63,8 +63,12 @@ sender-left x ds e = go (left x) refl
     go true h = sym (ap some (one x ds e h))
     go false h = sym (ap some (none x ds h))
 
-pub reply-left : (s : State) (m : List ℕ) (n : Line) → (ds : List ℕ) × ReplyAgrees s m n ds → left (s .reply .sender) ≡ some (n .reply)
+reply-left : (s : State) (m : List ℕ) (n : Line) → (ds : List ℕ) × ReplyAgrees s m n ds → left (s .reply .sender) ≡ some (n .reply)
 reply-left s m n r = sender-left (s .reply .sender) (r .0) (r .1 .count) ∙ ap some (r .1 .left)
+
+-- with no reply octet left the sender has none
+pub nothing-left : {s : State} {m : List ℕ} {n : Line} → (ds : List ℕ) × ReplyAgrees s m n ds → n .reply ≡ [] → left (s .reply .sender) ≡ false
+nothing-left {s} {m} {n} r e = reply-left s m n r ∙ ap some e
 
 module _ {s : State} {m : List ℕ} {l : Ledger} (a : Agrees s m l) where
   pub begun-agrees : begun s ≡ ledger.begun l

@@ -7,7 +7,9 @@ use mathlib.Core.Logic.{_⊎_}
 use lib.ListN.{length}
 use Rattle.telegram.specs.Sending.{left}
 use Rattle.state.specs.declared.setup.Setup.{Setup}
+use Rattle.state.specs.declared.control.Control.{Control}
 use Rattle.state.specs.declared.state.Drawn.the-variants as drawn
+use Rattle.state.specs.declared.state.Reply.{Reply}
 use Rattle.state.specs.declared.state.State.{State}
 use Rattle.rules.specs.Control.{inExchange}
 use Rattle.rules.specs.Diagnosis.{delayed}
@@ -41,9 +43,12 @@ pub record Steady (l : Ledger) : Type 0 where
   pub noted : l .control .noted ≡ true → busy l ≡ true
   pub delaying : delayed (l .control) ≡ true → diagnosisLeaves l ≡ true
 
--- a Read_Outputs reply is unfinished only in DATA_EXCH
+-- with this control part the reply may be unfinished: a Read_Outputs reply only in DATA_EXCH
+abbrev pub Allows : Control → Reply → Type 0
+Allows c r = r .drawn ≡ drawn.Outputs → left (r .sender) ≡ true → inExchange c ≡ true
+
 abbrev pub ReplySteady : State → Type 0
-ReplySteady s = s .reply .drawn ≡ drawn.Outputs → left (s .reply .sender) ≡ true → inExchange (s .control) ≡ true
+ReplySteady s = Allows (s .control) (s .reply)
 
 -- all that is known of a station and its ledger between two calls
 pub record Related (s : State) (m : List ℕ) (l : Ledger) : Type 0 where

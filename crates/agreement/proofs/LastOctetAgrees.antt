@@ -28,18 +28,16 @@ use Rattle.ledger.specs.Bus.{requestBy}
 use Rattle.steps.specs.Deeds.{openSets, carried}
 use Rattle.steps.specs.Replies.{replyFor}
 use Rattle.steps.specs.Reading.{readBy, prmIn, dataIn, outcomeOf, answered, completed}
-use Rattle.agreement.proofs.Relation.{Gathered, Agrees}
+use Rattle.agreement.proofs.Relation.{Gathered, Agrees, After}
 use Rattle.agreement.proofs.Steady.{Steady}
-use Rattle.agreement.proofs.Facts.{Ranges, After}
+use Rattle.state.specs.Sound.{Ranged}
 use Rattle.agreement.proofs.SameLine.{open-agrees}
-use Rattle.agreement.proofs.Changes.{reading-changed}
-use Rattle.agreement.proofs.OnLine.{reply-line, ignored-agrees}
-use Rattle.agreement.proofs.Replied.{replied, with-reply}
-use Rattle.agreement.proofs.Drawing.{draws}
+use Rattle.agreement.proofs.OnePartChanges.{reading-changed, replied, reply-changed}
+use Rattle.agreement.proofs.ReplyDrawn.{draws}
 use Rattle.rules.proofs.Served.{Served}
 use Rattle.steps.proofs.Outcomes.{outcome-served}
 use Rattle.rules.proofs.LookedAt.{same-outcome}
-use Rattle.agreement.proofs.Stays.{begins-whole}
+use Rattle.agreement.proofs.LineStays.{begins-whole, reply-line, ignored-agrees}
 use Rattle.agreement.proofs.OutcomeCarried.{received-agrees}
 
 -- Set_Prm's octets, where there are enough of them
@@ -66,7 +64,7 @@ abbrev reading : State → Telegram → State
 reading s t = readBy s (finished t)
 
 -- its data is gathered, and no reply is left
-module _ {s : State} {m : List ℕ} {l : Ledger} (a : Agrees s m l) (d : Steady l) (w : Ranges (l .setup)) (t : Telegram)
+module _ {s : State} {m : List ℕ} {l : Ledger} (a : Agrees s m l) (d : Steady l) (w : Ranged (l .setup)) (t : Telegram)
     (g : Gathered (reading s t) m (payloadOf t)) (still : left (s .reply .sender) ≡ false) where
   -- both sides come to the same outcome
   outcomes : outcomeOf (reading s t) m (requestBy t) ≡ bus.outcomeOf l (requestBy t) (payloadOf t)
@@ -105,9 +103,9 @@ module _ {s : State} {m : List ℕ} {l : Ledger} (a : Agrees s m l) (d : Steady 
         let place : heldOf (carried (reading s t) m o (length (payloadOf t)) .state .outputs .set .place) < 3 = h .safe .outputs .held-in in
         let low : 6 ≤ o .control .diagnosis .count = rw counts (d .count .0) in
         let high : o .control .diagnosis .count ≤ s .setup .«diagnosis_len» = rw (counts, a .setup) (d .count .1) in
-        with-reply h (replyFor (o .drawn) (x .state) master) xs (diagnoses (o .drawn)) (omega arith)
+        reply-changed h (replyFor (o .drawn) (x .state) master) xs (diagnoses (o .drawn)) (omega arith)
         (reply-line
-        (draws (x .state) (x .memory) (l .slice) b master (h .safe) (subst Ranges (sym (a .setup)) w) (mod-lt (requestBy t .sa) (omega arith)) low high
+        (draws (x .state) (x .memory) (l .slice) b master (h .safe) (subst Ranged (sym (a .setup)) w) (mod-lt (requestBy t .sa) (omega arith)) low high
         (h .outputs .held) (h .inputs .sending) (h .diagnosis .own) (h .slice) (o .drawn))
         (replied (bus.brokenOff (l .line)) xs (diagnoses (o .drawn)))
         (ap (λ (y : Setup). replyOf (o .drawn) y (l .slice) (o .control) b master) (sym (a .setup))) refl)

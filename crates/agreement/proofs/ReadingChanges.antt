@@ -19,9 +19,9 @@ use Rattle.state.specs.With.{withIncoming}
 use Rattle.steps.specs.Reading.{storedData}
 use Rattle.agreement.proofs.Relation.{SetsAgree, ReadingAgrees, ReplyAgrees, Agrees}
 use Rattle.steps.proofs.Safety.{safe-length, safe-incoming}
-use Rattle.agreement.proofs.Elsewhere.{Elsewhere, same-elsewhere, inputs-stay, diagnoses-stay, slice-stays, sets-stay}
+use Rattle.agreement.proofs.OtherBuffersStay.{Elsewhere, same-elsewhere, inputs-stay, diagnoses-stay, slice-stays, sets-stay}
 use Rattle.agreement.proofs.Steady.{SetsFit, Steady}
-use Rattle.agreement.proofs.Stores.{stored-elsewhere}
+use Rattle.agreement.proofs.DataOctetStored.{stored-elsewhere}
 
 -- buffer i of kind a is the fill buffer of a kind that data goes into
 pub record Filling (s : State) (a i : ℕ) : Type 0 where

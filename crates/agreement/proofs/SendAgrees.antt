@@ -29,12 +29,11 @@ use Rattle.steps.specs.Stepped.{Stepped, unchanged}
 use Rattle.steps.specs.Deeds.{settle}
 use Rattle.steps.specs.Replies.{contentAt, pointOf, isExchange, datumAt, askedAs, askedFor}
 use Rattle.steps.specs.Bus.{sentBy, sendTold, sendLeft}
-use Rattle.agreement.proofs.Relation.{ReplyAgrees, Agrees}
+use Rattle.agreement.proofs.Relation.{ReplyAgrees, Agrees, After}
 use Rattle.agreement.proofs.Steady.{Steady}
-use Rattle.agreement.proofs.Facts.{After}
 use Rattle.state.proofs.Choice.{by-test}
-use Rattle.agreement.proofs.Settles.{settle-agrees}
-use Rattle.agreement.proofs.Replied.{replied, with-reply}
+use Rattle.agreement.proofs.SettleAgrees.{settle-agrees}
+use Rattle.agreement.proofs.OnePartChanges.{replied, reply-changed}
 
 -- a data octet is asked for by its number, or none is
 asked-cases : (x : Sender) {A : Type 0} → (asks x ≡ Number (x .at) → x .at < x .count → A) → (asks x ≡ Nothing → A) → A
@@ -142,7 +141,7 @@ module _ (s : State) (m : List ℕ) (l : Ledger) (d : Steady l) (a : Agrees s m 
       goes-on h =
           subst (λ (xs : List ℕ). After (settle (withReply s (sentBy (s .reply) next)) m) (ledger.settle (withLine l (bus.sendLeft (l .line) xs))))
           (sym (sends-first (a .reply .1) h))
-          (settle-agrees (with-reply a (sentBy (s .reply) next) _ (l .line .diagnosing) (a .safe .reply) (a .reply .0, sent-reply (a .reply .1) h)))
+          (settle-agrees (reply-changed a (sentBy (s .reply) next) _ (l .line .diagnosing) (a .safe .reply) (a .reply .0, sent-reply (a .reply .1) h)))
 
       over : l .line .reply ≡ [] → Agrees s m (ledger.settle (withLine l (bus.sendLeft (l .line) (l .line .reply))))
       over e =

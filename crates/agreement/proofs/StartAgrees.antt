@@ -17,8 +17,8 @@ use Rattle.state.proofs.LaidOut.{laid-length, laid-zeros, laid-slice}
 use Rattle.ledger.specs.Ledger.{fresh}
 use Rattle.agreement.proofs.Relation.{Agrees}
 use Rattle.agreement.proofs.Steady.{ReplySteady, Related}
-use Rattle.agreement.proofs.StaysSteady.{fresh-steady}
-use Rattle.agreement.proofs.OnLine.{ignored-agrees}
+use Rattle.agreement.proofs.CallsKeepSteady.{fresh-steady}
+use Rattle.agreement.proofs.LineStays.{ignored-agrees}
 
 module _ (m : List ℕ) (s : Setup) (slice : List ℕ) (long : s .«get_cfg_len» ≡ length slice) (room : endOf s ≤ length m) (ranged : Ranged s) where
   pub start-agrees : Agrees (initialState s) (laidOut m s slice) (fresh s slice)

@@ -37,7 +37,7 @@ use Rattle.rules.specs.Replies.{exchangeFc}
 use Rattle.steps.specs.Replies.{servicing, replyFor, ownPlace, headerAt, contentAt, datumAt}
 use Rattle.agreement.proofs.Relation.{ReplyAgrees}
 use Rattle.steps.proofs.Safety.{own-in}
-use Rattle.agreement.proofs.Facts.{Ranges}
+use Rattle.state.specs.Sound.{Ranged}
 
 -- ---- the octets of a service's reply
 
@@ -106,7 +106,7 @@ abbrev pub Replies : State → List ℕ → List ℕ → Buffers → ℕ → Dra
 Replies s m slice b master d =
     (ds : List ℕ) × ReplyAgrees (withReply s (replyFor d s master)) m (replyLine (s .setup) slice (s .control) b master d) ds
 
-module _ (s : State) (m : List ℕ) (slice : List ℕ) (b : Buffers) (master : ℕ) (f : Safe s m) (w : Ranges (s .setup)) (to : master < 128)
+module _ (s : State) (m : List ℕ) (slice : List ℕ) (b : Buffers) (master : ℕ) (f : Safe s m) (w : Ranged (s .setup)) (to : master < 128)
     (low : 6 ≤ s .control .diagnosis .count) (high : s .control .diagnosis .count ≤ s .setup .«diagnosis_len»)
     (held : part m (outputsAt (s .setup) (heldOf (s .outputs .set .place))) (s .setup .«output_len») ≡ b .outputs .held)
     (sent : part m (inputsAt (s .setup) (fillOf (s .inputs .place))) (s .setup .«input_len») ≡ b .inputs .sending)
@@ -159,9 +159,9 @@ module _ (s : State) (m : List ℕ) (slice : List ℕ) (b : Buffers) (master : �
       let e : length xs ≡ s .setup .«input_len» = fills inputs (fillOf (s .inputs .place)) xs (f .inputs .fill-in) sent in (
         0x3E ∷ 56 ∷ xs,
         record {
-          count = service-count (s .setup .«input_len») xs 56 e (w .inputs .1);
+          count = service-count (s .setup .«input_len») xs 56 e (w .input-len .1);
           octets = service-octets (contentAt Inputs s m) 56 xs (λ i g. ap (λ (l : List ℕ). getD l i 0) sent);
-          left = service-left (s .setup) master 56 (s .setup .«input_len») xs (w .address) to e (w .inputs .1);
+          left = service-left (s .setup) master 56 (s .setup .«input_len») xs (w .address) to e (w .input-len .1);
           diagnosis = refl;
         },
       )
@@ -174,9 +174,9 @@ module _ (s : State) (m : List ℕ) (slice : List ℕ) (b : Buffers) (master : �
       let e : length xs ≡ s .setup .«output_len» = fills outputs (heldOf (s .outputs .set .place)) xs (f .outputs .held-in) held in (
         0x3E ∷ 57 ∷ xs,
         record {
-          count = service-count n xs 57 e (w .outputs .1);
+          count = service-count n xs 57 e (w .output-len .1);
           octets = service-octets (λ i. getD (part m (outputsAt (s .setup) (heldOf (s .outputs .set .place))) n) i 0) 57 xs (λ i g. ap (λ (l : List ℕ). getD l i 0) held);
-          left = service-left (s .setup) master 57 n xs (w .address) to e (w .outputs .1);
+          left = service-left (s .setup) master 57 n xs (w .address) to e (w .output-len .1);
           diagnosis = refl;
         },
       )
@@ -190,9 +190,9 @@ module _ (s : State) (m : List ℕ) (slice : List ℕ) (b : Buffers) (master : �
       let e : length slice ≡ s .setup .«get_cfg_len» = ap length (sym slices) ∙ part-length m (getCfgAt (s .setup)) n (omega arith) in (
         0x3E ∷ 59 ∷ slice,
         record {
-          count = service-count n slice 59 e (w .get-cfg .1);
+          count = service-count n slice 59 e (w .get-cfg-len .1);
           octets = service-octets (contentAt Configuration s m) 59 slice (λ i g. ap (λ (l : List ℕ). getD l i 0) slices);
-          left = service-left (s .setup) master 59 n slice (w .address) to e (w .get-cfg .1);
+          left = service-left (s .setup) master 59 n slice (w .address) to e (w .get-cfg-len .1);
           diagnosis = refl;
         },
       )

@@ -18,7 +18,7 @@ use Rattle.agreement.proofs.Relation.{Agrees}
 use Rattle.agreement.proofs.SameLine.{busy-agrees, leaves-agrees}
 use Rattle.rules.proofs.Served.{settled-quiet}
 use Rattle.agreement.proofs.OutcomeCarried.{Spared, quiet-agrees}
-use Rattle.agreement.proofs.Changes.{diagnosis-changed}
+use Rattle.agreement.proofs.OnePartChanges.{diagnosis-changed}
 
 -- on an idle line no reply leaves
 pub idle-spared : (s : State) → busy s ≡ false → Spared (s .reply)

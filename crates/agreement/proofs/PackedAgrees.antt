@@ -24,7 +24,7 @@ use Rattle.ledger.specs.ReadBack as ledger
 use Rattle.ledger.specs.ReadBack.{Fit}
 use Rattle.steps.specs.Replies.{ownPlace, userPlace}
 use Rattle.agreement.proofs.Relation.{SetsAgree, Agrees}
-use Rattle.agreement.proofs.Stays.{SameSource, SameFills, reply-stays, reading-stays}
+use Rattle.agreement.proofs.LineStays.{SameSource, SameFills, reply-stays, reading-stays}
 use Rattle.steps.proofs.Safety.{own-in, user-in, safe-length}
 
 -- the relation holds of the packed memory
@@ -100,11 +100,11 @@ waits : (xs : List ℕ) → some xs ≡ not (eqb (length xs) 0)
 waits [] = refl
 waits (x ∷ xs) = sym (ap not (ne-eqb (length (x ∷ xs)) 0 (λ e. omega arith)))
 
-counted : {low high n : ℕ} (xs : List ℕ) → n ≡ length xs → ledger.NoneOr low xs high → NoneOr low n high
+counted : {low high n : ℕ} (xs : List ℕ) → n ≡ length xs → ledger.NoSetOr low xs high → NoneOr low n high
 counted xs e (inl z) = inl (e ∙ z)
 counted xs e (inr w) = inr (rw e w)
 
-at-most : {low high n : ℕ} (xs : List ℕ) → n ≡ length xs → ledger.NoneOr low xs high → n ≤ high
+at-most : {low high n : ℕ} (xs : List ℕ) → n ≡ length xs → ledger.NoSetOr low xs high → n ≤ high
 at-most xs e (inl z) = omega arith
 at-most xs e (inr w) = omega arith
 
@@ -116,15 +116,7 @@ agrees-sound {s} {m} {l} a f =
     let g = a .setup in
     let c = a .control in
     record {
-      setup = rw g (record {
-        address = f .accepted .address;
-        output-len = f .accepted .outputs;
-        input-len = f .accepted .inputs;
-        parameter-len = f .accepted .parameters;
-        configuration-len = f .accepted .configuration;
-        diagnosis-len = f .accepted .diagnosis;
-        get-cfg-len = f .accepted .get-cfg;
-      });
+      setup = rw g (f .start-takes .ranged);
       outputs = a .safe .outputs;
       inputs = a .safe .inputs;
       parameters = a .safe .parameters;

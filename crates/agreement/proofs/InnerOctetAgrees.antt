@@ -18,14 +18,13 @@ use Rattle.ledger.specs.Ledger.{Ledger, withLine, begun}
 use Rattle.ledger.specs.Bus.{lengthened}
 use Rattle.state.specs.With.{withIncoming}
 use Rattle.steps.specs.Reading.{isIgnored, storedData, keptOctets, readBy, storedAs}
-use Rattle.agreement.proofs.Relation.{Gathered, Agrees}
+use Rattle.agreement.proofs.Relation.{Gathered, Agrees, After}
 use Rattle.agreement.proofs.Steady.{Steady}
-use Rattle.agreement.proofs.Facts.{After}
-use Rattle.agreement.proofs.Stays.{reply-stays}
+use Rattle.agreement.proofs.LineStays.{reply-stays, reply-line}
 use Rattle.telegram.proofs.Onward.{step-onward, data-behind}
-use Rattle.agreement.proofs.Beside.{Beside, nowhere, data-beside, reread}
-use Rattle.agreement.proofs.OnLine.{reply-line, nothing-left}
-use Rattle.agreement.proofs.Data.{gathered-more, gathered-on}
+use Rattle.agreement.proofs.ReadingChanges.{Beside, nowhere, data-beside, reread}
+use Rattle.agreement.proofs.SameLine.{nothing-left}
+use Rattle.agreement.proofs.DataStands.{gathered-more, gathered-on}
 
 inside-broken : {x : Status} → x ≡ Inside → x ≡ Broken → ⊥
 inside-broken e f = let z : _≡_ {A = ℕ} 0 1 = cc in omega arith

@@ -39,7 +39,7 @@ use Rattle.state.proofs.Choice.{by-test, and-left, and-right}
 use Rattle.state.proofs.Tests.{within-true}
 use Rattle.rules.proofs.Alike.{Alike, alike}
 use Rattle.ledger.proofs.Fit.{outcome-served}
-use Rattle.agreement.proofs.InOrder.{InOrder, Orders, closed-list, open-list, none-fit, kept, entered, served-order}
+use Rattle.agreement.proofs.OutcomesKeepOrder.{InOrder, Orders, closed-list, open-list, none-fit, kept, entered, served-order}
 
 -- the part of it that has nothing to do with the line
 abbrev Order : Ledger → Type 0

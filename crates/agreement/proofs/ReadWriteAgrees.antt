@@ -1,4 +1,4 @@
--- Read and write by station and ledger.
+-- The calls read and write: told alike, and what is left agrees.
 use Prim.Native.Nat.{ℕ, _+_, _≤_, _<_}
 use native.Mathlib.Omega.{arith}
 use mathlib.Core.Path.{_≡_, refl, sym, ap, _∙_, subst}
@@ -28,13 +28,13 @@ use Rattle.rules.specs.Call.{read, write}
 use Rattle.steps.specs.Replies.{ownPlace, userPlace}
 use Rattle.steps.specs.User.{refusing, absent, kindAt, readOctet, writeOctet}
 use Rattle.steps.specs.Step.{step}
-use Rattle.agreement.proofs.Relation.{InputsAgree, SetsAgree, DiagnosesAgree, Agrees}
+use Rattle.agreement.proofs.Relation.{InputsAgree, SetsAgree, DiagnosesAgree, Agrees, Matches}
 use Rattle.agreement.proofs.Steady.{SetsFit, Steady, Related}
-use Rattle.agreement.proofs.Elsewhere.{Elsewhere, set-elsewhere, inputs-stay, diagnoses-stay, slice-stays, sets-stay}
-use Rattle.agreement.proofs.Stays.{reading-stays, reply-stays}
+use Rattle.agreement.proofs.OtherBuffersStay.{Elsewhere, set-elsewhere, inputs-stay, diagnoses-stay, slice-stays, sets-stay}
+use Rattle.agreement.proofs.LineStays.{reading-stays, reply-stays}
 use Rattle.steps.proofs.Safety.{own-in, user-in, safe-length}
 use Rattle.state.proofs.Choice.{both, and-left, and-right, or-left}
-use Rattle.agreement.proofs.Matches.{Matches, refuses}
+use Rattle.agreement.proofs.UserCallsAgree.{refuses}
 
 -- ---- reading
 
@@ -85,9 +85,9 @@ module _ {s : State} {m : List ℕ} {l : Ledger} (a : Agrees s m l) where
       || (eqb kind 3 && leb (a .configuration .shown-count i) index)
       || (eqb kind 5 && delayed (a .control i))
 
-  pub sim-read : (kind index : ℕ) → Matches (step s m (read kind index)) (ledger-calls.step l (read kind index))
+  pub read-matches : (kind index : ℕ) → Matches (step s m (read kind index)) (ledger-calls.step l (read kind index))
   unfolding readOctet ledger-user.readOctet
-  sim-read kind index =
+  read-matches kind index =
       both Matches (not (inRange (s .setup) kind index)) (not (inRange (l .setup) kind index)) (refusing Range s m) _ (ledger-user.refused Range l) _
       (ap (λ (g : Setup). not (inRange g kind index)) (a .setup))
       (λ _. refuses a Range)
@@ -230,10 +230,10 @@ module _ {s : State} {m : List ℕ} {l : Ledger} (r : Related s m l) (index x : 
       go false f false g =
           no-true ((λ i. sym f i || sym g i) ∙ and-left (writable kind) (inRange (s .setup) kind index) e)
 
-pub sim-write : {s : State} {m : List ℕ} {l : Ledger} → Related s m l → (kind index x : ℕ)
+pub write-matches : {s : State} {m : List ℕ} {l : Ledger} → Related s m l → (kind index x : ℕ)
     → Matches (step s m (write kind index x)) (ledger-calls.step l (write kind index x))
 unfolding writeOctet ledger-user.writeOctet
-sim-write {s} {m} {l} r kind index x =
+write-matches {s} {m} {l} r kind index x =
     let a = r .agrees in
     both Matches (not (writable kind && inRange (s .setup) kind index)) (not (writable kind && inRange (l .setup) kind index))
     (refusing Range s m) _ (ledger-user.refused Range l) _

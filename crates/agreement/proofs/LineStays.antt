@@ -1,7 +1,7 @@
 -- Reading and reply agree as before where the state or the memory changed beside what they look at.
 use Prim.Native.Nat.{ℕ, zero, suc, _-_, _≤_, _<_}
 use native.Mathlib.Omega.{arith}
-use mathlib.Core.Path.{_≡_, refl, sym, ap, _∙_}
+use mathlib.Core.Path.{_≡_, refl, sym, ap, _∙_, subst}
 use mathlib.Core.Bool.{Bool, true, false, cond}
 use mathlib.Core.List.{List, [], _∷_}
 use lib.Dec.{eqb, ltb}
@@ -9,9 +9,10 @@ use lib.ListN.{length, getD, take, length-take}
 use lib.Seq.{take-all}
 use Rattle.buffers.specs.Triple.{fillOf}
 use Rattle.octets.specs.Part.{part}
-use Rattle.telegram.specs.Reading.{start, gathered, status}
+use Rattle.telegram.specs.Reading.{start, run, gathered, status}
 use Rattle.telegram.specs.Sending.{left}
 use Rattle.telegram.specs.ToSend.{toSend}
+use Rattle.telegram.proofs.Run.{no-true}
 use Rattle.telegram.proofs.Sends.{none}
 use Rattle.state.specs.declared.setup.Setup.{Setup}
 use Rattle.state.specs.declared.state.Drawn.{Drawn}
@@ -159,3 +160,29 @@ module _ (s s′ : State) (m m′ : List ℕ) (same : s′ .incoming ≡ s .inco
     reading = λ e. ap (λ (x : Incoming). x .reader) same ∙ r .reading e;
     stored = λ e. gathered-stays (gathered start (n .telegram)) (r .stored e);
   }
+
+-- ---- another line
+
+-- the reply agrees with a line that has the same reply
+pub reply-line : {s : State} {m : List ℕ} {n : Line} → (ds : List ℕ) × ReplyAgrees s m n ds → (k : Line) → k .reply ≡ n .reply → k .diagnosing ≡ n .diagnosing
+    → (ds : List ℕ) × ReplyAgrees s m k ds
+reply-line r k e d = (r .0, record { count = r .1 .count; octets = r .1 .octets; left = r .1 .left ∙ sym e; diagnosis = r .1 .diagnosis ∙ sym d })
+
+-- the reading with one that has the same octets
+pub reading-line : {s : State} {m : List ℕ} {n : Line} → ReadingAgrees s m n → (k : Line) → k .ignored ≡ n .ignored → k .telegram ≡ n .telegram → ReadingAgrees s m k
+reading-line {s} {m} {n} r k e t = record {
+  ignoring = r .ignoring ∙ sym e;
+  empty = λ h. t ∙ r .empty (sym e ∙ h);
+  reading = λ h. r .reading (sym e ∙ h) ∙ ap run (sym t);
+  stored = λ h. subst (λ (xs : List ℕ). Gathered s m (gathered start xs)) (sym t) (r .stored (sym e ∙ h));
+}
+
+-- while octets are ignored nothing is read
+pub ignored-agrees : {s : State} {m : List ℕ} {n : Line} → isIgnored (status (s .incoming .reader)) ≡ true → n .ignored ≡ true → n .telegram ≡ []
+    → ReadingAgrees s m n
+ignored-agrees h e t = record {
+  ignoring = h ∙ sym e;
+  empty = λ _. t;
+  reading = λ z. no-true (sym z ∙ e);
+  stored = λ z. no-true (sym z ∙ e);
+}

@@ -1,4 +1,4 @@
--- The bus's octet keeps the relation.
+-- The bus's octet: what it leaves agrees, be it ignored, a beginning, inner, the last, or one that breaks off.
 use Prim.Native.Nat.{ℕ}
 use native.Mathlib.Omega.{arith}
 use mathlib.Core.Path.{_≡_, refl, sym, ap, _∙_, subst}
@@ -21,19 +21,19 @@ use Rattle.ledger.specs.Deeds as ledger-deeds
 use Rattle.ledger.specs.Bus as bus
 use Rattle.steps.specs.Deeds.{begun, settle}
 use Rattle.steps.specs.Reading.{isIgnored, readBy, completed, settled, beginning, heardAs, heard}
-use Rattle.agreement.proofs.Relation.{Gathered, Agrees}
+use Rattle.agreement.proofs.Relation.{Gathered, Agrees, After}
 use Rattle.agreement.proofs.Steady.{Steady}
-use Rattle.agreement.proofs.Facts.{Ranges, After}
-use Rattle.agreement.proofs.SameLine.{begun-agrees}
-use Rattle.agreement.proofs.Changes.{gathered-none, reading-changed, reply-dropped}
+use Rattle.state.specs.Sound.{Ranged}
+use Rattle.agreement.proofs.SameLine.{begun-agrees, nothing-left}
+use Rattle.agreement.proofs.OnePartChanges.{reading-changed, reply-dropped}
 use Rattle.state.proofs.Choice.{both}
-use Rattle.agreement.proofs.Settles.{settle-agrees}
-use Rattle.agreement.proofs.InOrder.{closed-list}
+use Rattle.agreement.proofs.SettleAgrees.{settle-agrees}
+use Rattle.agreement.proofs.OutcomesKeepOrder.{closed-list}
 use Rattle.telegram.proofs.Onward.{data-goes-on}
-use Rattle.agreement.proofs.OnLine.{nothing-left, ignored-agrees}
-use Rattle.agreement.proofs.Data.{gathered-on}
-use Rattle.agreement.proofs.Inner.{inner-octet}
-use Rattle.agreement.proofs.Completes.{completes}
+use Rattle.agreement.proofs.LineStays.{ignored-agrees}
+use Rattle.agreement.proofs.DataStands.{gathered-none, gathered-on}
+use Rattle.agreement.proofs.InnerOctetAgrees.{inner-octet}
+use Rattle.agreement.proofs.LastOctetAgrees.{completes}
 
 -- no telegram is complete with its first octet
 first-never : (b : ℕ) → status (step start b) ≡ Complete → ⊥
@@ -47,7 +47,7 @@ first-never b = go (okAt (start .phase) start b) (eqb b 0x10) (eqb b 0xA2) (eqb 
     go true false false false e = inside-complete e
     go false p q t e = broken-complete e
 
-module _ (s : State) (m : List ℕ) (l : Ledger) (b : ℕ) (d : Steady l) (w : Ranges (l .setup)) (a : Agrees s m l) where
+module _ (s : State) (m : List ℕ) (l : Ledger) (b : ℕ) (d : Steady l) (w : Ranged (l .setup)) (a : Agrees s m l) where
   -- broken off: octets are ignored until the next gap
   breaks-off : After (settle (readBy s off) m) (ledger-deeds.settle (withLine l (bus.brokenOff (l .line))))
   breaks-off = settle-agrees (reading-changed a off true [] (ignored-agrees refl refl refl))

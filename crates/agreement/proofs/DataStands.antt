@@ -5,6 +5,7 @@ use mathlib.Core.Path.{_≡_, refl, sym, _∙_, subst}
 use mathlib.Core.Bool.{Bool, true, false}
 use mathlib.Core.List.{List, [], _∷_, _++_, append-nil}
 use lib.ListN.{length}
+use lib.Seq.{take-nil}
 use borrow.Author.Tests.{lt-ltb, le-ltb, eq-eqb}
 use Rattle.buffers.specs.Triple.{fillOf}
 use Rattle.telegram.specs.declared.reader.Reader.{Reader}
@@ -18,9 +19,18 @@ use Rattle.steps.specs.Safe.{Safe}
 use Rattle.state.specs.With.{withIncoming}
 use Rattle.steps.specs.Reading.{storedData, keptOctets, readBy}
 use Rattle.agreement.proofs.Relation.{Gathered}
-use Rattle.agreement.proofs.Changes.{gathered-none}
 use Rattle.telegram.proofs.Onward.{inHead, Onward, step-onward, none-gathered}
-use Rattle.agreement.proofs.Stores.{begins-more, kept-octet}
+use Rattle.agreement.proofs.DataOctetStored.{begins-more, kept-octet}
+
+-- none came
+pub gathered-none : (s : State) (m : List ℕ) → Gathered s m []
+gathered-none s m = record {
+  outputs = λ _. rw (take-nil {A = ℕ} (s .setup .«output_len»));
+  parameters = λ _ _. rw (take-nil {A = ℕ} (s .setup .«parameter_len»));
+  configuration = λ _ _. rw (take-nil {A = ℕ} (s .setup .«configuration_len»));
+  first = λ h. absurd (omega arith);
+  second = λ h. absurd (omega arith);
+}
 
 -- the reader went on
 pub gathered-onward : (s : State) (m : List ℕ) (q : Reader) (ds : List ℕ) → Onward (s .incoming .reader) q → Gathered s m ds → Gathered (readBy s q) m ds

@@ -15,7 +15,7 @@ use Rattle.state.specs.declared.setup.Setup.{Setup}
 use Rattle.state.specs.Layout.{countOf, lengthOf, startOf}
 use Rattle.state.proofs.Places.{in-front, apart}
 use Rattle.agreement.proofs.Relation.{BeginsWith}
-use Rattle.agreement.proofs.Elsewhere.{Elsewhere}
+use Rattle.agreement.proofs.OtherBuffersStay.{Elsewhere}
 
 -- one octet more, while the buffer goes, and past its end none
 pub begins-more : (m : List ℕ) (a n : ℕ) (ds : List ℕ) (b : ℕ) → a + n ≤ length m → BeginsWith m a n ds
