@@ -9,7 +9,7 @@ use lib.ListN.{getD, set}
 use borrow.Author.Tests.{not-false}
 use Rattle.buffers.specs.Events.{parametersEvent, configurationEvent}
 use Rattle.buffers.specs.Triple.{taken}
-use Rattle.telegram.specs.Reading.{start, off, received, status, datumOf}
+use Rattle.telegram.specs.Reading.{start, off, readerAfter, status, datumOf}
 use Rattle.telegram.specs.Sending.{left, sent}
 use Rattle.telegram.proofs.Run.{no-true}
 use Rattle.state.specs.declared.answer.Refusal.the-variants.{Judging, Range, Absent, Delayed}
@@ -21,7 +21,7 @@ use Rattle.rules.specs.declared.outcome.Outcome.{Outcome}
 use Rattle.state.specs.Well.{within}
 use Rattle.rules.specs.Control.{inExchange}
 use Rattle.rules.specs.Diagnosis.{delayed, diagnosed, delaying, caughtUp}
-use Rattle.rules.specs.Line.{settled, ticked}
+use Rattle.rules.specs.Line.{clearNoted, ticked}
 use Rattle.ledger.specs.Ledger.{Ledger}
 use Rattle.rules.specs.Kinds.{inRange, writable}
 use Rattle.rules.specs.Call.{Call, gap, tick, take, read, write, hand-over, new-diagnosis, judge-parameters, judge-configuration, events, acknowledge, pending, leave, octet, send}
@@ -72,7 +72,7 @@ module _ (s : State) (g : ReplySteady s) where
   settle-keeps : (m : List ℕ) → ReplySteady (settle s m .state)
   unfolding settle carried
   settle-keeps m =
-      subst (Allows (settled (busy s) (afterReply s .control) .control)) (sym (after-reply-keeps s))
+      subst (Allows (clearNoted (busy s) (afterReply s .control) .control)) (sym (after-reply-keeps s))
       (quiet-allows (s .reply) (settled-quiet (s .setup) (afterReply s .control) (busy s) (idle-spared s)) after-reply-steady)
 
 -- ---- the bus
@@ -97,7 +97,7 @@ module _ (s : State) (m : List ℕ) (g : ReplySteady s) where
   octet-keeps : (b : ℕ) (bad : Bool) → ReplySteady (heard s m b bad .state)
   unfolding heard
   octet-keeps b bad =
-      let r = received (s .incoming .reader) b bad in
+      let r = readerAfter (s .incoming .reader) b bad in
       by-test (λ (x : Stepped). ReplySteady (x .state)) (isIgnored (status (s .incoming .reader))) (unchanged s m) (heardAs (status r) s m r b)
       (λ _. g) (λ _. heard-keeps (status r) r b)
 

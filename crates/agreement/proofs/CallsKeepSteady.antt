@@ -12,7 +12,7 @@ use Rattle.buffers.specs.Events.{watchdogEvent}
 use Rattle.telegram.specs.declared.reader.Status.{Status}
 use Rattle.telegram.specs.declared.reader.Status.the-variants.{Fresh, Inside, Complete, Broken}
 use Rattle.telegram.specs.Telegram.{Telegram, payloadOf}
-use Rattle.telegram.specs.Reading.{run, received, status}
+use Rattle.telegram.specs.Reading.{run, readerAfter, status}
 use Rattle.telegram.proofs.Run.{no-true}
 use Rattle.state.specs.declared.setup.Setup.{Setup}
 use Rattle.state.specs.declared.control.Control.{Control}
@@ -24,9 +24,9 @@ use Rattle.state.specs.Well.{within}
 use Rattle.rules.specs.Control.{withNoted, raise}
 use Rattle.rules.specs.Phases.{drawing, waitPrm, enteringWaitPrm, dataExch}
 use Rattle.rules.specs.Diagnosis.{delayed, diagnosed, delaying, caughtUp}
-use Rattle.rules.specs.Line.{clearing, clearOn, settled, counts, withLeft, ticked}
+use Rattle.rules.specs.Line.{clearing, clearOn, clearNoted, counts, withRemaining, ticked}
 use Rattle.rules.specs.User.{judgedParameters, judgedConfiguration}
-use Rattle.ledger.specs.Lists.{some, Buffers, taken, handedOver, withOutputs, withInputs}
+use Rattle.ledger.specs.Lists.{some, Buffers, takenOutputs, handedOver, withOutputs, withInputs}
 use Rattle.ledger.specs.Ledger.{Line, Ledger, withControl, withBuffers, withLine, begun, busy, diagnosisLeaves, parametersOpen, configurationOpen, fresh}
 use Rattle.ledger.specs.Deeds.{carried, diagnosisChanged, afterReply, settle}
 use Rattle.ledger.specs.Bus.{telegramOn, answered, completed, brokenOff, lengthened, beginning, sendLeft, silenced, heardAs, heard, paused, sent, elapsed}
@@ -104,8 +104,8 @@ module _ {l : Ledger} (s : Steady l) where
   ticked-holds =
       by-test (Holds l) (not (counts (l .control))) _ _
       (λ _. record { order = order-of s; noted = s .noted; diagnosis = refl })
-      (λ _. by-test (Holds l) (leb (l .control .watchdog .left) 1) _ _
-      (λ _. clear-holds (raise (withLeft (l .control) 0) watchdogEvent) (alike refl refl refl))
+      (λ _. by-test (Holds l) (leb (l .control .watchdog .remaining) 1) _ _
+      (λ _. clear-holds (raise (withRemaining (l .control) 0) watchdogEvent) (alike refl refl refl))
       (λ _. record { order = same (alike refl refl refl); noted = s .noted; diagnosis = refl }))
 
   parameters-holds : (waits good : Bool) → parametersOpen l ≡ true → Holds l (judgedParameters (l .control) waits good)
@@ -230,7 +230,7 @@ pub settle-steady : (l : Ledger) → Order l → (begun l ≡ true → l .line .
 unfolding settle waitPrm
 settle-steady l h quiet = go (afterReply l) (after-half l h)
   where
-    go : (m : Ledger) → Half l m → Steady (carried m (settled (busy l) (m .control)) [])
+    go : (m : Ledger) → Half l m → Steady (carried m (clearNoted (busy l) (m .control)) [])
     go m w =
         by-test (λ (o : Outcome). Steady (carried m o [])) (m .control .noted && not (busy l)) (clearing (m .control)) (drawing (m .control) Nothing)
         (λ _. steady-by (carried m (clearing (m .control)) []) (entered (withNoted (m .control) false) refl (w .order)) still (λ e. no-true e) (w .delaying))
@@ -288,7 +288,7 @@ module _ {l : Ledger} (s : Steady l) where
   pub octet-steady : (b : ℕ) (bad : Bool) → Steady (heard l b bad)
   unfolding heard
   octet-steady b bad =
-      let t = status (received (run (l .line .telegram)) b bad) in
+      let t = status (readerAfter (run (l .line .telegram)) b bad) in
       by-test Steady (l .line .ignored) l (heardAs t l b) (λ _. s) (λ _. heard-steady b t)
 
   pub gap-steady : Steady (paused l)
@@ -350,8 +350,8 @@ step-steady l send s = sent-steady s
 step-steady l tick s = tick-steady s
 step-steady l take s =
     by-test Keeps (not (l .buffers .outputs .fresh)) (told 0 l)
-    (told (cond (l .buffers .outputs .zeros) 2 1) (withBuffers l (withOutputs (l .buffers) (taken (l .buffers .outputs)))))
-    (λ _. s) (λ _. lists-steady s (withOutputs (l .buffers) (taken (l .buffers .outputs))) refl refl)
+    (told (cond (l .buffers .outputs .zeros) 2 1) (withBuffers l (withOutputs (l .buffers) (takenOutputs (l .buffers .outputs)))))
+    (λ _. s) (λ _. lists-steady s (withOutputs (l .buffers) (takenOutputs (l .buffers .outputs))) refl refl)
 step-steady l (read kind index) s =
     by-test Keeps (not (inRange (l .setup) kind index)) (refused Range l) _ (λ _. s)
     (λ _. by-test Keeps (absent l kind index) (refused Absent l) (told (getD (octetsOfKind (l .buffers) kind) index 0) l) (λ _. s) (λ _. s))

@@ -23,7 +23,7 @@ use Rattle.state.specs.declared.state.State.{State}
 use Rattle.state.specs.Layout.{outputsAt, inputsAt, parametersAt, configurationAt, diagnosisAt, getCfgAt}
 use Rattle.ledger.specs.Ledger.{Line}
 use Rattle.rules.specs.Replies.{diagnoses}
-use Rattle.steps.specs.Replies.{ownPlace, headerAt, contentAt, pointOf, isExchange, datumAt}
+use Rattle.steps.specs.Replies.{ownPlace, headerAt, contentAt, replyPoint, isExchange, datumAt}
 use Rattle.steps.specs.Reading.{isIgnored}
 use Rattle.agreement.proofs.Relation.{BeginsWith, Gathered, ReadingAgrees, ReplyAgrees}
 
@@ -73,7 +73,7 @@ module _ (s s′ : State) (m m′ : List ℕ) (same : s′ .reply ≡ s .reply) 
   unfolding datumAt
   datum-same k h =
       λ j. cond (isExchange (same j .drawn)) (getD (h .inputs j) k 0)
-      (cond (eqb k 0) 0x3E (cond (eqb k 1) (pointOf (same j .drawn)) (content j)))
+      (cond (eqb k 0) 0x3E (cond (eqb k 1) (replyPoint (same j .drawn)) (content j)))
     where
       content : contentAt (s′ .reply .drawn) s′ m′ (k - 2) ≡ contentAt (s .reply .drawn) s m (k - 2)
       content = ap (λ (r : Reply). contentAt (r .drawn) s′ m′ (k - 2)) same ∙ content-same (s .reply .drawn) (k - 2) refl h
@@ -95,7 +95,7 @@ module _ (s s′ : State) (m m′ : List ℕ) (same : s′ .reply ≡ s .reply) 
         record {
           count = h .count ∙ sym counts;
           octets = λ k l. datum-same k (f e) ∙ h .octets k l;
-          left = ap (λ (x : Reply). toSend (x .sender) (r .0)) same ∙ h .left;
+          unsent = ap (λ (x : Reply). toSend (x .sender) (r .0)) same ∙ h .unsent;
           diagnosis = ap (λ (x : Reply). diagnoses (x .drawn)) same ∙ h .diagnosis;
         },
       )
@@ -105,8 +105,8 @@ module _ (s s′ : State) (m m′ : List ℕ) (same : s′ .reply ≡ s .reply) 
             record {
               count = xs .1 ∙ sym counts;
               octets = λ k l. xs .2 k (omega (arith, xs .1));
-              left =
-                  ap (λ (x : Reply). toSend (x .sender) (xs .0)) same ∙ none (s .reply .sender) (xs .0) e ∙ sym (none (s .reply .sender) (r .0) e) ∙ h .left;
+              unsent =
+                  ap (λ (x : Reply). toSend (x .sender) (xs .0)) same ∙ none (s .reply .sender) (xs .0) e ∙ sym (none (s .reply .sender) (r .0) e) ∙ h .unsent;
               diagnosis = ap (λ (x : Reply). diagnoses (x .drawn)) same ∙ h .diagnosis;
             },
           )
@@ -166,7 +166,7 @@ module _ (s s′ : State) (m m′ : List ℕ) (same : s′ .incoming ≡ s .inco
 -- the reply agrees with a line that has the same reply
 pub reply-line : {s : State} {m : List ℕ} {n : Line} → (ds : List ℕ) × ReplyAgrees s m n ds → (k : Line) → k .reply ≡ n .reply → k .diagnosing ≡ n .diagnosing
     → (ds : List ℕ) × ReplyAgrees s m k ds
-reply-line r k e d = (r .0, record { count = r .1 .count; octets = r .1 .octets; left = r .1 .left ∙ sym e; diagnosis = r .1 .diagnosis ∙ sym d })
+reply-line r k e d = (r .0, record { count = r .1 .count; octets = r .1 .octets; unsent = r .1 .unsent ∙ sym e; diagnosis = r .1 .diagnosis ∙ sym d })
 
 -- the reading with one that has the same octets
 pub reading-line : {s : State} {m : List ℕ} {n : Line} → ReadingAgrees s m n → (k : Line) → k .ignored ≡ n .ignored → k .telegram ≡ n .telegram → ReadingAgrees s m k

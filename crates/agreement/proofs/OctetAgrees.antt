@@ -11,7 +11,7 @@ use Rattle.telegram.specs.declared.reader.Reader.{Reader}
 use Rattle.telegram.specs.declared.reader.Status.{Status}
 use Rattle.telegram.specs.declared.reader.Status.the-variants.{Fresh, Inside, Complete, Broken}
 use Rattle.telegram.specs.Telegram.{Telegram}
-use Rattle.telegram.specs.Reading.{before, off, start, okAt, step, received, run, status, takesData, gathered, finished}
+use Rattle.telegram.specs.Reading.{before, off, start, okAt, step, readerAfter, run, status, takesData, gathered, finished}
 use Rattle.telegram.proofs.Run.{no-true, inside-complete, broken-complete, run-snoc}
 use Rattle.telegram.proofs.Framing.{framing, told}
 use Rattle.state.specs.declared.state.State.{State}
@@ -20,7 +20,7 @@ use Rattle.ledger.specs.Ledger.{Ledger, withLine}
 use Rattle.ledger.specs.Deeds as ledger-deeds
 use Rattle.ledger.specs.Bus as bus
 use Rattle.steps.specs.Deeds.{begun, settle}
-use Rattle.steps.specs.Reading.{isIgnored, readBy, completed, settled, beginning, heardAs, heard}
+use Rattle.steps.specs.Reading.{isIgnored, readBy, completed, settleAfter, beginning, heardAs, heard}
 use Rattle.agreement.proofs.Relation.{Gathered, Agrees, After}
 use Rattle.agreement.proofs.Steady.{Steady}
 use Rattle.state.specs.Sound.{Ranged}
@@ -91,7 +91,7 @@ module _ (s : State) (m : List ℕ) (l : Ledger) (b : ℕ) (d : Steady l) (w : R
         go false h = absurd (first-never b (ap status (sym (first h)) ∙ e))
 
     -- it is complete, and the data octets gathered are its data
-    ends : status (step r b) ≡ Complete → After (settled (completed s m (step r b))) (ledger-deeds.settle (bus.completed l (bus.telegramOn (xs ++ b ∷ []))))
+    ends : status (step r b) ≡ Complete → After (settleAfter (completed s m (step r b))) (ledger-deeds.settle (bus.completed l (bus.telegramOn (xs ++ b ∷ []))))
     ends e =
         let ys = xs ++ b ∷ [] in
         let went : step (run xs) b ≡ run ys = sym (run-snoc xs b) in
@@ -104,11 +104,11 @@ module _ (s : State) (m : List ℕ) (l : Ledger) (b : ℕ) (d : Steady l) (w : R
         let moved = subst (λ (x : Reader). Gathered (readBy s x) m (gathered start ys)) (went ∙ fields .0) stored in
         let g = subst (λ (ds : List ℕ). Gathered (readBy s (finished t)) m ds) (fields .1) moved in
         let done = settle-agrees (completes a d w t g (nothing-left (a .reply) (d .quiet (under-way e)))) in
-        subst (λ (x : Reader). After (settled (completed s m x)) (ledger-deeds.settle (bus.completed l (bus.telegramOn ys)))) (sym (steps ∙ went ∙ fields .0))
-        (subst (λ (x : Telegram). After (settled (completed s m (finished t))) (ledger-deeds.settle (bus.completed l x))) (sym is) done)
+        subst (λ (x : Reader). After (settleAfter (completed s m x)) (ledger-deeds.settle (bus.completed l (bus.telegramOn ys)))) (sym (steps ∙ went ∙ fields .0))
+        (subst (λ (x : Telegram). After (settleAfter (completed s m (finished t))) (ledger-deeds.settle (bus.completed l x))) (sym is) done)
 
     -- by what the octets are with this one
-    hears : (bad : Bool) (x : Status) → status (received r b bad) ≡ x → After (heardAs x s m (received r b bad) b) (bus.heardAs x l b)
+    hears : (bad : Bool) (x : Status) → status (readerAfter r b bad) ≡ x → After (heardAs x s m (readerAfter r b bad) b) (bus.heardAs x l b)
     hears bad Fresh e = a
     hears true Inside e = let z : _≡_ {A = ℕ} 0 1 = cc in absurd (omega arith)
     hears false Inside e =
@@ -124,7 +124,7 @@ module _ (s : State) (m : List ℕ) (l : Ledger) (b : ℕ) (d : Steady l) (w : R
   heard-agrees bad = both After (isIgnored (status r)) (l .line .ignored) _ _ _ _ (a .reading .ignoring) (λ _. a) (λ e. goes (sym (a .reading .ignoring) ∙ e))
     where
       goes : l .line .ignored ≡ false
-          → After (heardAs (status (received r b bad)) s m (received r b bad) b) (bus.heardAs (status (received (run xs) b bad)) l b)
+          → After (heardAs (status (readerAfter r b bad)) s m (readerAfter r b bad) b) (bus.heardAs (status (readerAfter (run xs) b bad)) l b)
       goes n =
-          let q = received r b bad in
-          subst (λ (x : Status). After (heardAs (status q) s m q b) (bus.heardAs x l b)) (ap (λ (x : Reader). status (received x b bad)) (read n)) (hears n bad (status q) refl)
+          let q = readerAfter r b bad in
+          subst (λ (x : Status). After (heardAs (status q) s m q b) (bus.heardAs x l b)) (ap (λ (x : Reader). status (readerAfter x b bad)) (read n)) (hears n bad (status q) refl)

@@ -174,4 +174,4 @@ module _ {s : State} {m : List ℕ} {l : Ledger} (a : Agrees s m l) where
   pub reply-dropped : Agrees (withReply s noReply) m (withLine l (replied (l .line) [] false))
   reply-dropped =
       reply-changed noReply [] false (omega arith)
-      ([], record { count = refl; octets = λ k h. absurd (omega arith); left = none empty [] refl; diagnosis = refl })
+      ([], record { count = refl; octets = λ k h. absurd (omega arith); unsent = none empty [] refl; diagnosis = refl })

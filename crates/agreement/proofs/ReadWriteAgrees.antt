@@ -21,7 +21,7 @@ use Rattle.rules.specs.Diagnosis.{delayed}
 use Rattle.ledger.specs.Lists as lists
 use Rattle.ledger.specs.Ledger.{Ledger, withBuffers}
 use Rattle.ledger.specs.User as ledger-user
-use Rattle.rules.specs.Kinds.{lengthOf, inRange, writable}
+use Rattle.rules.specs.Kinds.{kindLength, inRange, writable}
 use Rattle.ledger.specs.User.{octetsOfKind, writtenOctet}
 use Rattle.ledger.specs.Calls as ledger-calls
 use Rattle.rules.specs.Call.{read, write}
@@ -46,7 +46,7 @@ module _ {s : State} {m : List ℕ} {l : Ledger} (a : Agrees s m l) where
   kind-octet : (kind index : ℕ) → inRange (s .setup) kind index ≡ true → absent s kind index ≡ false
       → getD m (kindAt s kind + index) 0 ≡ getD (octetsOfKind (l .buffers) kind) index 0
   kind-octet kind index e f =
-      go (eqb kind 1) (eqb kind 2) (eqb kind 3) (eqb kind 4) (eqb kind 5) (and-right (leb (cond (eqb kind 5) 6 0) index) (ltb index (lengthOf (s .setup) kind)) e) f
+      go (eqb kind 1) (eqb kind 2) (eqb kind 3) (eqb kind 4) (eqb kind 5) (and-right (leb (cond (eqb kind 5) 6 0) index) (ltb index (kindLength (s .setup) kind)) e) f
     where
       go : (p₁ p₂ p₃ p₄ p₅ : Bool)
           → ltb index
@@ -217,16 +217,16 @@ module _ {s : State} {m : List ℕ} {l : Ledger} (r : Related s m l) (index x : 
   written-kind : (kind : ℕ) → writable kind && inRange (s .setup) kind index ≡ true → Writes kind
   written-kind kind e = go (eqb kind 4) refl (eqb kind 5) refl
     where
-      reach : ltb index (lengthOf (s .setup) kind) ≡ true
-      reach = and-right (leb (cond (eqb kind 5) 6 0) index) (ltb index (lengthOf (s .setup) kind)) (and-right (writable kind) (inRange (s .setup) kind index) e)
+      reach : ltb index (kindLength (s .setup) kind) ≡ true
+      reach = and-right (leb (cond (eqb kind 5) 6 0) index) (ltb index (kindLength (s .setup) kind)) (and-right (writable kind) (inRange (s .setup) kind index) e)
 
       go : (p : Bool) → eqb kind 4 ≡ p → (q : Bool) → eqb kind 5 ≡ q → Writes kind
       go true f q g =
           let z = eqb-true kind 4 f in
-          subst Writes (sym z) (written-input (ltb-true _ _ (ap (λ (k : ℕ). ltb index (lengthOf (s .setup) k)) (sym z) ∙ reach)))
+          subst Writes (sym z) (written-input (ltb-true _ _ (ap (λ (k : ℕ). ltb index (kindLength (s .setup) k)) (sym z) ∙ reach)))
       go false f true g =
           let z = eqb-true kind 5 g in
-          subst Writes (sym z) (written-diagnosis (ltb-true _ _ (ap (λ (k : ℕ). ltb index (lengthOf (s .setup) k)) (sym z) ∙ reach)))
+          subst Writes (sym z) (written-diagnosis (ltb-true _ _ (ap (λ (k : ℕ). ltb index (kindLength (s .setup) k)) (sym z) ∙ reach)))
       go false f false g =
           no-true ((λ i. sym f i || sym g i) ∙ and-left (writable kind) (inRange (s .setup) kind index) e)
 

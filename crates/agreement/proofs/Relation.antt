@@ -77,7 +77,7 @@ pub record ReadingAgrees (s : State) (m : List ℕ) (n : Line) : Type 0 where
 pub record ReplyAgrees (s : State) (m : List ℕ) (n : Line) (ds : List ℕ) : Type 0 where
   pub count : length ds ≡ s .reply .sender .count
   pub octets : (k : ℕ) → k < length ds → datumAt s m k ≡ getD ds k 0
-  pub left : toSend (s .reply .sender) ds ≡ n .reply
+  pub unsent : toSend (s .reply .sender) ds ≡ n .reply
   pub diagnosis : diagnoses (s .reply .drawn) ≡ n .diagnosing
 
 pub record Agrees (s : State) (m : List ℕ) (l : Ledger) : Type 0 where

@@ -121,21 +121,21 @@ module _ (s : State) (m : List ℕ) (slice : List ℕ) (b : Buffers) (master : �
 
   draw-nothing : Replies s m slice b master Nothing
   unfolding replyFor
-  draw-nothing = ([], record { count = refl; octets = λ k g. absurd (omega arith); left = none empty [] refl; diagnosis = refl })
+  draw-nothing = ([], record { count = refl; octets = λ k g. absurd (omega arith); unsent = none empty [] refl; diagnosis = refl })
 
   draw-acknowledge : Replies s m slice b master Acknowledge
   unfolding replyFor
-  draw-acknowledge = ([], record { count = refl; octets = λ k g. absurd (omega arith); left = single-octet []; diagnosis = refl })
+  draw-acknowledge = ([], record { count = refl; octets = λ k g. absurd (omega arith); unsent = single-octet []; diagnosis = refl })
 
   draw-status : Replies s m slice b master Status
   unfolding replyFor
   draw-status =
-      ([], record { count = refl; octets = λ k g. absurd (omega arith); left = begins (sd1 master (s .setup .address) 0x00) (inl (omega arith, omega arith)); diagnosis = refl })
+      ([], record { count = refl; octets = λ k g. absurd (omega arith); unsent = begins (sd1 master (s .setup .address) 0x00) (inl (omega arith, omega arith)); diagnosis = refl })
 
   draw-rejected : Replies s m slice b master Rejected
   unfolding replyFor
   draw-rejected =
-      ([], record { count = refl; octets = λ k g. absurd (omega arith); left = begins (sd1 master (s .setup .address) 0x03) (inl (omega arith, omega arith)); diagnosis = refl })
+      ([], record { count = refl; octets = λ k g. absurd (omega arith); unsent = begins (sd1 master (s .setup .address) 0x03) (inl (omega arith, omega arith)); diagnosis = refl })
 
   draw-exchange : Replies s m slice b master Exchange
   unfolding replyFor datumAt
@@ -145,7 +145,7 @@ module _ (s : State) (m : List ℕ) (slice : List ℕ) (b : Buffers) (master : �
         record {
           count = e;
           octets = λ k g. ap (λ (l : List ℕ). getD l k 0) sent;
-          left =
+          unsent =
               ap (λ (n : ℕ). toSend (sending Sd2 master (s .setup .address) (exchangeFc (s .control)) n) (b .inputs .sending)) (sym e)
               ∙ begins (sd2 master (s .setup .address) (exchangeFc (s .control)) (b .inputs .sending)) (omega arith, omega arith, inl (omega arith, omega arith));
           diagnosis = refl;
@@ -161,7 +161,7 @@ module _ (s : State) (m : List ℕ) (slice : List ℕ) (b : Buffers) (master : �
         record {
           count = service-count (s .setup .«input_len») xs 56 e (w .input-len .1);
           octets = service-octets (contentAt Inputs s m) 56 xs (λ i g. ap (λ (l : List ℕ). getD l i 0) sent);
-          left = service-left (s .setup) master 56 (s .setup .«input_len») xs (w .address) to e (w .input-len .1);
+          unsent = service-left (s .setup) master 56 (s .setup .«input_len») xs (w .address) to e (w .input-len .1);
           diagnosis = refl;
         },
       )
@@ -176,7 +176,7 @@ module _ (s : State) (m : List ℕ) (slice : List ℕ) (b : Buffers) (master : �
         record {
           count = service-count n xs 57 e (w .output-len .1);
           octets = service-octets (λ i. getD (part m (outputsAt (s .setup) (heldOf (s .outputs .set .place))) n) i 0) 57 xs (λ i g. ap (λ (l : List ℕ). getD l i 0) held);
-          left = service-left (s .setup) master 57 n xs (w .address) to e (w .output-len .1);
+          unsent = service-left (s .setup) master 57 n xs (w .address) to e (w .output-len .1);
           diagnosis = refl;
         },
       )
@@ -192,7 +192,7 @@ module _ (s : State) (m : List ℕ) (slice : List ℕ) (b : Buffers) (master : �
         record {
           count = service-count n slice 59 e (w .get-cfg-len .1);
           octets = service-octets (contentAt Configuration s m) 59 slice (λ i g. ap (λ (l : List ℕ). getD l i 0) slices);
-          left = service-left (s .setup) master 59 n slice (w .address) to e (w .get-cfg-len .1);
+          unsent = service-left (s .setup) master 59 n slice (w .address) to e (w .get-cfg-len .1);
           diagnosis = refl;
         },
       )
@@ -214,7 +214,7 @@ module _ (s : State) (m : List ℕ) (slice : List ℕ) (b : Buffers) (master : �
           octets =
               service-octets (λ i. cond (ltb i 6) (headerAt h ident i) (getD (part m (diagnosisAt (s .setup) (ownPlace (s .swapped))) (s .setup .«diagnosis_len»)) i 0)) 60 xs
               (λ i g. ap (λ (l : List ℕ). cond (ltb i 6) (headerAt h ident i) (getD l i 0)) own ∙ diagnosis-at h ident n ys low v i (omega arith));
-          left = service-left (s .setup) master 60 n xs (w .address) to e (omega arith);
+          unsent = service-left (s .setup) master 60 n xs (w .address) to e (omega arith);
           diagnosis = refl;
         },
       )

@@ -64,7 +64,7 @@ sender-left x ds e = go (left x) refl
     go false h = sym (ap some (none x ds h))
 
 reply-left : (s : State) (m : List ℕ) (n : Line) → (ds : List ℕ) × ReplyAgrees s m n ds → left (s .reply .sender) ≡ some (n .reply)
-reply-left s m n r = sender-left (s .reply .sender) (r .0) (r .1 .count) ∙ ap some (r .1 .left)
+reply-left s m n r = sender-left (s .reply .sender) (r .0) (r .1 .count) ∙ ap some (r .1 .unsent)
 
 -- with no reply octet left the sender has none
 pub nothing-left : {s : State} {m : List ℕ} {n : Line} → (ds : List ℕ) × ReplyAgrees s m n ds → n .reply ≡ [] → left (s .reply .sender) ≡ false

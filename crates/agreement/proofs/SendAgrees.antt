@@ -20,14 +20,14 @@ use Rattle.state.specs.declared.state.Drawn.{Drawn}
 use Rattle.state.specs.declared.state.Drawn.the-variants as drawn
 use Rattle.state.specs.declared.state.State.{State}
 use Rattle.rules.specs.Diagnosis.{delayed}
-use Rattle.rules.specs.Line.{settled}
+use Rattle.rules.specs.Line.{clearNoted}
 use Rattle.ledger.specs.Ledger.{Line, Ledger, withLine, busy, diagnosisLeaves}
 use Rattle.ledger.specs.Deeds as ledger
 use Rattle.ledger.specs.Bus as bus
 use Rattle.state.specs.With.{withReply}
 use Rattle.steps.specs.Stepped.{Stepped, unchanged}
 use Rattle.steps.specs.Deeds.{settle}
-use Rattle.steps.specs.Replies.{contentAt, pointOf, isExchange, datumAt, askedAs, askedFor}
+use Rattle.steps.specs.Replies.{contentAt, replyPoint, isExchange, datumAt, askedAs, askedFor}
 use Rattle.steps.specs.Bus.{sentBy, sendTold, sendLeft}
 use Rattle.agreement.proofs.Relation.{ReplyAgrees, Agrees, After}
 use Rattle.agreement.proofs.Steady.{Steady}
@@ -62,7 +62,7 @@ pub datum-sent : (s : State) (m : List ℕ) (x : Sender) (k : ℕ) → datumAt (
 unfolding datumAt
 datum-sent s m x k =
     λ j. cond (isExchange (s .reply .drawn)) (contentAt drawn.Exchange s m k)
-    (cond (eqb k 0) 0x3E (cond (eqb k 1) (pointOf (s .reply .drawn)) (content (s .reply .drawn) (k - 2) j)))
+    (cond (eqb k 0) 0x3E (cond (eqb k 1) (replyPoint (s .reply .drawn)) (content (s .reply .drawn) (k - 2) j)))
   where
     content : (d : Drawn) (i : ℕ) → contentAt d (withReply s (sentBy (s .reply) x)) m i ≡ contentAt d s m i
     content drawn.Nothing i = refl
@@ -88,7 +88,7 @@ module _ {s : State} {m : List ℕ} {n : Line} {ds : List ℕ} (r : ReplyAgrees 
   sends-first : left (s .reply .sender) ≡ true
       → n .reply ≡ sent (s .reply .sender) (askedFor s m) .octet ∷ toSend (sent (s .reply .sender) (askedFor s m) .sender) ds
   sends-first h =
-      sym (r .left) ∙ one (s .reply .sender) ds (r .count) h
+      sym (r .unsent) ∙ one (s .reply .sender) ds (r .count) h
       ∙ ap (λ (y : Sent). y .octet ∷ toSend (y .sender) ds) (sym sends-datum)
 
   -- and the others are left
@@ -100,7 +100,7 @@ module _ {s : State} {m : List ℕ} {n : Line} {ds : List ℕ} (r : ReplyAgrees 
       record {
         count = r .count ∙ sym (keeps-count (s .reply .sender) (askedFor s m));
         octets = λ k g. datum-sent s m y k ∙ r .octets k g;
-        left = refl;
+        unsent = refl;
         diagnosis = r .diagnosis;
       }
 
@@ -116,7 +116,7 @@ replied-same l d = rw (implied (delayed (l .control)) (diagnosisLeaves l) (d .de
 settles-same : (l : Ledger) → Steady l → ledger.settle l ≡ l
 unfolding ledger.settle
 settles-same l d =
-    ap (λ (k : Ledger). ledger.carried k (settled (busy l) (k .control)) []) (replied-same l d)
+    ap (λ (k : Ledger). ledger.carried k (clearNoted (busy l) (k .control)) []) (replied-same l d)
     ∙ rw (implied (l .control .noted) (busy l) (d .noted))
 
 module _ (s : State) (m : List ℕ) (l : Ledger) (d : Steady l) (a : Agrees s m l) where
@@ -126,13 +126,13 @@ module _ (s : State) (m : List ℕ) (l : Ledger) (d : Steady l) (a : Agrees s m 
     where
       go : (t : Bool) → left (s .reply .sender) ≡ t → cond t (sent (s .reply .sender) (askedFor s m) .octet) 256 ≡ bus.sendTold (l .line .reply)
       go true h = sym (ap bus.sendTold (sends-first (a .reply .1) h))
-      go false h = sym (ap bus.sendTold (sym (a .reply .1 .left) ∙ none (s .reply .sender) (a .reply .0) h))
+      go false h = sym (ap bus.sendTold (sym (a .reply .1 .unsent) ∙ none (s .reply .sender) (a .reply .0) h))
 
   pub send-agrees : After (sendLeft s m) (bus.sent l)
   unfolding sendLeft bus.sent
   send-agrees =
       by-test (λ (x : Stepped). After x (ledger.settle (withLine l (bus.sendLeft (l .line) (l .line .reply))))) (left (s .reply .sender))
-      (settle (withReply s (sentBy (s .reply) next)) m) (unchanged s m) goes-on (λ h. over (sym (a .reply .1 .left) ∙ none (s .reply .sender) (a .reply .0) h))
+      (settle (withReply s (sentBy (s .reply) next)) m) (unchanged s m) goes-on (λ h. over (sym (a .reply .1 .unsent) ∙ none (s .reply .sender) (a .reply .0) h))
     where
       next : Sender
       next = sent (s .reply .sender) (askedFor s m) .sender

@@ -9,7 +9,7 @@ use Rattle.telegram.proofs.Run.{no-true}
 use Rattle.state.proofs.Choice.{both, by-test, and-right, or-right}
 use Rattle.state.specs.declared.state.State.{State}
 use Rattle.rules.specs.Diagnosis.{delayed, caughtUp}
-use Rattle.rules.specs.Line.{settled}
+use Rattle.rules.specs.Line.{clearNoted}
 use Rattle.ledger.specs.Ledger as ledger
 use Rattle.ledger.specs.Ledger.{Ledger}
 use Rattle.ledger.specs.Deeds as ledger-deeds
@@ -47,4 +47,4 @@ module _ {s : State} {m : List ℕ} {l : Ledger} (a : Agrees s m l) where
   settle-agrees =
       quiet-agrees after-reply-agrees
       (settled-quiet (afterReply s .setup) (afterReply s .control) (busy s) (λ e. subst Spared (sym (after-reply-keeps s)) (idle-spared s e)))
-      (settled (ledger.busy l) (ledger-deeds.afterReply l .control)) (λ i. settled (busy-agrees a i) (after-reply-agrees .control i))
+      (clearNoted (ledger.busy l) (ledger-deeds.afterReply l .control)) (λ i. clearNoted (busy-agrees a i) (after-reply-agrees .control i))

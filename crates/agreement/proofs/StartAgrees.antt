@@ -40,7 +40,7 @@ module _ (m : List ℕ) (s : Setup) (slice : List ℕ) (long : s .«get_cfg_len�
         diagnosis = record { own = zeros diagnosis 0 (omega arith) (omega arith); user = zeros diagnosis 1 (omega arith) (omega arith) };
         slice = ap (λ (n : ℕ). part (laidOut m s slice) (getCfgAt s) n) long ∙ laid-slice m s slice long room;
         reading = ignored-agrees refl refl refl;
-        reply = ([], record { count = refl; octets = λ k g. absurd (omega arith); left = none empty [] refl; diagnosis = refl });
+        reply = ([], record { count = refl; octets = λ k g. absurd (omega arith); unsent = none empty [] refl; diagnosis = refl });
         safe = record {
           outputs = initial-permutation;
           inputs = initial-permutation;

@@ -80,13 +80,13 @@ module _ {s : State} {m : List ℕ} {l : Ledger} (a : Agrees s m l) where
       (told 0 s m)
       (told (cond (s .outputs .zeros) 2 1) (withOutputs s (record { set = triple.taken (s .outputs .set); zeros = s .outputs .zeros })) m)
       (ledger-user.told 0 l)
-      (ledger-user.told (cond (l .buffers .outputs .zeros) 2 1) (withBuffers l (lists.withOutputs (l .buffers) (lists.taken (l .buffers .outputs)))))
+      (ledger-user.told (cond (l .buffers .outputs .zeros) 2 1) (withBuffers l (lists.withOutputs (l .buffers) (lists.takenOutputs (l .buffers .outputs)))))
       (ap not (a .outputs .fresh))
       (λ _. record { answers = refl; agrees = a })
       (λ _. record {
         answers = ap (λ (z : Bool). Value (cond z 2 1)) (a .outputs .zeros);
         agrees =
-            roles-changed a (record { set = triple.taken (s .outputs .set); zeros = s .outputs .zeros }) (s .inputs) (lists.taken (l .buffers .outputs)) (l .buffers .inputs) refl refl
+            roles-changed a (record { set = triple.taken (s .outputs .set); zeros = s .outputs .zeros }) (s .inputs) (lists.takenOutputs (l .buffers .outputs)) (l .buffers .inputs) refl refl
             (taken-permutes (s .outputs .set) (a .safe .outputs)) (a .safe .inputs)
             (record { held = a .outputs .next; next = a .outputs .held; fresh = refl; zeros = a .outputs .zeros }) (a .inputs);
       })

@@ -10,7 +10,7 @@ use Rattle.state.specs.declared.answer.Refusal.the-variants.{Judging, Range, Ab
 use Rattle.state.specs.Well.{within}
 use Rattle.rules.specs.Diagnosis.{delayed, diagnosed, delaying}
 use Rattle.rules.specs.User.{judgedParameters, judgedConfiguration}
-use Rattle.ledger.specs.Lists.{some, taken, withOutputs}
+use Rattle.ledger.specs.Lists.{some, takenOutputs, withOutputs}
 use Rattle.ledger.specs.Ledger.{Ledger, withControl, withBuffers, diagnosisLeaves, parametersOpen, configurationOpen}
 use Rattle.ledger.specs.Deeds.{carried, diagnosisChanged}
 use Rattle.ledger.specs.User.{Told, told, refused, absent, octetsOfKind, writtenOctet, takeOutputs, readOctet, writeOctet, newDiagnosis, judgeParameters, judgeConfiguration}
@@ -35,13 +35,13 @@ module _ (P : Told → Type 0) where
 
   module _ (l : Ledger) where
     pub take-cases : (l .buffers .outputs .fresh ≡ false → P (told 0 l))
-        → (l .buffers .outputs .fresh ≡ true → P (told (cond (l .buffers .outputs .zeros) 2 1) (withBuffers l (withOutputs (l .buffers) (taken (l .buffers .outputs))))))
+        → (l .buffers .outputs .fresh ≡ true → P (told (cond (l .buffers .outputs .zeros) 2 1) (withBuffers l (withOutputs (l .buffers) (takenOutputs (l .buffers .outputs))))))
         → P (takeOutputs l)
     unfolding takeOutputs
     take-cases f g = go (l .buffers .outputs .fresh) refl
       where
         go : (t : Bool) → l .buffers .outputs .fresh ≡ t
-            → P (cond (not t) (told 0 l) (told (cond (l .buffers .outputs .zeros) 2 1) (withBuffers l (withOutputs (l .buffers) (taken (l .buffers .outputs))))))
+            → P (cond (not t) (told 0 l) (told (cond (l .buffers .outputs .zeros) 2 1) (withBuffers l (withOutputs (l .buffers) (takenOutputs (l .buffers .outputs))))))
         go true e = g e
         go false e = f e
 

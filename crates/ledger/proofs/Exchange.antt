@@ -9,7 +9,7 @@ use lib.ListN.{getD}
 use Rattle.state.specs.declared.answer.Answer.the-variants.{Value}
 use Rattle.telegram.specs.declared.reader.Status.{Status}
 use Rattle.telegram.specs.declared.reader.Status.the-variants.{Fresh, Inside, Complete, Broken}
-use Rattle.telegram.specs.Reading.{run, received, status}
+use Rattle.telegram.specs.Reading.{run, readerAfter, status}
 use Rattle.telegram.proofs.Run.{no-true, run-snoc}
 use Rattle.telegram.proofs.Framing.{framing}
 use Rattle.state.specs.declared.answer.Refusal.the-variants.{Judging, Range, Absent, Delayed}
@@ -17,7 +17,7 @@ use Rattle.state.specs.Well.{within}
 use Rattle.rules.specs.Diagnosis.{delayed, diagnosed, delaying}
 use Rattle.rules.specs.Line.{clearOn}
 use Rattle.rules.specs.User.{judgedParameters, judgedConfiguration}
-use Rattle.ledger.specs.Lists.{some, taken, withOutputs}
+use Rattle.ledger.specs.Lists.{some, takenOutputs, withOutputs}
 use Rattle.ledger.specs.Ledger.{Line, Ledger, withControl, withBuffers, withLine, busy, diagnosisLeaves, parametersOpen, configurationOpen}
 use Rattle.ledger.specs.Deeds.{carried, diagnosisChanged, settle}
 use Rattle.ledger.specs.Bus.{answered, lengthened, heardAs, heard}
@@ -25,7 +25,7 @@ use Rattle.ledger.specs.User.{Told, told, refused, absent, octetsOfKind,
 use Rattle.rules.specs.Kinds.{inRange, writable}
 use Rattle.rules.specs.Call.{Call, octet, gap, send, tick, take, read, write, hand-over, new-diagnosis, judge-parameters, judge-configuration, events, acknowledge, pending, leave}
 use Rattle.ledger.specs.Calls.{step, answers, after}
-use Rattle.ledger.specs.Exchange.{Within, Inner, ofUser, Exchanged, Exchange}
+use Rattle.ledger.specs.Exchange.{MidTelegram, Inner, ofUser, Exchanged, Exchange}
 use Rattle.ledger.proofs.Runs.{after-append, answers-append, answers-length}
 use Rattle.ledger.proofs.Settling.{settle-line}
 
@@ -62,7 +62,7 @@ user-on l n send u a = no-true u
 user-on l n tick u a = no-true u
 user-on l n take u a =
     over n (not (l .buffers .outputs .fresh)) (told 0 l)
-    (told (cond (l .buffers .outputs .zeros) 2 1) (withBuffers l (withOutputs (l .buffers) (taken (l .buffers .outputs)))))
+    (told (cond (l .buffers .outputs .zeros) 2 1) (withBuffers l (withOutputs (l .buffers) (takenOutputs (l .buffers .outputs)))))
 user-on l n (read kind index) u a =
     over2 n (not (inRange (l .setup) kind index)) (absent l kind index) (refused Range l) (refused Absent l)
     (told (getD (octetsOfKind (l .buffers) kind) index 0) l)
@@ -102,7 +102,7 @@ keeps-line l c u = ap (λ (t : Told). t .ledger .line) (user-on l (l .line) c u 
 pub record Lengthens (n : Line) (b : ℕ) (bad : Bool) : Type 0 where
   pub listens : n .ignored ≡ false
   pub begins : some (n .telegram) ≡ true
-  pub inside : status (received (run (n .telegram)) b bad) ≡ Inside
+  pub inside : status (readerAfter (run (n .telegram)) b bad) ≡ Inside
 
 -- inside, octets came
 came : (xs : List ℕ) → status (run xs) ≡ Inside → some xs ≡ true
@@ -110,7 +110,7 @@ came [] e = let z : _≡_ {A = ℕ} 0 1 = cc in absurd (omega arith)
 came (x ∷ xs) e = refl
 
 -- with an octet something has begun
-not-fresh : (xs : List ℕ) (b : ℕ) (bad : Bool) → status (received (run xs) b bad) ≡ Fresh → ⊥
+not-fresh : (xs : List ℕ) (b : ℕ) (bad : Bool) → status (readerAfter (run xs) b bad) ≡ Fresh → ⊥
 not-fresh xs b true e = let z : _≡_ {A = ℕ} 0 1 = cc in omega arith
 not-fresh xs b false e = none xs (framing (xs ++ b ∷ []) .nothing .0 (ap status (run-snoc xs b) ∙ e))
   where
@@ -127,11 +127,11 @@ unfolding heard answered
 inner-lengthens l b bad i = record {
   listens = i .before .listens;
   begins = came (l .line .telegram) (i .before .inside);
-  inside = go (status (received (run (l .line .telegram)) b bad)) refl (i .behind);
+  inside = go (status (readerAfter (run (l .line .telegram)) b bad)) refl (i .behind);
 }
   where
-    go : (s : Status) → status (received (run (l .line .telegram)) b bad) ≡ s
-        → Within (cond (l .line .ignored) l (heardAs s l b)) → s ≡ Inside
+    go : (s : Status) → status (readerAfter (run (l .line .telegram)) b bad) ≡ s
+        → MidTelegram (cond (l .line .ignored) l (heardAs s l b)) → s ≡ Inside
     go Fresh e w = absurd (not-fresh (l .line .telegram) b bad e)
     go Inside e w = refl
     go Complete e w = absurd (ignores _ (rw (i .before .listens) at (w .listens)) refl)

@@ -12,7 +12,7 @@ use borrow.Author.Tests.{leb-true, eqb-false, not-true}
 use Rattle.telegram.specs.declared.reader.Status.{Status}
 use Rattle.telegram.specs.declared.reader.Status.the-variants.{Fresh, Inside, Complete, Broken}
 use Rattle.telegram.specs.Telegram.{Telegram, kindOf, payloadOf}
-use Rattle.telegram.specs.Reading.{run, received, status}
+use Rattle.telegram.specs.Reading.{run, readerAfter, status}
 use Rattle.telegram.specs.Sending.{startOctet}
 use Rattle.state.specs.declared.setup.Setup.{Setup}
 use Rattle.state.specs.declared.control.Control.{Control}
@@ -29,7 +29,7 @@ use Rattle.rules.specs.Control.{bit}
 use Rattle.rules.specs.Requests.{masterOf, toStation, toAll, acts, serviceOf}
 use Rattle.rules.specs.Diagnosis.{delayed, diagnosed, delaying, caughtUp}
 use Rattle.rules.specs.Line.{ticked}
-use Rattle.ledger.specs.Lists.{some, Outputs, taken, Inputs, handedOver, writtenInput, Sets, Diagnoses, exchanged, writtenDiagnosis, Buffers, withOutputs, withInputs, withDiagnoses}
+use Rattle.ledger.specs.Lists.{some, Outputs, takenOutputs, Inputs, handedOver, writtenInput, Sets, Diagnoses, exchanged, writtenDiagnosis, Buffers, withOutputs, withInputs, withDiagnoses}
 use Rattle.ledger.specs.Ledger.{Line, Ledger, withLine, begun, busy, diagnosisLeaves, openSets, fresh}
 use Rattle.ledger.specs.Deeds.{onOutputs, onInputs, onSets, onBuffers, carried, diagnosisChanged, afterReply, settle}
 use Rattle.ledger.specs.Bus.{telegramOn, requestBy, dataBy, outcomeOf, answered, completed, brokenOff, lengthened, beginning, sendLeft, silenced, heardAs, heard, paused, sent, elapsed}
@@ -244,7 +244,7 @@ unfolding heard paused sent elapsed handOver acknowledgeEvents leaveMaster diagn
 step-fit l (octet b bad) f = go (l .line .ignored)
   where
     s : Status
-    s = status (received (run (l .line .telegram)) b bad)
+    s = status (readerAfter (run (l .line .telegram)) b bad)
 
     go : (p : Bool) → Fit (cond p l (heardAs s l b))
     go true = f
@@ -259,8 +259,8 @@ step-fit l tick f = go (l .control .noted)
     go false = quiet-fit f (ticked-quiet (l .setup) (l .control) (busy l) (λ _. tt))
 step-fit l take f =
     take-cases (λ t. Fit (t .ledger)) l (λ _. f)
-    (λ _. on-lists f (withOutputs (l .buffers) (taken (l .buffers .outputs))) (l .control)
-    (on-outputs f (taken (l .buffers .outputs)) (record { held = f .lists .outputs .next; next = f .lists .outputs .held })) (f .counts))
+    (λ _. on-lists f (withOutputs (l .buffers) (takenOutputs (l .buffers .outputs))) (l .control)
+    (on-outputs f (takenOutputs (l .buffers .outputs)) (record { held = f .lists .outputs .next; next = f .lists .outputs .held })) (f .counts))
 step-fit l (read kind index) f = read-cases (λ t. Fit (t .ledger)) l kind index (λ _. f) f
 step-fit l (write kind index x) f =
     write-cases (λ t. Fit (t .ledger)) l kind index x (λ _. f)

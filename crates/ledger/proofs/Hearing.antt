@@ -9,7 +9,7 @@ use Rattle.state.specs.declared.answer.Answer.the-variants.{Value}
 use Rattle.telegram.specs.declared.reader.Status.{Status}
 use Rattle.telegram.specs.declared.reader.Status.the-variants.{Fresh, Inside, Complete, Broken}
 use Rattle.telegram.specs.Telegram.{Telegram, sd1, sd2, sd3, sd4, kindOf, octetsOf, Valid, IsTelegram}
-use Rattle.telegram.specs.Reading.{run, received, status, step as reads}
+use Rattle.telegram.specs.Reading.{run, readerAfter, status, step as reads}
 use Rattle.telegram.specs.Sending.{startOctet}
 use Rattle.telegram.proofs.Run.{broken-complete, run-snoc}
 use Rattle.telegram.proofs.Framing.{framing, told}
@@ -47,7 +47,7 @@ unfolding answered
 completed-on l n t = refl
 
 -- the last octet
-pub last-heard : (l : Ledger) (y : ℕ) (bad : Bool) → l .line .ignored ≡ false → status (received (run (l .line .telegram)) y bad) ≡ Complete
+pub last-heard : (l : Ledger) (y : ℕ) (bad : Bool) → l .line .ignored ≡ false → status (readerAfter (run (l .line .telegram)) y bad) ≡ Complete
     → heard l y bad ≡ settle (completed l (telegramOn (l .line .telegram ++ y ∷ [])))
 unfolding heard
 last-heard l y bad i s = rw (i, s)

@@ -9,13 +9,13 @@ use borrow.Author.Tests.{le-leb, lt-ltb}
 use Rattle.state.specs.declared.setup.Setup.{Setup}
 use Rattle.rules.specs.declared.outcome.OutputsDeed.{OutputsDeed}
 use Rattle.rules.specs.declared.outcome.OutputsDeed.the-variants.{Keep, Publish, Zeros}
-use Rattle.ledger.specs.Lists.{some, Outputs, published, publishedZeros, taken as tookOver, writtenInput, writtenDiagnosis, withInputs, withDiagnoses}
+use Rattle.ledger.specs.Lists.{some, Outputs, published, publishedZeros, takenOutputs as tookOver, writtenInput, writtenDiagnosis, withInputs, withDiagnoses}
 use Rattle.telegram.specs.declared.reader.Status.{Status}
 use Rattle.telegram.specs.declared.reader.Status.the-variants.{Fresh, Inside, Complete, Broken}
 use Rattle.telegram.specs.Telegram.{payloadOf}
-use Rattle.telegram.specs.Reading.{run, received, status}
+use Rattle.telegram.specs.Reading.{run, readerAfter, status}
 use Rattle.rules.specs.declared.outcome.Outcome.{Outcome}
-use Rattle.rules.specs.Line.{clearOn, settled, ticked}
+use Rattle.rules.specs.Line.{clearOn, clearNoted, ticked}
 use Rattle.rules.specs.User.{judgedParameters, judgedConfiguration}
 use Rattle.ledger.specs.Ledger.{Ledger, withLine, begun, busy, fresh}
 use Rattle.ledger.specs.Deeds.{onOutputs, carried, settle}
@@ -27,7 +27,7 @@ use Rattle.ledger.proofs.Runs.{answers-append}
 use Rattle.ledger.proofs.Settling.{settle-outputs}
 use Rattle.ledger.proofs.Kept.{step-kept, after-kept}
 use Rattle.ledger.proofs.ByCases.{take-cases, read-cases, write-cases, diagnosis-cases, parameters-cases, configuration-cases}
-use Rattle.ledger.specs.History.{Deed, accepted, zeroed, taken, newest, readable, publishes, clears, heardDeeds, deedsOf, history, OutputsRead}
+use Rattle.ledger.specs.History.{Deed, accepted, zeroed, outputsTaken, newest, readable, publishes, clears, heardDeeds, deedsOf, history, OutputsRead}
 
 -- ---------------------------------------------------------------------------------------------------
 -- The outputs as the deeds make them, the newest deed first.
@@ -39,13 +39,13 @@ abbrev made : ℕ → List Deed → Outputs → Outputs
 made n [] o = o
 made n (accepted ds ∷ h) o = published (made n h o) ds
 made n (zeroed ∷ h) o = publishedZeros (made n h o) n
-made n (taken ∷ h) o = took (made n h o)
+made n (outputsTaken ∷ h) o = took (made n h o)
 
 made-append : (n : ℕ) (g h : List Deed) (o : Outputs) → made n (g ++ h) o ≡ made n g (made n h o)
 made-append n [] h o = refl
 made-append n (accepted ds ∷ g) h o = ap (λ (q : Outputs). published q ds) (made-append n g h o)
 made-append n (zeroed ∷ g) h o = ap (λ (q : Outputs). publishedZeros q n) (made-append n g h o)
-made-append n (taken ∷ g) h o = ap took (made-append n g h o)
+made-append n (outputsTaken ∷ g) h o = ap took (made-append n g h o)
 
 -- as the ledger makes them by an outcome
 made-one : (n : ℕ) (d : OutputsDeed) (ds : List ℕ) (o : Outputs) → made n (publishes d ds) o ≡ onOutputs d o n ds
@@ -62,11 +62,11 @@ made-shows : (n : ℕ) (h : List Deed) (o : Outputs) → Shows n o [] → Shows 
 made-shows n [] o s = s
 made-shows n (accepted ds ∷ h) o s = record { holds = made-shows n h o s .holds; brings = refl }
 made-shows n (zeroed ∷ h) o s = record { holds = made-shows n h o s .holds; brings = refl }
-made-shows n (taken ∷ h) o s =
+made-shows n (outputsTaken ∷ h) o s =
     let q = made n h o in go (q .held) (q .next) (q .fresh) (q .zeros) (made-shows n h o s)
   where
     go : (x y : List ℕ) (t z : Bool) → Shows n (record { held = x; next = y; fresh = t; zeros = z }) h
-        → Shows n (took (record { held = x; next = y; fresh = t; zeros = z })) (taken ∷ h)
+        → Shows n (took (record { held = x; next = y; fresh = t; zeros = z })) (outputsTaken ∷ h)
     go x y true z w = record { holds = w .brings; brings = w .brings }
     go x y false z w = record { holds = w .brings; brings = w .brings }
 
@@ -79,18 +79,18 @@ settles : (m : Ledger) (h : List Deed) (o : Outputs) → m .buffers .outputs ≡
 settles m h o e =
     let n = m .setup .«output_len» in
     settle-outputs m
-    ∙ ap (λ (q : Outputs). onOutputs (settled (busy m) (m .control) .outputs) q n []) e
-    ∙ sym (made-append n (clears m) h o ∙ made-one n (settled (busy m) (m .control) .outputs) [] (made n h o))
+    ∙ ap (λ (q : Outputs). onOutputs (clearNoted (busy m) (m .control) .outputs) q n []) e
+    ∙ sym (made-append n (clears m) h o ∙ made-one n (clearNoted (busy m) (m .control) .outputs) [] (made n h o))
 
 settles-one : (m : Ledger) → settle m .buffers .outputs ≡ made (m .setup .«output_len») (clears m) (m .buffers .outputs)
-settles-one m = settle-outputs m ∙ sym (made-one (m .setup .«output_len») (settled (busy m) (m .control) .outputs) [] (m .buffers .outputs))
+settles-one m = settle-outputs m ∙ sym (made-one (m .setup .«output_len») (clearNoted (busy m) (m .control) .outputs) [] (m .buffers .outputs))
 
 -- a beginning leaves the line busy
 begins : (l : Ledger) (b : ℕ) → settle (withLine l (beginning b)) .buffers .outputs ≡ l .buffers .outputs
 begins l b = settle-outputs (withLine l (beginning b)) ∙ go (l .control .noted) refl
   where
     go : (t : Bool) → l .control .noted ≡ t
-        → onOutputs (settled true (l .control) .outputs) (l .buffers .outputs) (l .setup .«output_len») [] ≡ l .buffers .outputs
+        → onOutputs (clearNoted true (l .control) .outputs) (l .buffers .outputs) (l .setup .«output_len») [] ≡ l .buffers .outputs
     go true e = rw e
     go false e = rw e
 
@@ -117,7 +117,7 @@ unfolding Made heard paused sent elapsed handOver acknowledgeEvents leaveMaster
 step-made l (octet b bad) = go (l .line .ignored)
   where
     s : Status
-    s = status (received (run (l .line .telegram)) b bad)
+    s = status (readerAfter (run (l .line .telegram)) b bad)
 
     go : (t : Bool) → Made l (cond t [] (heardDeeds s l b)) (cond t l (heardAs s l b))
     go true = refl
@@ -132,7 +132,7 @@ step-made l tick = go (l .control .noted)
     go : (t : Bool) → Made l (cond t (clears (withLine l (silenced l))) (publishes (o .outputs) [])) (cond t (settle (withLine l (silenced l))) (carried l o []))
     go true = settles-one (withLine l (silenced l))
     go false = sym (made-one (l .setup .«output_len») (o .outputs) [] (l .buffers .outputs))
-step-made l take = take-cases (λ t. Made l (taken ∷ []) (t .ledger)) l (λ e. rw e) (λ e. rw e)
+step-made l take = take-cases (λ t. Made l (outputsTaken ∷ []) (t .ledger)) l (λ e. rw e) (λ e. rw e)
 step-made l (read kind index) = read-cases (λ t. Made l [] (t .ledger)) l kind index (λ _. refl) refl
 step-made l (write kind index x) = write-cases (λ t. Made l [] (t .ledger)) l kind index x (λ _. refl) (wrote (eqb kind 4))
   where

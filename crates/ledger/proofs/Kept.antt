@@ -5,7 +5,7 @@ use mathlib.Core.Bool.{Bool, true, false, cond}
 use mathlib.Core.List.{List, [], _∷_, _++_}
 use Rattle.telegram.specs.declared.reader.Status.{Status}
 use Rattle.telegram.specs.declared.reader.Status.the-variants.{Fresh, Inside, Complete, Broken}
-use Rattle.telegram.specs.Reading.{run, received, status}
+use Rattle.telegram.specs.Reading.{run, readerAfter, status}
 use Rattle.rules.specs.Line.{ticked}
 use Rattle.ledger.specs.Ledger.{Ledger, withLine, begun, busy}
 use Rattle.ledger.specs.Deeds.{carried, settle}
@@ -39,7 +39,7 @@ unfolding heard paused sent elapsed handOver acknowledgeEvents leaveMaster
 step-kept l (octet b bad) = go (l .line .ignored)
   where
     s : Status
-    s = status (received (run (l .line .telegram)) b bad)
+    s = status (readerAfter (run (l .line .telegram)) b bad)
 
     go : (t : Bool) → Kept l (cond t l (heardAs s l b))
     go true = (refl, refl)

@@ -3,7 +3,7 @@ use mathlib.Core.Path.{_≡_, refl}
 use mathlib.Core.Bool.{Bool, true, false, cond, not, _&&_}
 use mathlib.Core.List.{[]}
 use Rattle.rules.specs.Diagnosis.{delayed, diagnosed, caughtUp}
-use Rattle.rules.specs.Line.{settled}
+use Rattle.rules.specs.Line.{clearNoted}
 use Rattle.ledger.specs.Ledger.{Ledger, busy, diagnosisLeaves}
 use Rattle.ledger.specs.Deeds.{onOutputs, carried, diagnosisChanged, afterReply, settle}
 
@@ -31,13 +31,13 @@ settle-line l = reply-keeps (λ m. m .line) l refl
 
 -- what becomes of the outputs by settling: zeros where a noted clear is carried out
 pub settle-outputs : (l : Ledger)
-    → settle l .buffers .outputs ≡ onOutputs (settled (busy l) (l .control) .outputs) (l .buffers .outputs) (l .setup .«output_len») []
+    → settle l .buffers .outputs ≡ onOutputs (clearNoted (busy l) (l .control) .outputs) (l .buffers .outputs) (l .setup .«output_len») []
 unfolding settle afterReply diagnosed
 settle-outputs l = go (delayed (l .control) && not (diagnosisLeaves l)) (l .control .noted && not (busy l)) refl
   where
     go : (t p : Bool) → l .control .noted && not (busy l) ≡ p
-        → carried (cond t (diagnosisChanged l (caughtUp (l .control))) l) (settled (busy l) (cond t (diagnosisChanged l (caughtUp (l .control))) l .control)) [] .buffers .outputs
-        ≡ onOutputs (settled (busy l) (l .control) .outputs) (l .buffers .outputs) (l .setup .«output_len») []
+        → carried (cond t (diagnosisChanged l (caughtUp (l .control))) l) (clearNoted (busy l) (cond t (diagnosisChanged l (caughtUp (l .control))) l .control)) [] .buffers .outputs
+        ≡ onOutputs (clearNoted (busy l) (l .control) .outputs) (l .buffers .outputs) (l .setup .«output_len») []
     go true true e = rw e
     go true false e = rw e
     go false p e = refl

@@ -6,7 +6,7 @@ use lib.ListN.{length, getD}
 use Rattle.telegram.specs.declared.reader.Status.{Status}
 use Rattle.telegram.specs.declared.reader.Status.the-variants.{Fresh, Inside, Complete, Broken}
 use Rattle.telegram.specs.Telegram.{Telegram, kindOf, daOf, saOf, fcOf, dsapOf, ssapOf, payloadOf}
-use Rattle.telegram.specs.Reading.{start, run, received, status, gathered, telegramOf}
+use Rattle.telegram.specs.Reading.{start, run, readerAfter, status, gathered, telegramOf}
 use Rattle.rules.specs.declared.request.Request.{Request}
 use Rattle.rules.specs.declared.request.Data.{Data}
 use Rattle.rules.specs.declared.request.Prm.{Prm}
@@ -84,7 +84,7 @@ heardAs Broken l b = settle (withLine l (brokenOff (l .line)))
 
 -- the bus's octet
 unfoldable pub heard : Ledger → ℕ → Bool → Ledger
-heard l b bad = cond (l .line .ignored) l (heardAs (status (received (run (l .line .telegram)) b bad)) l b)
+heard l b bad = cond (l .line .ignored) l (heardAs (status (readerAfter (run (l .line .telegram)) b bad)) l b)
 
 -- a gap: the next octet may begin a telegram
 unfoldable pub paused : Ledger → Ledger

@@ -9,9 +9,9 @@ use Rattle.rules.specs.declared.outcome.OutputsDeed.the-variants as outputs-dee
 use Rattle.rules.specs.declared.outcome.SetDeed.{SetDeed}
 use Rattle.rules.specs.declared.outcome.SetDeed.the-variants as set-deed
 use Rattle.rules.specs.declared.outcome.Outcome.{Outcome}
-use Rattle.rules.specs.Line.{settled}
+use Rattle.rules.specs.Line.{clearNoted}
 use Rattle.rules.specs.Diagnosis.{delayed, caughtUp}
-use Rattle.ledger.specs.Lists.{Outputs, Inputs, Sets, Buffers, published, publishedZeros, brought, received, advanced, noSets, exchanged, withDiagnoses}
+use Rattle.ledger.specs.Lists.{Outputs, Inputs, Sets, Buffers, published, publishedZeros, brought, receivedSet, advanced, noSets, exchanged, withDiagnoses}
 use Rattle.ledger.specs.Ledger.{Ledger, busy, diagnosisLeaves, withControl}
 
 -- what becomes of the outputs; ds is the data received
@@ -29,7 +29,7 @@ onInputs outputs-deed.Zeros i = i
 -- what becomes of the sets of parameters or of configuration
 abbrev pub onSets : SetDeed → Sets → List ℕ → Sets
 onSets set-deed.Keep s ds = s
-onSets set-deed.Receive s ds = received s ds
+onSets set-deed.Receive s ds = receivedSet s ds
 onSets set-deed.Advance s ds = advanced s
 onSets set-deed.Drop s ds = noSets
 
@@ -72,4 +72,4 @@ afterReply l = cond (delayed (l .control) && not (diagnosisLeaves l)) (diagnosis
 
 -- and then a noted clear where the line is idle
 unfoldable pub settle : Ledger → Ledger
-settle l = carried (afterReply l) (settled (busy l) (afterReply l .control)) []
+settle l = carried (afterReply l) (clearNoted (busy l) (afterReply l .control)) []

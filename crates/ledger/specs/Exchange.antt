@@ -14,14 +14,14 @@ use Rattle.rules.specs.Call.{Call, octet, gap, send, tick, take, read, write, h
 use Rattle.ledger.specs.Calls.{answers, after}
 
 -- a telegram is begun, unfinished and not broken off
-pub record Within (l : Ledger) : Type 0 where
+pub record MidTelegram (l : Ledger) : Type 0 where
   pub listens : l .line .ignored ≡ false
   pub inside : status (run (l .line .telegram)) ≡ Inside
 
 -- an octet is inner if that is so both before and after it
 pub record Inner (l : Ledger) (b : ℕ) (bad : Bool) : Type 0 where
-  pub before : Within l
-  pub behind : Within (heard l b bad)
+  pub before : MidTelegram l
+  pub behind : MidTelegram (heard l b bad)
 
 -- a user call; the others are the bus's
 abbrev pub ofUser : Call → Bool

@@ -10,10 +10,10 @@ use Rattle.state.specs.declared.answer.Answer.the-variants.{Value}
 use Rattle.telegram.specs.declared.reader.Status.{Status}
 use Rattle.telegram.specs.declared.reader.Status.the-variants.{Fresh, Inside, Complete, Broken}
 use Rattle.telegram.specs.Telegram.{Telegram, payloadOf}
-use Rattle.telegram.specs.Reading.{run, received, status}
+use Rattle.telegram.specs.Reading.{run, readerAfter, status}
 use Rattle.rules.specs.declared.outcome.OutputsDeed.{OutputsDeed}
 use Rattle.rules.specs.declared.outcome.OutputsDeed.the-variants.{Keep, Publish, Zeros}
-use Rattle.rules.specs.Line.{clearOn, settled, ticked}
+use Rattle.rules.specs.Line.{clearOn, clearNoted, ticked}
 use Rattle.rules.specs.User.{judgedParameters, judgedConfiguration}
 use Rattle.ledger.specs.Lists.{some}
 use Rattle.ledger.specs.Ledger.{Ledger, withLine, busy, parametersOpen, configurationOpen, fresh}
@@ -25,21 +25,21 @@ use Rattle.ledger.specs.Calls.{step, answers, after}
 pub data Deed : Type 0 where
   accepted : (ds : List ℕ) → Deed
   zeroed : Deed
-  taken : Deed
+  outputsTaken : Deed
 
 -- the octets published last, n zeros if none were
 abbrev pub newest : ℕ → List Deed → List ℕ
 newest n [] = replicate n 0
 newest n (accepted ds ∷ earlier) = ds
 newest n (zeroed ∷ earlier) = replicate n 0
-newest n (taken ∷ earlier) = newest n earlier
+newest n (outputsTaken ∷ earlier) = newest n earlier
 
 -- what can be read after these deeds, the newest first: the octets published last before the latest take
 abbrev pub readable : ℕ → List Deed → List ℕ
 readable n [] = replicate n 0
 readable n (accepted ds ∷ earlier) = readable n earlier
 readable n (zeroed ∷ earlier) = readable n earlier
-readable n (taken ∷ earlier) = newest n earlier
+readable n (outputsTaken ∷ earlier) = newest n earlier
 
 -- what an outcome of the rules publishes; ds is the data received
 abbrev pub publishes : OutputsDeed → List ℕ → List Deed
@@ -49,7 +49,7 @@ publishes Zeros ds = zeroed ∷ []
 
 -- a noted clear that is carried out because the line is idle
 abbrev pub clears : Ledger → List Deed
-clears l = publishes (settled (busy l) (l .control) .outputs) []
+clears l = publishes (clearNoted (busy l) (l .control) .outputs) []
 
 -- a complete telegram: what comes of it by the rules, and then such a clear
 abbrev pub telegramDeeds : Ledger → Telegram → List Deed
@@ -64,11 +64,11 @@ heardDeeds Broken l b = clears (withLine l (brokenOff (l .line)))
 
 -- the deeds of one call, the newest first; a refused judgement has none
 abbrev pub deedsOf : Ledger → Call → List Deed
-deedsOf l (octet b bad) = cond (l .line .ignored) [] (heardDeeds (status (received (run (l .line .telegram)) b bad)) l b)
+deedsOf l (octet b bad) = cond (l .line .ignored) [] (heardDeeds (status (readerAfter (run (l .line .telegram)) b bad)) l b)
 deedsOf l gap = clears (withLine l (brokenOff (l .line)))
 deedsOf l send = clears (withLine l (sendLeft (l .line) (l .line .reply)))
 deedsOf l tick = cond (l .control .noted) (clears (withLine l (silenced l))) (publishes (ticked (busy l) (l .control) .outputs) [])
-deedsOf l take = taken ∷ []
+deedsOf l take = outputsTaken ∷ []
 deedsOf l (read kind index) = []
 deedsOf l (write kind index x) = []
 deedsOf l hand-over = []

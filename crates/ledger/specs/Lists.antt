@@ -26,8 +26,8 @@ abbrev pub publishedZeros : Outputs → ℕ → Outputs
 publishedZeros o n = record { held = o .held; next = replicate n 0; fresh = true; zeros = true }
 
 -- take changes next and held
-abbrev pub taken : Outputs → Outputs
-taken o = record { held = o .next; next = o .held; fresh = false; zeros = o .zeros }
+abbrev pub takenOutputs : Outputs → Outputs
+takenOutputs o = record { held = o .next; next = o .held; fresh = false; zeros = o .zeros }
 
 -- the inputs that the controller sends (fill), those that are next, and those that the user holds
 pub record Inputs : Type 0 where
@@ -54,8 +54,8 @@ pub record Sets : Type 0 where
   pub waiting : List ℕ
 
 -- a set is shown if none is open; otherwise it waits, replacing one that waits
-abbrev pub received : Sets → List ℕ → Sets
-received s ds = cond (some (s .shown)) (record { shown = s .shown; waiting = ds }) (record { shown = ds; waiting = s .waiting })
+abbrev pub receivedSet : Sets → List ℕ → Sets
+receivedSet s ds = cond (some (s .shown)) (record { shown = s .shown; waiting = ds }) (record { shown = ds; waiting = s .waiting })
 
 -- the newer set is shown instead
 abbrev pub advanced : Sets → Sets

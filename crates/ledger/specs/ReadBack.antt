@@ -7,7 +7,7 @@ use mathlib.Core.Logic.{_⊎_}
 use lib.ListN.{length}
 use Rattle.telegram.specs.declared.reader.Status.the-variants.{Complete}
 use Rattle.telegram.specs.Telegram.{Telegram, sd1, sd2, kindOf, octetsOf, payloadOf, Valid, IsTelegram}
-use Rattle.telegram.specs.Reading.{start, run, received, status, gathered, finished, telegramOf}
+use Rattle.telegram.specs.Reading.{start, run, readerAfter, status, gathered, finished, telegramOf}
 use Rattle.telegram.specs.Sending.{startOctet}
 use Rattle.state.specs.declared.setup.Setup.{Setup}
 use Rattle.state.specs.declared.control.Diagnosis.{Diagnosis as DiagnosisCounts}
@@ -139,7 +139,7 @@ pub record Draws (l : Ledger) (t : Telegram) : Type 0 where
 -- a last octet fixes the reply whole
 abbrev pub Fixes : Ledger → ℕ → Bool → Type 0
 Fixes l b bad =
-    l .line .ignored ≡ false → status (received (run (l .line .telegram)) b bad) ≡ Complete
+    l .line .ignored ≡ false → status (readerAfter (run (l .line .telegram)) b bad) ≡ Complete
     → heard l b bad .line .reply ≡ completed l (telegramOn (l .line .telegram ++ b ∷ [])) .line .reply
 
 -- after every list of calls the ranges are kept, so that what completes next, or is heard whole next, draws what reads back

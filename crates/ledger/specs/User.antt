@@ -15,7 +15,7 @@ use Rattle.rules.specs.Diagnosis.{delayed, diagnosed, delaying}
 use Rattle.rules.specs.Kinds.{inRange, writable}
 use Rattle.rules.specs.Line.{clearOn}
 use Rattle.rules.specs.User.{judgedParameters, judgedConfiguration}
-use Rattle.ledger.specs.Lists.{some, taken, handedOver, writtenInput, writtenDiagnosis, Buffers, withOutputs, withInputs, withDiagnoses}
+use Rattle.ledger.specs.Lists.{some, takenOutputs, handedOver, writtenInput, writtenDiagnosis, Buffers, withOutputs, withInputs, withDiagnoses}
 use Rattle.ledger.specs.Ledger.{Ledger, withControl, withBuffers, busy, diagnosisLeaves, parametersOpen, configurationOpen}
 use Rattle.ledger.specs.Deeds.{carried, diagnosisChanged}
 
@@ -36,7 +36,7 @@ refused r l = record { answer = Refused r; ledger = l }
 unfoldable pub takeOutputs : Ledger → Told
 takeOutputs l =
     cond (not (l .buffers .outputs .fresh)) (told 0 l)
-    (told (cond (l .buffers .outputs .zeros) 2 1) (withBuffers l (withOutputs (l .buffers) (taken (l .buffers .outputs)))))
+    (told (cond (l .buffers .outputs .zeros) 2 1) (withBuffers l (withOutputs (l .buffers) (takenOutputs (l .buffers .outputs)))))
 
 -- kind 2 or 3 with no set shown or at an index not below its count, kind 5 while a new diagnosis is delayed
 abbrev pub absent : Ledger → ℕ → ℕ → Bool

@@ -15,7 +15,7 @@ use Rattle.telegram.specs.declared.Datum.the-variants.{Number, Nothing}
 use Rattle.telegram.specs.declared.reader.Reader.{Reader}
 use Rattle.telegram.specs.declared.reader.Status.{Status}
 use Rattle.telegram.specs.declared.reader.Status.the-variants.{Fresh, Inside, Complete, Broken}
-use Rattle.telegram.specs.Reading.{start, off, received, status, datumOf}
+use Rattle.telegram.specs.Reading.{start, off, readerAfter, status, datumOf}
 use Rattle.state.specs.declared.state.State.{State}
 use Rattle.state.specs.Layout.{stateLength, outputs, parameters, configuration, countOf, startOf, outputsAt, parametersAt}
 use Rattle.state.proofs.Places.{inside}
@@ -25,7 +25,7 @@ use Rattle.rules.specs.declared.outcome.Outcome.{Outcome}
 use Rattle.rules.specs.declared.request.Request.{Request}
 use Rattle.rules.specs.declared.request.Prm.{Prm}
 use Rattle.rules.specs.Services.{outcomeBy}
-use Rattle.rules.specs.Line.{settled, ticked}
+use Rattle.rules.specs.Line.{clearNoted, ticked}
 use Rattle.steps.specs.Safe.{Safe}
 use Rattle.steps.specs.Stepped.{Stepped}
 use Rattle.steps.specs.Deeds.{begun, busy, openSets, onMemory, carried, afterReply, settle}
@@ -162,7 +162,7 @@ module _ (s : State) (m n : List ℕ) (h : Safe s m) (g : Safe s n) (e : behind 
 alike-settle : (s : State) (m n : List ℕ) → Safe s m → Safe s n → behind m ≡ behind n → Alike (settle s m) (settle s n)
 unfolding settle
 alike-settle s m n h g e =
-    alike-carried (afterReply s) m n (safe-after-reply s m h) (safe-after-reply s n g) e (settled (busy s) (afterReply s .control)) 0
+    alike-carried (afterReply s) m n (safe-after-reply s m h) (safe-after-reply s n g) e (clearNoted (busy s) (afterReply s .control)) 0
 
 -- the line is settled after two steps that agree
 alike-settled : (r q : Stepped) → Safe (r .state) (r .memory) → Safe (q .state) (q .memory) → Alike r q
@@ -199,7 +199,7 @@ module _ (s : State) (m n : List ℕ) (h : Safe s m) (g : Safe s n) (e : behind 
   unfolding heard paused elapsed
   alike-beat (octet b bad) =
       chosen (isIgnored (status (s .incoming .reader))) (record { states = refl; bodies = e })
-      (alike-heard-as (status (received (s .incoming .reader) b bad)) (received (s .incoming .reader) b bad) b)
+      (alike-heard-as (status (readerAfter (s .incoming .reader) b bad)) (readerAfter (s .incoming .reader) b bad) b)
   alike-beat gap = alike-settle (readBy s start) m n (safe-read-by s m start h) (safe-read-by s n start g) e
   alike-beat tick =
       let r : Reader = silencedReader (begun s) (s .incoming .reader) in

@@ -6,8 +6,8 @@ use mathlib.Core.List.{List}
 use lib.IntN.{pos}
 use Rattle.steps.specs.Calls.{wellMemory}
 use Rattle.rules.specs.Call.{Call}
-use Rattle.lent.specs.Run.{left}
+use Rattle.lent.specs.Run.{memoryAfter}
 use Rattle.lent.specs.Exports.{Returns}
 
-pub exported : {m out : List ℕ} {cs : List Call} {r : Bool} (b : Bool) → (r ≡ wellMemory m) × (out ≡ left m cs) → r ≡ b → Returns m cs (pos (cond b 1 0)) out
+pub exported : {m out : List ℕ} {cs : List Call} {r : Bool} (b : Bool) → (r ≡ wellMemory m) × (out ≡ memoryAfter m cs) → r ≡ b → Returns m cs (pos (cond b 1 0)) out
 exported b h e = record { numbers = ap (λ (t : Bool). pos (cond t 1 0)) (sym e ∙ h .0); leaves = h .1 }

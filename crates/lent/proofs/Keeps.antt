@@ -12,7 +12,7 @@ use Rattle.telegram.specs.declared.Datum.the-variants.{Number, Nothing}
 use Rattle.telegram.specs.declared.reader.Reader.{Reader}
 use Rattle.telegram.specs.declared.reader.Status.{Status}
 use Rattle.telegram.specs.declared.reader.Status.the-variants.{Fresh, Inside, Complete, Broken}
-use Rattle.telegram.specs.Reading.{start, off, received, status, datumOf}
+use Rattle.telegram.specs.Reading.{start, off, readerAfter, status, datumOf}
 use Rattle.state.specs.declared.control.Control.{Control}
 use Rattle.state.specs.declared.control.Diagnosis.{Diagnosis}
 use Rattle.state.specs.declared.setup.Setup.{Setup}
@@ -210,8 +210,8 @@ module _ (s : State) (m : List ℕ) (safe : Safe s m) (h : Sound s) where
   unfolding heard paused elapsed
   sound-beat (octet b bad) =
       chosen (isIgnored (status (s .incoming .reader))) (unchanged s m)
-      (heardAs (status (received (s .incoming .reader) b bad)) s m (received (s .incoming .reader) b bad) b) h
-      (sound-heard-as (status (received (s .incoming .reader) b bad)) (received (s .incoming .reader) b bad) b)
+      (heardAs (status (readerAfter (s .incoming .reader) b bad)) s m (readerAfter (s .incoming .reader) b bad) b) h
+      (sound-heard-as (status (readerAfter (s .incoming .reader) b bad)) (readerAfter (s .incoming .reader) b bad) b)
   sound-beat gap = sound-settle (readBy s start) m (safe-read-by s m start safe) (sound-read-by s start h)
   sound-beat tick =
       let r : Reader = silencedReader (begun s) (s .incoming .reader) in

@@ -11,7 +11,7 @@ use lib.Seq.{drop-cons, drop-length}
 use Rattle.state.specs.declared.state.State.{State}
 use Rattle.steps.specs.Safe.{Safe}
 use Rattle.steps.specs.Stepped.{Stepped, Steps}
-use Rattle.lent.specs.Run.{Beat, octet, tick, beat, run, received, ticks}
+use Rattle.lent.specs.Run.{Beat, octet, tick, beat, run, wellReceived, ticks}
 use Rattle.lent.proofs.Same.{safe-beat, beat-length}
 
 pub record Partly (h : State) (ys : List ℕ) (all : List Beat) (t : State) (zs : List ℕ) (rest : List Beat) : Type 0 where
@@ -34,11 +34,11 @@ module _ {h : State} {ys : List ℕ} {all : List Beat} (t : State) (zs : List �
 drop-next : (os : List ℕ) (i : ℕ) → i < length os → drop i os ≡ getD os i 0 ∷ drop (i + 1) os
 drop-next os i h = simp unary-clauses (drop-cons os i 0 h)
 
-pub next-octet : (os : List ℕ) (i : ℕ) → i < length os → received (drop i os) ≡ octet (getD os i 0) false ∷ received (drop (i + 1) os)
-next-octet os i h = ap received (drop-next os i h)
+pub next-octet : (os : List ℕ) (i : ℕ) → i < length os → wellReceived (drop i os) ≡ octet (getD os i 0) false ∷ wellReceived (drop (i + 1) os)
+next-octet os i h = ap wellReceived (drop-next os i h)
 
-pub no-octet : (os : List ℕ) (i : ℕ) → i ≤ length os → length os ≤ i → received (drop i os) ≡ []
-no-octet os i g h = let e : i ≡ length os = omega arith in ap (λ (k : ℕ). received (drop k os)) e ∙ ap received (drop-length os)
+pub no-octet : (os : List ℕ) (i : ℕ) → i ≤ length os → length os ≤ i → wellReceived (drop i os) ≡ []
+no-octet os i g h = let e : i ≡ length os = omega arith in ap (λ (k : ℕ). wellReceived (drop k os)) e ∙ ap wellReceived (drop-length os)
 
 -- ---- Ticks from i on
 

@@ -33,7 +33,7 @@ use Rattle.steps.proofs.KeepsSetup.{step-keeps}
 use Rattle.steps.proofs.Holding.{holds-safe, fronted, step-whole}
 use Rattle.steps.proofs.Guarded.{LengthIn, holds-well, called-steps}
 use Rattle.agreement.proofs.Agreement.{Ready, does, calls-of, ready-again, begins-ready, agreement}
-use Rattle.lent.specs.Run.{Beat, octet, gap, tick, beat, run, callOf, calls, left, Same, CarriesOver}
+use Rattle.lent.specs.Run.{Beat, octet, gap, tick, beat, run, callOf, calls, memoryAfter, Same, CarriesOver}
 use Rattle.lent.proofs.Behind.{behind, alike-beat}
 use Rattle.lent.proofs.Keeps.{sound-beat}
 
@@ -97,7 +97,7 @@ packs : (p : List ℕ) (s : State) (m : List ℕ) → Beside p s m → kept s m 
 packs p s m b = ap (λ (l : List ℕ). image s ++ l) (sym (b .bodies)) ∙ sym (fronted p p s (b .holds) refl)
 
 record Ends (p : List ℕ) (s : State) (m : List ℕ) (bs : List Beat) : Type 0 where
-  image-is : kept (run s m bs .state) (run s m bs .memory) ≡ left p (calls bs)
+  image-is : kept (run s m bs .state) (run s m bs .memory) ≡ memoryAfter p (calls bs)
   answers-are : answers p (calls bs) ≡ replicate (length bs) (Value 0)
   holds-still : Holds (kept (run s m bs .state) (run s m bs .memory)) (run s m bs .state)
 
@@ -111,7 +111,7 @@ ends (x ∷ bs) p s m b =
     let e = calls-beat p s (b .length-in) (b .holds) x in
     let r = ends bs (kept (beat s p x .state) (beat s p x .memory)) (beat s m x .state) (beat s m x .memory) (beside-beat p s m b x) in
     record {
-      image-is = r .image-is ∙ ap (λ (c : Called). left (c .memory) (calls bs)) (sym e);
+      image-is = r .image-is ∙ ap (λ (c : Called). memoryAfter (c .memory) (calls bs)) (sym e);
       answers-are =
           ap (λ (c : Called). c .answer ∷ answers (c .memory) (calls bs)) e
           ∙ ap (λ (more : List Answer). Value 0 ∷ more) (r .answers-are);
@@ -126,25 +126,25 @@ lent-same m s n h bs =
     record { image-is = r .image-is; answers-are = r .answers-are; holds-still = r .holds-still }
 
 -- and with that state named
-pub lent-image : (m : List ℕ) (s : State) → LengthIn (length m) → Holds m s → (bs : List Beat) → kept (run s m bs .state) (run s m bs .memory) ≡ left m (calls bs)
+pub lent-image : (m : List ℕ) (s : State) → LengthIn (length m) → Holds m s → (bs : List Beat) → kept (run s m bs .state) (run s m bs .memory) ≡ memoryAfter m (calls bs)
 lent-image m s n h bs = ends bs m s m (record { length-in = n; holds = h; safe = holds-safe m s h; bodies = refl }) .image-is
 
 -- ---- from a freshly started station
 
 -- after any calls the memory holds a state that the ledger is about
-reach : (cs : List Call) (m : List ℕ) (s : State) (l : Ledger) → Ready m s l → (x : State) × Ready (left m cs) x (after l cs)
+reach : (cs : List Call) (m : List ℕ) (s : State) (l : Ledger) → Ready m s l → (x : State) × Ready (memoryAfter m cs) x (after l cs)
 reach [] m s l r = (s, r)
 reach (c ∷ cs) m s l r =
     let d = does m s l (r .on) c in
-    subst (λ (p : List ℕ). (x : State) × Ready (left p cs) x (after (ledger.step l c .ledger) cs)) (sym (ap (λ (x : Called). x .memory) (calls-of m s l r c)))
+    subst (λ (p : List ℕ). (x : State) × Ready (memoryAfter p cs) x (after (ledger.step l c .ledger) cs)) (sym (ap (λ (x : Called). x .memory) (calls-of m s l r c)))
     (reach cs (d .memory-after) (d .state-after) (ledger.step l c .ledger) (ready-again m s l r c))
 
 -- what a list of calls leaves and answers, by its parts
-left-append : (xs ys : List Call) (m : List ℕ) → left m (xs ++ ys) ≡ left (left m xs) ys
+left-append : (xs ys : List Call) (m : List ℕ) → memoryAfter m (xs ++ ys) ≡ memoryAfter (memoryAfter m xs) ys
 left-append [] ys m = refl
 left-append (c ∷ xs) ys m = left-append xs ys (called m c .memory)
 
-answers-append : (xs ys : List Call) (m : List ℕ) → answers m (xs ++ ys) ≡ answers m xs ++ answers (left m xs) ys
+answers-append : (xs ys : List Call) (m : List ℕ) → answers m (xs ++ ys) ≡ answers m xs ++ answers (memoryAfter m xs) ys
 answers-append [] ys m = refl
 answers-append (c ∷ xs) ys m = ap (λ (more : List Answer). called m c .answer ∷ more) (answers-append xs ys (called m c .memory))
 
@@ -155,16 +155,16 @@ same-end p q p′ q′ e f =
 
 module _ (m : List ℕ) (s : Setup) (slice : List ℕ) (long : s .«get_cfg_len» ≡ length slice) (zero : started m s slice .answer ≡ Value 0) where
   -- the calls after some others answer as the ledger does after them
-  later : (xs ys : List Call) → answers (left (memoryOf m s slice) xs) ys ≡ ledger.answers (after (fresh s slice) xs) ys
+  later : (xs ys : List Call) → answers (memoryAfter (memoryOf m s slice) xs) ys ≡ ledger.answers (after (fresh s slice) xs) ys
   later xs ys =
       let agree = agreement m s slice long zero .agree in
       same-end (answers (memoryOf m s slice) xs) _ (ledger.answers (fresh s slice) xs) _
       (sym (answers-append xs ys (memoryOf m s slice)) ∙ agree (xs ++ ys) ∙ ledger-runs.answers-append (fresh s slice) xs ys) (agree xs)
 
-  same : (pre : List Call) (bs : List Beat) → Same (left (memoryOf m s slice) pre) bs
+  same : (pre : List Call) (bs : List Beat) → Same (memoryAfter (memoryOf m s slice) pre) bs
   same pre bs =
       let r = reach pre (memoryOf m s slice) (initialState s) (fresh s slice) (begins-ready m s slice long zero) in
-      lent-same (left (memoryOf m s slice) pre) (r .0) (r .1 .length-in) (r .1 .on .holds) bs
+      lent-same (memoryAfter (memoryOf m s slice) pre) (r .0) (r .1 .length-in) (r .1 .on .holds) bs
 
   pub carries-over : CarriesOver m s slice
   carries-over = record {

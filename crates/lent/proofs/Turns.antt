@@ -15,7 +15,7 @@ use Rattle.steps.specs.Stepped.{Stepped, Steps}
 use Rattle.steps.specs.Bus.{paused}
 use Rattle.steps.proofs.Safety.{safe-steps}
 use Rattle.steps.proofs.Guarded.{LengthIn, called-damaged}
-use Rattle.lent.specs.Run.{Beat, gap, run, calls, left}
+use Rattle.lent.specs.Run.{Beat, gap, run, calls, memoryAfter}
 use Rattle.lent.proofs.Partly.{run-append}
 use Rattle.lent.proofs.Same.{safe-run, lent-image}
 
@@ -32,15 +32,15 @@ in-turn s m xs ys t zs r ws e f =
 
 -- packed where it ends
 pub packed-again : (m : List ℕ) (s : State) (bs : List Beat) (t : State) (zs out : List ℕ) → LengthIn (length m) → Holds m s → Steps (run s m bs) t zs → out ≡ kept t zs
-    → out ≡ left m (calls bs)
+    → out ≡ memoryAfter m (calls bs)
 packed-again m s bs t zs out n h e k = k ∙ (λ i. kept (e .states i) (e .leaves i)) ∙ lent-image m s n h bs
 
 -- a memory that holds no state is left as it is
-left-damaged : (cs : List Call) (m : List ℕ) → wellMemory m ≡ false → m ≡ left m cs
+left-damaged : (cs : List Call) (m : List ℕ) → wellMemory m ≡ false → m ≡ memoryAfter m cs
 left-damaged [] m e = refl
-left-damaged (c ∷ cs) m e = left-damaged cs m e ∙ ap (λ (r : Called). left (r .memory) cs) (sym (called-damaged m c e))
+left-damaged (c ∷ cs) m e = left-damaged cs m e ∙ ap (λ (r : Called). memoryAfter (r .memory) cs) (sym (called-damaged m c e))
 
-pub none-found : (m : List ℕ) (r : Bool) (cs : List Call) → r ≡ wellMemory m → not r ≡ true → (false ≡ wellMemory m) × (m ≡ left m cs)
+pub none-found : (m : List ℕ) (r : Bool) (cs : List Call) → r ≡ wellMemory m → not r ≡ true → (false ≡ wellMemory m) × (m ≡ memoryAfter m cs)
 none-found m r cs tells e =
     let f : false ≡ wellMemory m = sym (not-true r e) ∙ tells in
     (f, left-damaged cs m (sym f))

@@ -6,9 +6,9 @@ use mathlib.Core.List.{List}
 use lib.IntN.{ℤ, pos}
 use Rattle.steps.specs.Calls.{wellMemory}
 use Rattle.rules.specs.Call.{Call}
-use Rattle.lent.specs.Run.{left}
+use Rattle.lent.specs.Run.{memoryAfter}
 
 -- 1 for a memory m that holds a state and 0 for any other; the memory that the exported calls cs leave
 pub record Returns (m : List ℕ) (cs : List Call) (number : ℤ) (memory : List ℕ) : Type 0 where
   pub numbers : number ≡ pos (cond (wellMemory m) 1 0)
-  pub leaves : memory ≡ left m cs
+  pub leaves : memory ≡ memoryAfter m cs

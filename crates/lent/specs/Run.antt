@@ -38,9 +38,9 @@ run s m [] = unchanged s m
 run s m (b ∷ bs) = run (beat s m b .state) (beat s m b .memory) bs
 
 -- octets that were well received
-abbrev pub received : List ℕ → List Beat
-received [] = []
-received (b ∷ bs) = octet b false ∷ received bs
+abbrev pub wellReceived : List ℕ → List Beat
+wellReceived [] = []
+wellReceived (b ∷ bs) = octet b false ∷ wellReceived bs
 
 -- n Ticks
 abbrev pub ticks : ℕ → List Beat
@@ -49,7 +49,7 @@ ticks (suc n) = tick ∷ ticks n
 
 -- a telegram after a gap, then n Ticks
 abbrev pub turn : List ℕ → ℕ → List Beat
-turn telegram n = gap ∷ received telegram ++ ticks n
+turn telegram n = gap ∷ wellReceived telegram ++ ticks n
 
 -- the exported call for it
 abbrev pub callOf : Beat → Call
@@ -62,9 +62,9 @@ abbrev pub calls : List Beat → List Call
 calls = map callOf
 
 -- the memory that a list of exported calls leaves
-abbrev pub left : List ℕ → List Call → List ℕ
-left m [] = m
-left m (c ∷ cs) = left (called m c .memory) cs
+abbrev pub memoryAfter : List ℕ → List Call → List ℕ
+memoryAfter m [] = m
+memoryAfter m (c ∷ cs) = memoryAfter (called m c .memory) cs
 
 -- the unpacked run from the state in the memory m, packed at its end
 abbrev pub packedRun : List ℕ → List Beat → List ℕ
@@ -72,13 +72,13 @@ packedRun m bs = kept (run (unpacked m) m bs .state) (run (unpacked m) m bs .mem
 
 -- it leaves the memory that the exported calls leave, and each of these answers 0
 pub record Same (m : List ℕ) (bs : List Beat) : Type 0 where
-  pub image-is : packedRun m bs ≡ left m (calls bs)
+  pub image-is : packedRun m bs ≡ memoryAfter m (calls bs)
   pub answers-are : answers m (calls bs) ≡ replicate (length bs) (Value 0)
   pub holds-still : Holds (packedRun m bs) (run (unpacked m) m bs .state)
 
 -- demand 3 carries over: after Start and any calls the state is unpacked, lent for any octets, gaps and Ticks and packed
 -- again, and every call from then on answers as the ledger does
 pub record CarriesOver (m : List ℕ) (s : Setup) (slice : List ℕ) : Type 0 where
-  pub same : (pre : List Call) (bs : List Beat) → Same (left (memoryOf m s slice) pre) bs
+  pub same : (pre : List Call) (bs : List Beat) → Same (memoryAfter (memoryOf m s slice) pre) bs
   pub agree : (pre : List Call) (bs : List Beat) (cs : List Call)
-      → answers (packedRun (left (memoryOf m s slice) pre) bs) cs ≡ ledger.answers (after (fresh s slice) (pre ++ calls bs)) cs
+      → answers (packedRun (memoryAfter (memoryOf m s slice) pre) bs) cs ≡ ledger.answers (after (fresh s slice) (pre ++ calls bs)) cs

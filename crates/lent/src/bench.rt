@@ -12,12 +12,12 @@ ghost use mathlib.Core.List.{_++_};
 ghost use Rattle.steps.specs.Calls.{wellMemory};
 ghost use Rattle.steps.specs.Safe.{Safe};
 ghost use Rattle.steps.specs.Stepped.{Steps};
-ghost use Rattle.lent.specs.Run.{run, received, ticks, turn, calls, left};
+ghost use Rattle.lent.specs.Run.{run, wellReceived, ticks, turn, calls, memoryAfter};
 
 // Octets.
 pub fn listen(state: State, memory: &mut [u8], octets: &[u8]) -> State
     requires { ⌜ Safe state (now memory) ⌝ }
-    ensures { λ r. ⌜ Steps (run state (now (memory .entry)) (received (now (octets .entry)))) r (now (memory .exit)) ⌝ }
+    ensures { λ r. ⌜ Steps (run state (now (memory .entry)) (wellReceived (now (octets .entry)))) r (now (memory .exit)) ⌝ }
 {
     let mut held = state;
     let mut i: usize = 0;
@@ -54,7 +54,7 @@ pub fn take_turn(state: State, memory: &mut [u8], telegram: &[u8], count: usize)
 
 // Two telegrams on the unpacked state: the memory is left as the exported calls leave it. Whether it held a state.
 pub fn exchange(memory: &mut [u8], first: &[u8], second: &[u8], count: usize) -> bool
-    ensures { λ r. ⌜ (r ≡ wellMemory (now (memory .entry))) × (now (memory .exit) ≡ left (now (memory .entry)) (calls (turn (now (first .entry)) count ++ turn (now (second .entry)) count))) ⌝ }
+    ensures { λ r. ⌜ (r ≡ wellMemory (now (memory .entry))) × (now (memory .exit) ≡ memoryAfter (now (memory .entry)) (calls (turn (now (first .entry)) count ++ turn (now (second .entry)) count))) ⌝ }
 {
     if !is_well(&memory[..]) {
         return false;

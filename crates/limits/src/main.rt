@@ -45,7 +45,7 @@ fn most_control() -> Control {
         stored: 255,
         watchdog: Watchdog {
             reload: 65025,
-            left: 65025,
+            remaining: 65025,
         },
         flags: all_flags(),
         events: Events { word: 65535 },

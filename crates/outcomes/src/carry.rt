@@ -4,7 +4,7 @@ use crate::line::diagnosis_leaves;
 use buffers::triple::Triple;
 use rules::diagnosis::caught_up;
 use rules::diagnosis::is_delayed;
-use rules::line::settled;
+use rules::line::clear_noted;
 use rules::outcome::Outcome;
 use rules::outcome::OutputsDeed;
 use rules::outcome::SetDeed;
@@ -172,7 +172,7 @@ fn settle_waiting(s: State, mem: &mut [u8]) -> State
     ensures { λ r. ⌜ Steps (settle s (now (mem .entry))) r (now (mem .exit)) ⌝ }
 {
     let t = after_reply(s);
-    carry_out(t, mem, settled(busy(s), t.control), 0)
+    carry_out(t, mem, clear_noted(busy(s), t.control), 0)
 }
 
 // The line settled. Nearly always nothing waits, and the state is left as it is.

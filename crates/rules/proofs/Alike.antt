@@ -24,5 +24,5 @@ exchange-same s = ap exchanging (s .phase-same)
 pub refilled-alike : (g : Setup) (c : Control) (r : Request) → Alike c (refilled g c r)
 unfolding refilled
 refilled-alike g c r =
-    by-test (Alike c) (acts g r && toStation g r && owns c (masterOf r)) (withWatchdog c (record { reload = c .watchdog .reload; left = c .watchdog .reload })) c
+    by-test (Alike c) (acts g r && toStation g r && owns c (masterOf r)) (withWatchdog c (record { reload = c .watchdog .reload; remaining = c .watchdog .reload })) c
     (λ _. alike refl refl refl) (λ _. alike refl refl refl)

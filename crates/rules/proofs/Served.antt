@@ -30,8 +30,8 @@ use Rattle.rules.specs.Control.{bit, inExchange, owns, withEvents, withS
 use Rattle.rules.specs.Phases.{drawing, leftExchange, waitPrm, enteringWaitPrm, waitCfg, dataExch, zerosIfLeft}
 use Rattle.rules.specs.Requests.{masterOf, refilled, serviceOf}
 use Rattle.rules.specs.Services.{otherOwns, otherIdent, wantsWatchdog, badFactors, parametrized, setPrm, chkCfg, exchanges, dataExchange, slaveDiag, controls, storing, globalControl, serve, outcomeBy}
-use Rattle.rules.specs.Line.{clearOn, settled, counts, withLeft, ticked}
-use Rattle.rules.specs.User.{onSets, judgedParameters, judgedConfiguration}
+use Rattle.rules.specs.Line.{clearOn, clearNoted, counts, withRemaining, ticked}
+use Rattle.rules.specs.User.{changingSets, judgedParameters, judgedConfiguration}
 use Rattle.rules.proofs.Headed.{Plain, To, Headed, headed}
 use Rattle.rules.proofs.Alike.{Alike, alike, exchange-same, refilled-alike}
 
@@ -120,7 +120,7 @@ module _ (g : Setup) (c : Control) {Clear : Type 0} where
   clear-quiet busy = clears busy c (alike refl refl refl)
 
   -- a noted clear where the line is idle
-  pub settled-quiet : (busy : Bool) → (busy ≡ false → Clear) → Quiet g c Clear (settled busy c)
+  pub settled-quiet : (busy : Bool) → (busy ≡ false → Clear) → Quiet g c Clear (clearNoted busy c)
   settled-quiet busy f =
       pick (c .noted && not busy) (λ e. enters _ refl refl (f (not-true busy (and-right (c .noted) (not busy) e)))) (λ _. draws (alike refl refl refl) (λ e. no-true e))
 
@@ -129,12 +129,12 @@ module _ (g : Setup) (c : Control) {Clear : Type 0} where
   unfolding ticked
   ticked-quiet busy f =
       pick (not (counts c)) (λ _. draws (alike refl refl refl) (λ e. no-true e))
-      (λ _. pick (leb (c .watchdog .left) 1) (λ _. clears busy (raise (withLeft c 0) watchdogEvent) (alike refl refl refl) f)
+      (λ _. pick (leb (c .watchdog .remaining) 1) (λ _. clears busy (raise (withRemaining c 0) watchdogEvent) (alike refl refl refl) f)
       (λ _. draws (alike refl refl refl) (λ e. no-true e)))
 
   -- only sets that were there change
   moves : (k : Control) (p q : SetDeed) → k .diagnosis ≡ c .diagnosis → (inExchange c ≡ true → inExchange k ≡ true)
-      → Receives (⊥ × Within 7 0 (g .«parameter_len»)) p → Receives (⊥ × Within 1 0 (g .«configuration_len»)) q → Quiet g c Clear (onSets k p q)
+      → Receives (⊥ × Within 7 0 (g .«parameter_len»)) p → Receives (⊥ × Within 1 0 (g .«configuration_len»)) q → Quiet g c Clear (changingSets k p q)
   moves k p q e f x y = record {
     counts-stay = e;
     outputs-come = tt;

@@ -6,8 +6,8 @@ use lib.Dec.{eqb, leb, ltb}
 use Rattle.state.specs.declared.setup.Setup.{Setup}
 
 -- what each kind is set to hold at most; 0 where there is no such kind
-abbrev pub lengthOf : Setup → ℕ → ℕ
-lengthOf s kind =
+abbrev pub kindLength : Setup → ℕ → ℕ
+kindLength s kind =
     cond (eqb kind 1) (s .«output_len»)
     (cond (eqb kind 2) (s .«parameter_len»)
     (cond (eqb kind 3) (s .«configuration_len»)
@@ -20,4 +20,4 @@ writable kind = eqb kind 4 || eqb kind 5
 
 -- index from 0, for 5 from 6, below the kind's set length
 abbrev pub inRange : Setup → ℕ → ℕ → Bool
-inRange s kind index = leb (cond (eqb kind 5) 6 0) index && ltb index (lengthOf s kind)
+inRange s kind index = leb (cond (eqb kind 5) 6 0) index && ltb index (kindLength s kind)

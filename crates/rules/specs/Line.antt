@@ -20,20 +20,20 @@ abbrev pub clearOn : Bool → Control → Outcome
 clearOn busy c = cond busy (drawing (withNoted c true) Nothing) (clearing c)
 
 -- a noted clear is carried out when the line is idle
-abbrev pub settled : Bool → Control → Outcome
-settled busy c = cond (c .noted && not busy) (clearing c) (drawing c Nothing)
+abbrev pub clearNoted : Bool → Control → Outcome
+clearNoted busy c = cond (c .noted && not busy) (clearing c) (drawing c Nothing)
 
 -- in WAIT_CFG or DATA_EXCH with the watchdog on
 abbrev pub counts : Control → Bool
 counts c = not (inWaitPrm (c .phase)) && not (eqb (c .watchdog .reload) 0)
 
 -- the watchdog with n ticks left
-abbrev pub withLeft : Control → ℕ → Control
-withLeft c n = withWatchdog c (record { reload = c .watchdog .reload; left = n })
+abbrev pub withRemaining : Control → ℕ → Control
+withRemaining c n = withWatchdog c (record { reload = c .watchdog .reload; remaining = n })
 
 -- a Tick where no clear is noted: the watchdog counts down; at 0, event 3 and a clear
 unfoldable pub ticked : Bool → Control → Outcome
 ticked busy c =
     cond (not (counts c)) (drawing c Nothing)
-    (cond (leb (c .watchdog .left) 1) (clearOn busy (raise (withLeft c 0) watchdogEvent))
-    (drawing (withLeft c (c .watchdog .left - 1)) Nothing))
+    (cond (leb (c .watchdog .remaining) 1) (clearOn busy (raise (withRemaining c 0) watchdogEvent))
+    (drawing (withRemaining c (c .watchdog .remaining - 1)) Nothing))

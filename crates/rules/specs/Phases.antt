@@ -31,7 +31,7 @@ waitPrm c =
       owner = noOwner;
       group = 0;
       stored = 0;
-      watchdog = record { reload = 0; left = 0 };
+      watchdog = record { reload = 0; remaining = 0 };
       flags = c .flags;
       events = raised (cleared (cleared (leftExchange c) configurationEvent) parametersEvent) outputsEvent;
       noted = c .noted;

@@ -59,7 +59,7 @@ acts s r = (toStation s r || toAll r) && leb (masterOf r) 126 && not (bit (r .fc
 unfoldable pub refilled : Setup → Control → Request → Control
 refilled s c r =
     cond (acts s r && toStation s r && owns c (masterOf r))
-    (withWatchdog c (record { reload = c .watchdog .reload; left = c .watchdog .reload }))
+    (withWatchdog c (record { reload = c .watchdog .reload; remaining = c .watchdog .reload }))
     c
 
 -- the status request is an SD1, which has no extension

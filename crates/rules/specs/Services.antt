@@ -63,7 +63,7 @@ parametrized c opened master p =
       owner = master;
       group = p .group;
       stored = c .stored;
-      watchdog = record { reload = ticksOf p; left = ticksOf p };
+      watchdog = record { reload = ticksOf p; remaining = ticksOf p };
       flags = withoutFaults (c .flags);
       events = showing (cleared (waitCfg c .events) configurationEvent) opened parametersEvent;
       noted = c .noted;
@@ -123,15 +123,15 @@ abbrev pub exchanges : Control → Request → Bool
 exchanges c r = owns c (masterOf r) && inExchange c
 
 -- the data is published, event 13; the inputs are drawn
-abbrev pub accepted : Control → Outcome
-accepted c =
+abbrev pub goodExchange : Control → Outcome
+goodExchange c =
     record { control = raise c outputsEvent; outputs = outputs-deed.Publish; parameters = set-deed.Keep; configuration = set-deed.Keep; drawn = drawn.Exchange }
 
 -- in this order
 unfoldable pub dataExchange : Setup → Control → Request → Outcome
 dataExchange s c r =
     cond (not (exchanges c r)) (drawing c drawn.Rejected)
-    (cond (not (eqb (r .count) (s .«output_len»))) (enteringWaitPrm (cfgFault c) drawn.Rejected) (accepted c))
+    (cond (not (eqb (r .count) (s .«output_len»))) (enteringWaitPrm (cfgFault c) drawn.Rejected) (goodExchange c))
 
 -- The services without data ---------------------------------------------------------------------
 

@@ -11,20 +11,20 @@ use Rattle.rules.specs.Control.{withFlags, clear, withPrmFault, withCfgF
 use Rattle.rules.specs.Phases.{enteringWaitPrm, dataExch}
 
 -- only these sets change
-abbrev pub onSets : Control → SetDeed → SetDeed → Outcome
-onSets c p q = record { control = c; outputs = outputs-deed.Keep; parameters = p; configuration = q; drawn = Nothing }
+abbrev pub changingSets : Control → SetDeed → SetDeed → Outcome
+changingSets c p q = record { control = c; outputs = outputs-deed.Keep; parameters = p; configuration = q; drawn = Nothing }
 
 -- judge parameters: a newer set that waits is shown instead, with no other effect; else the set is closed, with its event;
 -- then bad: Prm_Fault, WAIT_PRM, and good: parameter OK
 unfoldable pub judgedParameters : Control → Bool → Bool → Outcome
 judgedParameters c waits good =
-    cond waits (onSets c set-deed.Advance set-deed.Keep)
-    (cond good (onSets (withFlags (clear c parametersEvent) (withParametersGood (c .flags))) set-deed.Drop set-deed.Keep)
+    cond waits (changingSets c set-deed.Advance set-deed.Keep)
+    (cond good (changingSets (withFlags (clear c parametersEvent) (withParametersGood (c .flags))) set-deed.Drop set-deed.Keep)
     (enteringWaitPrm (withFlags (clear c parametersEvent) (withPrmFault (c .flags))) Nothing))
 
 -- judge configuration: likewise; bad: Cfg_Fault, WAIT_PRM, and good: DATA_EXCH
 unfoldable pub judgedConfiguration : Control → Bool → Bool → Outcome
 judgedConfiguration c waits good =
-    cond waits (onSets c set-deed.Keep set-deed.Advance)
-    (cond good (onSets (dataExch (clear c configurationEvent)) set-deed.Keep set-deed.Drop)
+    cond waits (changingSets c set-deed.Keep set-deed.Advance)
+    (cond good (changingSets (dataExch (clear c configurationEvent)) set-deed.Keep set-deed.Drop)
     (enteringWaitPrm (withFlags (clear c configurationEvent) (withCfgFault (c .flags))) Nothing))

@@ -3,11 +3,11 @@ use state::setup::Setup;
 ghost use mathlib.Core.Bool.{cond};
 ghost use mathlib.Core.Path.{_≡_};
 ghost use lib.Dec.{eqb};
-ghost use Rattle.rules.specs.Kinds.{lengthOf, inRange};
+ghost use Rattle.rules.specs.Kinds.{kindLength, inRange};
 
 // What each kind is set to hold at most; 0 where there is no such kind.
-fn length_of(setup: Setup, kind: u32) -> u8
-    ensures { λ r. ⌜ r ≡ lengthOf setup kind ⌝ }
+fn kind_length(setup: Setup, kind: u32) -> u8
+    ensures { λ r. ⌜ r ≡ kindLength setup kind ⌝ }
 {
     if kind == 1 {
         return setup.output_len;
@@ -41,5 +41,5 @@ fn first_of(kind: u32) -> u32
 pub fn in_range(setup: Setup, kind: u32, index: u32) -> bool
     ensures { λ r. ⌜ r ≡ inRange setup kind index ⌝ }
 {
-    (first_of(kind) <= index) & (index < length_of(setup, kind) as u32)
+    (first_of(kind) <= index) & (index < kind_length(setup, kind) as u32)
 }

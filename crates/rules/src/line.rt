@@ -9,7 +9,7 @@ use state::state::Drawn;
 ghost use mathlib.Core.Path.{_≡_};
 ghost use Rattle.buffers.specs.Events.{watchdogEvent};
 ghost use Rattle.rules.specs.Control.{raise};
-ghost use Rattle.rules.specs.Line.{clearing, clearOn, settled, counts, withLeft, ticked};
+ghost use Rattle.rules.specs.Line.{clearing, clearOn, clearNoted, counts, withRemaining, ticked};
 
 // A clear enters WAIT_PRM, and none is noted any more.
 pub fn clearing(mut control: Control) -> Outcome
@@ -31,8 +31,8 @@ pub fn clear_on(busy: bool, mut control: Control) -> Outcome
 }
 
 // A noted clear is carried out when the line is idle.
-pub fn settled(busy: bool, control: Control) -> Outcome
-    ensures { λ o. ⌜ o ≡ settled busy control ⌝ }
+pub fn clear_noted(busy: bool, control: Control) -> Outcome
+    ensures { λ o. ⌜ o ≡ clearNoted busy control ⌝ }
 {
     if control.noted & !busy {
         return clearing(control);
@@ -51,11 +51,11 @@ fn counts(control: Control) -> bool
 
 // The watchdog at 0: event 3 and a clear.
 fn expired(busy: bool, mut control: Control) -> Outcome
-    ensures { λ o. ⌜ o ≡ clearOn busy (raise (withLeft control 0) watchdogEvent) ⌝ }
+    ensures { λ o. ⌜ o ≡ clearOn busy (raise (withRemaining control 0) watchdogEvent) ⌝ }
 {
     let events = control.events.raise(Events::WATCHDOG);
     control.events = events;
-    control.watchdog.left = 0;
+    control.watchdog.remaining = 0;
     clear_on(busy, control)
 }
 
@@ -63,14 +63,14 @@ fn expired(busy: bool, mut control: Control) -> Outcome
 pub fn ticked(busy: bool, mut control: Control) -> Outcome
     ensures { λ o. ⌜ o ≡ ticked busy control ⌝ }
 {
-    let left = control.watchdog.left;
+    let remaining = control.watchdog.remaining;
     if !counts(control) {
         return drawing(control, Drawn::Nothing);
     }
-    if left <= 1 {
+    if remaining <= 1 {
         return expired(busy, control);
     }
-    let less = left - 1;
-    control.watchdog.left = less;
+    let less = remaining - 1;
+    control.watchdog.remaining = less;
     drawing(control, Drawn::Nothing)
 }

@@ -89,7 +89,7 @@ pub fn wait_prm(control: Control) -> Control
     let events = dropped.raise(Events::OUTPUTS);
     let flags = control.flags;
     let diagnosis = control.diagnosis;
-    let watchdog = Watchdog { reload: 0, left: 0 };
+    let watchdog = Watchdog { reload: 0, remaining: 0 };
     Control {
         phase: Phase::WaitPrm,
         owner: Control::NO_OWNER,

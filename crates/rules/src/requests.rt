@@ -51,7 +51,7 @@ pub fn refilled(setup: Setup, mut control: Control, r: Request) -> Control
     let master = master_of(r);
     if acting & here & (control.owner == master) {
         let reload = control.watchdog.reload;
-        control.watchdog.left = reload;
+        control.watchdog.remaining = reload;
         return control;
     }
     control

@@ -23,7 +23,7 @@ ghost use mathlib.Core.Path.{_≡_};
 ghost use mathlib.Core.Bool.{_&&_};
 ghost use Rattle.rules.specs.Control.{withFlags, withNotSupported};
 ghost use Rattle.rules.specs.Phases.{enteringWaitPrm};
-ghost use Rattle.rules.specs.Services.{otherOwns, otherIdent, wantsWatchdog, badFactors, ticksOf, prmFault, showing, parametrized, goodPrm, setPrm, cfgFault, goodCfg, chkCfg, exchanges, accepted, dataExchange, slaveDiag, readInputs, readOutputs, controls, storing, obeyed, globalControl, serve};
+ghost use Rattle.rules.specs.Services.{otherOwns, otherIdent, wantsWatchdog, badFactors, ticksOf, prmFault, showing, parametrized, goodPrm, setPrm, cfgFault, goodCfg, chkCfg, exchanges, goodExchange, dataExchange, slaveDiag, readInputs, readOutputs, controls, storing, obeyed, globalControl, serve};
 
 // An octet as a wider number.
 fn wide(x: u8) -> u16
@@ -100,7 +100,7 @@ fn parametrized(control: Control, opened: bool, master: u8, p: Prm) -> Control
     let ticks = ticks_of(p);
     let watchdog = Watchdog {
         reload: ticks,
-        left: ticks,
+        remaining: ticks,
     };
     let mut flags = control.flags;
     flags.prm_fault = false;
@@ -218,8 +218,8 @@ fn exchanges(control: Control, r: Request) -> bool
 }
 
 // Accepted: the data is published, event 13; the inputs are drawn.
-fn accepted(mut control: Control) -> Outcome
-    ensures { λ o. ⌜ o ≡ accepted control ⌝ }
+fn good_exchange(mut control: Control) -> Outcome
+    ensures { λ o. ⌜ o ≡ goodExchange control ⌝ }
 {
     let events = control.events.raise(Events::OUTPUTS);
     control.events = events;
@@ -244,7 +244,7 @@ pub fn data_exchange(setup: Setup, control: Control, r: Request) -> Outcome
     if !fits {
         return cfg_fault(control, Drawn::Rejected);
     }
-    accepted(control)
+    good_exchange(control)
 }
 
 // Slave_Diag, DSAP 60: the owner's clears Diag_Flag unless Stat_Diag.

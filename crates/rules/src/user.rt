@@ -8,11 +8,11 @@ use buffers::events::Events;
 use state::control::Control;
 use state::state::Drawn;
 ghost use mathlib.Core.Path.{_≡_};
-ghost use Rattle.rules.specs.User.{onSets, judgedParameters, judgedConfiguration};
+ghost use Rattle.rules.specs.User.{changingSets, judgedParameters, judgedConfiguration};
 
 // Only these sets change.
 fn on_sets(control: Control, parameters: SetDeed, configuration: SetDeed) -> Outcome
-    ensures { λ o. ⌜ o ≡ onSets control parameters configuration ⌝ }
+    ensures { λ o. ⌜ o ≡ changingSets control parameters configuration ⌝ }
 {
     Outcome {
         control,

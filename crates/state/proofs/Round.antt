@@ -91,7 +91,7 @@ round s h r =
             owner = c .owner;
             group = c .group;
             stored = c .stored;
-            watchdog = record { reload = mod-add-div (c .watchdog .reload) 256 i; left = mod-add-div (c .watchdog .left) 256 i };
+            watchdog = record { reload = mod-add-div (c .watchdog .reload) 256 i; remaining = mod-add-div (c .watchdog .remaining) 256 i };
             flags = flags-back (c .flags) i;
             events = record { word = mod-add-div (c .events .word) 256 i };
             noted = b .bit₆ i;

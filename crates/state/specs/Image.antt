@@ -55,8 +55,8 @@ image s =
     ∷ s .control .owner
     ∷ s .control .group
     ∷ s .control .stored
-    ∷ s .control .watchdog .left % 256
-    ∷ s .control .watchdog .left / 256
+    ∷ s .control .watchdog .remaining % 256
+    ∷ s .control .watchdog .remaining / 256
     ∷ s .control .watchdog .reload % 256
     ∷ s .control .watchdog .reload / 256
     ∷ flagsOf (s .control .flags)

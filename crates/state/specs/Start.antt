@@ -60,7 +60,7 @@ firstControl =
       owner = noOwner;
       group = 0;
       stored = 0;
-      watchdog = record { reload = 0; left = 0 };
+      watchdog = record { reload = 0; remaining = 0 };
       flags =
           record {
             «prm_fault» = false;

@@ -78,7 +78,7 @@ controlIn l =
       owner = getD l 10 0;
       group = getD l 11 0;
       stored = getD l 12 0;
-      watchdog = record { reload = wordAt l 15; left = wordAt l 13 };
+      watchdog = record { reload = wordAt l 15; remaining = wordAt l 13 };
       flags = flagsIn (getD l 17 0);
       events = record { word = wordAt l 30 };
       noted = bitAt (marksIn l) 64;

@@ -8,10 +8,10 @@ pub enum Phase {
     DataExch,
 }
 
-// Ticks: what the watchdog is refilled to, 0 where it is off, and how many are left.
+// Ticks: what the watchdog is refilled to, 0 where it is off, and how many remain.
 pub struct Watchdog {
     pub reload: u16,
-    pub left: u16,
+    pub remaining: u16,
 }
 
 // The flags that diagnosis shows, Diag_Flag, and whether the parameters were judged good.

@@ -118,14 +118,14 @@ pub fn control(mem: &[u8]) -> Control
     requires { ⌜ stateLength ≤ length (now mem) ⌝ }
     ensures { λ r. ⌜ r ≡ unpacked (now (mem .entry)) .control ⌝ }
 {
-    let left = word_at(mem, 13);
+    let remaining = word_at(mem, 13);
     let reload = word_at(mem, 15);
     Control {
         phase: phase_numbered(mem[9]),
         owner: mem[10],
         group: mem[11],
         stored: mem[12],
-        watchdog: Watchdog { reload, left },
+        watchdog: Watchdog { reload, remaining },
         flags: flags_in(mem[17]),
         events: events(mem),
         noted: noted(mem),

@@ -14,7 +14,7 @@ use Rattle.telegram.specs.declared.Datum.the-variants.{Number, Nothing}
 use Rattle.telegram.specs.declared.reader.Reader.{Reader}
 use Rattle.telegram.specs.declared.reader.Status.{Status}
 use Rattle.telegram.specs.declared.reader.Status.the-variants.{Fresh, Inside, Complete, Broken}
-use Rattle.telegram.specs.Reading.{step, received, status, takesData, datumOf}
+use Rattle.telegram.specs.Reading.{step, readerAfter, status, takesData, datumOf}
 use Rattle.telegram.proofs.Run.{no-true}
 use Rattle.state.specs.declared.state.Incoming.{Incoming}
 use Rattle.state.specs.declared.state.State.{State}
@@ -45,11 +45,11 @@ module _ (s : State) (m : List ℕ) (b : ℕ) where
   old = s .incoming .reader
 
   -- inside a telegram it is stored if it is data
-  heard-inner : (bad : Bool) → status old ≡ Inside → status (received old b bad) ≡ Inside
-      → heard s m b bad ≡ storedAs (datumOf old) s m (received old b bad) b
+  heard-inner : (bad : Bool) → status old ≡ Inside → status (readerAfter old b bad) ≡ Inside
+      → heard s m b bad ≡ storedAs (datumOf old) s m (readerAfter old b bad) b
   unfolding heard
   heard-inner bad e f =
-      let next = received old b bad in
+      let next = readerAfter old b bad in
       (λ i. cond (isIgnored (e i)) (unchanged s m) (heardAs (f i) s m next b))
       ∙ (λ i. cond (isInside (e i)) (storedAs (datumOf old) s m next b) (settle (beginning s next) m))
 
@@ -60,10 +60,10 @@ module _ (s : State) (m : List ℕ) (b : ℕ) where
       ∙ (λ i. storedAs (cond (e i) (Number (old .at)) Nothing) s m (step old b) b)
 
   -- no data
-  heard-plain : (bad : Bool) → isPlain old (received old b bad) ≡ true
-      → heard s m b bad ≡ record { state = readBy s (received old b bad); memory = m }
+  heard-plain : (bad : Bool) → isPlain old (readerAfter old b bad) ≡ true
+      → heard s m b bad ≡ record { state = readBy s (readerAfter old b bad); memory = m }
   heard-plain bad e =
-      let next = received old b bad in
+      let next = readerAfter old b bad in
       let both = and-left (isInside (status old) && isInside (status next)) (not (takesData old)) e in
       let none = not-true (takesData old) (and-right (isInside (status old) && isInside (status next)) (not (takesData old)) e) in
       heard-inner bad
@@ -73,15 +73,15 @@ module _ (s : State) (m : List ℕ) (b : ℕ) where
 
   -- the others
   heard-other : (bad : Bool) → isIgnored (status old) ≡ false
-      → heard s m b bad ≡ heardAs (status (received old b bad)) s m (received old b bad) b
+      → heard s m b bad ≡ heardAs (status (readerAfter old b bad)) s m (readerAfter old b bad) b
   unfolding heard
   heard-other bad e =
-      ap (λ (t : Bool). cond t (unchanged s m) (heardAs (status (received old b bad)) s m (received old b bad) b)) e
+      ap (λ (t : Bool). cond t (unchanged s m) (heardAs (status (readerAfter old b bad)) s m (readerAfter old b bad) b)) e
 
   heard-ignored : (bad : Bool) → isIgnored (status old) ≡ true → heard s m b bad ≡ unchanged s m
   unfolding heard
   heard-ignored bad e =
-      ap (λ (t : Bool). cond t (unchanged s m) (heardAs (status (received old b bad)) s m (received old b bad) b)) e
+      ap (λ (t : Bool). cond t (unchanged s m) (heardAs (status (readerAfter old b bad)) s m (readerAfter old b bad) b)) e
 
 -- ---- a store leaves the state part
 
@@ -152,8 +152,8 @@ module _ (m : List ℕ) (s : State) (h : Holds m s) where
       ∙ (λ i. kept (withIncoming s (record { reader = data-changes r b e i; first = first; second = second })) n)
       ∙ sym (ap packedAfter (heard-data s m b e))
 
-  plain-octet : (b : ℕ) (bad : Bool) → isPlain (s .incoming .reader) (received (s .incoming .reader) b bad) ≡ true
-      → kept (readBy s (received (s .incoming .reader) b bad)) m ≡ packedAfter (heard s m b bad)
+  plain-octet : (b : ℕ) (bad : Bool) → isPlain (s .incoming .reader) (readerAfter (s .incoming .reader) b bad) ≡ true
+      → kept (readBy s (readerAfter (s .incoming .reader) b bad)) m ≡ packedAfter (heard s m b bad)
   plain-octet b bad e = sym (ap packedAfter (heard-plain s m b bad e))
 
   ignored-octet : (b : ℕ) (bad : Bool) → isIgnored (status (s .incoming .reader)) ≡ true → m ≡ packedAfter (heard s m b bad)
@@ -182,9 +182,9 @@ module _ (m : List ℕ) (s : State) (h : Holds m s) where
           ignored-octet b bad (sym (ep ∙ ap isIgnored ex ∙ (λ t. isIgnored (status (same t .reader)))) ∙ e)
 
       -- next is the reader after the octet
-      module _ (next : Reader) (goes : next ≡ received (i .reader) b bad) where
-        after : next ≡ received (s .incoming .reader) b bad
-        after = goes ∙ (λ t. received (same t .reader) b bad)
+      module _ (next : Reader) (goes : next ≡ readerAfter (i .reader) b bad) where
+        after : next ≡ readerAfter (s .incoming .reader) b bad
+        after = goes ∙ (λ t. readerAfter (same t .reader) b bad)
 
         pub leaves-plain : (p : Bool) (j : Incoming) (out : List ℕ) → p ≡ isPlain (i .reader) next → p ≡ true → j ≡ readOn i next
             → out ≡ kept (withIncoming s j) m → out ≡ packedAfter (heard s m b bad)
@@ -198,7 +198,7 @@ module _ (m : List ℕ) (s : State) (h : Holds m s) where
             → (y : Status) (u t : State) (n out : List ℕ) → y ≡ status next → u ≡ s → Steps (heardAs y u m next b) t n → out ≡ kept t n
             → out ≡ packedAfter (heard s m b bad)
         leaves-other x p ex ep e y u t n out ey eu h k =
-            let told : y ≡ status (received (s .incoming .reader) b bad) = ey ∙ ap status after in
+            let told : y ≡ status (readerAfter (s .incoming .reader) b bad) = ey ∙ ap status after in
             k
             ∙ (λ r. kept (h .states r) (h .leaves r))
             ∙ (λ r. packedAfter (heardAs (told r) (eu r) m (after r) b))

@@ -15,7 +15,7 @@ use Rattle.state.specs.Layout as layout
 use Rattle.state.specs.Layout.{stateLength, countOf, startOf, outputs, inputs, parameters, configuration, diagnosis}
 use Rattle.state.proofs.Places.{inside}
 use Rattle.state.proofs.Tests.{all-at}
-use Rattle.rules.specs.Kinds.{lengthOf, inRange, writable}
+use Rattle.rules.specs.Kinds.{kindLength, inRange, writable}
 use Rattle.steps.specs.Safe.{Safe}
 use Rattle.steps.specs.Replies.{userPlace}
 use Rattle.steps.specs.User.{told, refusing, absent, kindAt, writeOctet}
@@ -38,7 +38,7 @@ module _ (s : State) (m : List ℕ) (kind index : ℕ) (safe : Safe s m) where
   pub reached : inRange (s .setup) kind index ≡ true → Lies m (kindAt s kind + index)
   reached e =
       go (eqb kind 1) (eqb kind 2) (eqb kind 3) (eqb kind 4) (eqb kind 5)
-      (all-at (leb (cond (eqb kind 5) 6 0) index ∷ ltb index (lengthOf (s .setup) kind) ∷ []) 1 e)
+      (all-at (leb (cond (eqb kind 5) 6 0) index ∷ ltb index (kindLength (s .setup) kind) ∷ []) 1 e)
     where
       go : (b₁ b₂ b₃ b₄ b₅ : Bool)
           → ltb index

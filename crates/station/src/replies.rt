@@ -21,7 +21,7 @@ ghost use Rattle.octets.specs.Part.{part};
 ghost use Rattle.state.specs.Memory.{Holds};
 ghost use Rattle.state.specs.Unpack.{unpacked};
 ghost use Rattle.state.specs.Start.{noReply};
-ghost use Rattle.steps.specs.Replies.{servicing, senderFor, replyFor, ownPlace, userPlace, headerAt, contentAt, pointOf, isExchange, datumAt, askedFor};
+ghost use Rattle.steps.specs.Replies.{servicing, senderFor, replyFor, ownPlace, userPlace, headerAt, contentAt, replyPoint, isExchange, datumAt, askedFor};
 
 // SD2 with bit 7 in both addresses: DSAP and SSAP stand before n data octets.
 fn servicing(setup: Setup, master: u8, n: u8) -> Sender
@@ -177,8 +177,8 @@ fn content_at(drawn: Drawn, mem: &[u8], i: u8) -> u8
 }
 
 // The service point that a reply comes from.
-fn point_of(drawn: Drawn) -> u8
-    ensures { λ r. ⌜ r ≡ pointOf drawn ⌝ }
+fn reply_point(drawn: Drawn) -> u8
+    ensures { λ r. ⌜ r ≡ replyPoint drawn ⌝ }
 {
     match drawn {
         Drawn::Nothing => 0,
@@ -223,7 +223,7 @@ fn datum_at(mem: &[u8], k: u8) -> u8
         return 0x3E;
     }
     if k == 1 {
-        return point_of(drawn);
+        return reply_point(drawn);
     }
     content_at(drawn, mem, k - 2)
 }

@@ -83,15 +83,15 @@ pub record Begins (m : List ℕ) (s : Setup) : Type 0 where
   pub room : endOf s ≤ length m
 
 -- what it answers and leaves then
-abbrev pub begun : List ℕ → Setup → List ℕ → Called
-begun m s slice = record { answer = Value 0; memory = laidOut m s slice }
+abbrev pub answeredZero : List ℕ → Setup → List ℕ → Called
+answeredZero m s slice = record { answer = Value 0; memory = laidOut m s slice }
 
 -- an answer 0 says that there is room
 laid-room : (m : List ℕ) (s : Setup) (slice : List ℕ) → startedIn m s slice .answer ≡ Value 0 → endOf s ≤ length m
 unfolding startedIn
 laid-room m s slice h = go (ltb (length m) (endOf s)) refl h
   where
-    go : (t : Bool) → ltb (length m) (endOf s) ≡ t → cond t (refused m Room) (begun m s slice) .answer ≡ Value 0 → endOf s ≤ length m
+    go : (t : Bool) → ltb (length m) (endOf s) ≡ t → cond t (refused m Room) (answeredZero m s slice) .answer ≡ Value 0 → endOf s ≤ length m
     go true e f = absurd (let z : _≡_ {A = ℕ} 0 1 = cc in omega arith)
     go false e f = ltb-false (length m) (endOf s) e
 
@@ -100,7 +100,7 @@ laid-same : (m : List ℕ) (s : Setup) (slice : List ℕ) (why : Refusal) → st
 unfolding startedIn
 laid-same m s slice why h = go (ltb (length m) (endOf s)) h
   where
-    go : (t : Bool) → cond t (refused m Room) (begun m s slice) .answer ≡ Refused why → cond t (refused m Room) (begun m s slice) .memory ≡ m
+    go : (t : Bool) → cond t (refused m Room) (answeredZero m s slice) .answer ≡ Refused why → cond t (refused m Room) (answeredZero m s slice) .memory ≡ m
     go true f = refl
     go false f = absurd (let z : _≡_ {A = ℕ} 0 1 = cc in omega arith)
 
@@ -138,11 +138,11 @@ module _ (m : List ℕ) (s : Setup) (slice : List ℕ) where
           }
 
   -- and where they are kept it answers 0
-  pub begins-started : Begins m s → started m s slice ≡ begun m s slice
+  pub begins-started : Begins m s → started m s slice ≡ answeredZero m s slice
   unfolding startedIn
   begins-started b =
       started-accepted s (length-holds (length m) (b .length-in)) (ranged-asked s (b .ranged))
-      ∙ ap (λ (t : Bool). cond t (refused m Room) (begun m s slice)) (le-ltb (length m) (endOf s) (b .room))
+      ∙ ap (λ (t : Bool). cond t (refused m Room) (answeredZero m s slice)) (le-ltb (length m) (endOf s) (b .room))
 
   -- a refusal leaves the memory as it was
   pub refused-same : (why : Refusal) → started m s slice .answer ≡ Refused why → started m s slice .memory ≡ m

@@ -7,7 +7,7 @@ use Rattle.state.specs.declared.state.Drawn.the-variants.{Nothing}
 use Rattle.state.specs.declared.state.State.{State}
 use Rattle.rules.specs.Phases.{drawing}
 use Rattle.rules.specs.Diagnosis.{delayed, caughtUp}
-use Rattle.rules.specs.Line.{clearing, settled}
+use Rattle.rules.specs.Line.{clearing, clearNoted}
 use Rattle.steps.specs.Stepped.{Stepped, Steps, unchanged}
 use Rattle.steps.specs.Deeds.{busy, diagnosisLeaves, diagnosisChanged, carried, afterReply, settle}
 use Rattle.state.proofs.Choice.{or-left, or-right}
@@ -17,14 +17,14 @@ module _ (s : State) (m : List ℕ) where
   unfolding afterReply
   prompt e = ap (λ (t : Bool). cond (t && not (diagnosisLeaves s)) (diagnosisChanged s (caughtUp (s .control))) s) e
 
-  kept : s .control .noted ≡ false → carried s m (settled (busy s) (s .control)) 0 ≡ unchanged s m
+  kept : s .control .noted ≡ false → carried s m (clearNoted (busy s) (s .control)) 0 ≡ unchanged s m
   unfolding carried
   kept e = ap (λ (t : Bool). carried s m (cond (t && not (busy s)) (clearing (s .control)) (drawing (s .control) Nothing)) 0) e
 
   pub idle : delayed (s .control) || s .control .noted ≡ false → settle s m ≡ unchanged s m
   unfolding settle
   idle e =
-      ap (λ (x : State). carried x m (settled (busy s) (x .control)) 0) (prompt (or-left (delayed (s .control)) (s .control .noted) e))
+      ap (λ (x : State). carried x m (clearNoted (busy s) (x .control)) 0) (prompt (or-left (delayed (s .control)) (s .control .noted) e))
       ∙ kept (or-right (delayed (s .control)) (s .control .noted) e)
 
   -- as the code leaves it

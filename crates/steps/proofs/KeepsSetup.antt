@@ -11,13 +11,13 @@ use Rattle.telegram.specs.declared.Datum.the-variants.{Number, Nothing}
 use Rattle.telegram.specs.declared.reader.Reader.{Reader}
 use Rattle.telegram.specs.declared.reader.Status.{Status}
 use Rattle.telegram.specs.declared.reader.Status.the-variants.{Fresh, Inside, Complete, Broken}
-use Rattle.telegram.specs.Reading.{start, off, received, status, datumOf}
+use Rattle.telegram.specs.Reading.{start, off, readerAfter, status, datumOf}
 use Rattle.telegram.specs.Sending.{left, sent}
 use Rattle.state.specs.declared.state.State.{State}
 use Rattle.state.specs.Well.{within}
 use Rattle.rules.specs.declared.outcome.Outcome.{Outcome}
 use Rattle.rules.specs.Diagnosis.{delayed}
-use Rattle.rules.specs.Line.{settled, ticked}
+use Rattle.rules.specs.Line.{clearNoted, ticked}
 use Rattle.rules.specs.Kinds.{inRange, writable}
 use Rattle.rules.specs.Call.{Call, octet, gap, send, tick, take, read, write, hand-over, new-diagnosis, judge-parameters, judge-configuration, events, acknowledge, pending, leave}
 use Rattle.state.specs.With.{withReply}
@@ -61,7 +61,7 @@ after-reply-setup s = either (λ (x : State). x .setup ≡ s .setup) (delayed (s
 settle-keeps : (s : State) (m : List ℕ) → Safe s m → KeepsStep s m (settle s m)
 unfolding settle
 settle-keeps s m h =
-    on (same (after-reply-setup s)) (carried-keeps (afterReply s) m (safe-after-reply s m h) (settled (busy s) (afterReply s .control)) 0)
+    on (same (after-reply-setup s)) (carried-keeps (afterReply s) m (safe-after-reply s m h) (clearNoted (busy s) (afterReply s .control)) 0)
 
 module _ (s : State) (m : List ℕ) (h : Safe s m) where
   stored-keeps : (d : Datum) (r : Reader) (b : ℕ) → KeepsStep s m (storedAs d s m r b)
@@ -86,7 +86,7 @@ module _ (s : State) (m : List ℕ) (h : Safe s m) where
   unfolding heard
   heard-keeps b bad =
       either (KeepsStep s m) (isIgnored (status (s .incoming .reader))) (same refl)
-      (heard-as-keeps (status (received (s .incoming .reader) b bad)) (received (s .incoming .reader) b bad) b)
+      (heard-as-keeps (status (readerAfter (s .incoming .reader) b bad)) (readerAfter (s .incoming .reader) b bad) b)
 
   send-keeps : KeepsStep s m (sendLeft s m)
   unfolding sendLeft

@@ -15,7 +15,7 @@ use Rattle.telegram.specs.declared.Datum.the-variants.{Number, Nothing}
 use Rattle.telegram.specs.declared.reader.Reader.{Reader}
 use Rattle.telegram.specs.declared.reader.Status.{Status}
 use Rattle.telegram.specs.declared.reader.Status.the-variants.{Fresh, Inside, Complete, Broken}
-use Rattle.telegram.specs.Reading.{start, off, received, status, datumOf}
+use Rattle.telegram.specs.Reading.{start, off, readerAfter, status, datumOf}
 use Rattle.telegram.specs.Sending.{left, sent}
 use Rattle.state.specs.declared.control.Control.{Control}
 use Rattle.state.specs.declared.state.Drawn.{Drawn}
@@ -33,7 +33,7 @@ use Rattle.rules.specs.declared.outcome.SetDeed.the-variants as set-deed
 use Rattle.rules.specs.declared.outcome.Outcome.{Outcome}
 use Rattle.rules.specs.declared.request.Request.{Request}
 use Rattle.rules.specs.Requests.{masterOf}
-use Rattle.rules.specs.Line.{settled, ticked}
+use Rattle.rules.specs.Line.{clearNoted, ticked}
 use Rattle.rules.specs.Diagnosis.{delayed, caughtUp}
 use Rattle.steps.specs.Safe.{Safe}
 use Rattle.steps.specs.Stepped.{Stepped, Steps, unchanged}
@@ -191,7 +191,7 @@ safe-after-reply s m h = go (delayed (s .control) && not (diagnosisLeaves s))
 
 pub safe-settle : (s : State) (m : List ℕ) → Safe s m → Safely (settle s m)
 unfolding settle
-safe-settle s m h = safe-carried (afterReply s) m (settled (busy s) (afterReply s .control)) 0 (safe-after-reply s m h)
+safe-settle s m h = safe-carried (afterReply s) m (clearNoted (busy s) (afterReply s .control)) 0 (safe-after-reply s m h)
 
 -- ---- a reply drawn
 
@@ -240,9 +240,9 @@ pub safe-heard : (s : State) (m : List ℕ) (b : ℕ) (bad : Bool) → Safe s m 
 unfolding heard
 safe-heard s m b bad h =
     safe-cond (isIgnored (status (s .incoming .reader))) (unchanged s m)
-    (heardAs (status (received (s .incoming .reader) b bad)) s m (received (s .incoming .reader) b bad) b)
+    (heardAs (status (readerAfter (s .incoming .reader) b bad)) s m (readerAfter (s .incoming .reader) b bad) b)
     h
-    (safe-heard-as (status (received (s .incoming .reader) b bad)) s m (received (s .incoming .reader) b bad) b h)
+    (safe-heard-as (status (readerAfter (s .incoming .reader) b bad)) s m (readerAfter (s .incoming .reader) b bad) b h)
 
 -- ---- a gap, an octet sent and a Tick
 

@@ -22,7 +22,7 @@ use Rattle.rules.specs.declared.outcome.SetDeed.{SetDeed}
 use Rattle.rules.specs.declared.outcome.SetDeed.the-variants as set-deed
 use Rattle.rules.specs.declared.outcome.Outcome.{Outcome}
 use Rattle.rules.specs.declared.request.OpenSets.{OpenSets}
-use Rattle.rules.specs.Line.{settled}
+use Rattle.rules.specs.Line.{clearNoted}
 use Rattle.rules.specs.Replies.{diagnoses}
 use Rattle.rules.specs.Diagnosis.{delayed, caughtUp}
 use Rattle.steps.specs.Stepped.{Stepped}
@@ -127,4 +127,4 @@ afterReply s = cond (delayed (s .control) && not (diagnosisLeaves s)) (diagnosis
 
 -- and then a noted clear where the line is idle
 unfoldable pub settle : State → List ℕ → Stepped
-settle s m = carried (afterReply s) m (settled (busy s) (afterReply s .control)) 0
+settle s m = carried (afterReply s) m (clearNoted (busy s) (afterReply s .control)) 0

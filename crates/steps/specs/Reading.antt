@@ -11,7 +11,7 @@ use Rattle.telegram.specs.declared.Datum.the-variants.{Number, Nothing}
 use Rattle.telegram.specs.declared.reader.Reader.{Reader}
 use Rattle.telegram.specs.declared.reader.Status.{Status}
 use Rattle.telegram.specs.declared.reader.Status.the-variants.{Fresh, Inside, Complete, Broken}
-use Rattle.telegram.specs.Reading.{off, received, status, takesData, datumOf}
+use Rattle.telegram.specs.Reading.{off, readerAfter, status, takesData, datumOf}
 use Rattle.state.specs.declared.state.Incoming.{Incoming}
 use Rattle.state.specs.declared.state.State.{State}
 use Rattle.state.specs.Layout.{outputsAt, parametersAt, configurationAt}
@@ -107,8 +107,8 @@ abbrev pub completed : State → List ℕ → Reader → Stepped
 completed s m r = answered (readBy s r) m (outcomeOf (readBy s r) m (requestBy r)) (requestBy r)
 
 -- the line settled after a step
-abbrev pub settled : Stepped → Stepped
-settled r = settle (r .state) (r .memory)
+abbrev pub settleAfter : Stepped → Stepped
+settleAfter r = settle (r .state) (r .memory)
 
 -- a beginning drops an unfinished reply
 abbrev pub beginning : State → Reader → State
@@ -119,7 +119,7 @@ abbrev pub heardAs : Status → State → List ℕ → Reader → ℕ → Steppe
 heardAs Fresh s m r b = unchanged s m
 heardAs Inside s m r b =
     cond (begun s) (storedAs (datumOf (s .incoming .reader)) s m r b) (settle (beginning s r) m)
-heardAs Complete s m r b = settled (completed s m r)
+heardAs Complete s m r b = settleAfter (completed s m r)
 heardAs Broken s m r b = settle (readBy s off) m
 
 -- octets are ignored until a gap after a complete telegram, and after one broken off
@@ -137,4 +137,4 @@ isPlain r next = isInside (status r) && isInside (status next) && not (takesData
 unfoldable pub heard : State → List ℕ → ℕ → Bool → Stepped
 heard s m b bad =
     cond (isIgnored (status (s .incoming .reader))) (unchanged s m)
-    (heardAs (status (received (s .incoming .reader) b bad)) s m (received (s .incoming .reader) b bad) b)
+    (heardAs (status (readerAfter (s .incoming .reader) b bad)) s m (readerAfter (s .incoming .reader) b bad) b)

@@ -78,16 +78,16 @@ contentAt Diagnosis s m i =
     (getD (part m (diagnosisAt (s .setup) (ownPlace (s .swapped))) (s .setup .«diagnosis_len»)) i 0)
 
 -- the service point that a reply comes from
-abbrev pub pointOf : Drawn → ℕ
-pointOf Nothing = 0
-pointOf Acknowledge = 0
-pointOf Status = 0
-pointOf Rejected = 0
-pointOf Exchange = 0
-pointOf Inputs = 56
-pointOf Outputs = 57
-pointOf Configuration = 59
-pointOf Diagnosis = 60
+abbrev pub replyPoint : Drawn → ℕ
+replyPoint Nothing = 0
+replyPoint Acknowledge = 0
+replyPoint Status = 0
+replyPoint Rejected = 0
+replyPoint Exchange = 0
+replyPoint Inputs = 56
+replyPoint Outputs = 57
+replyPoint Configuration = 59
+replyPoint Diagnosis = 60
 
 -- the reply to Data_Exchange
 abbrev pub isExchange : Drawn → Bool
@@ -106,7 +106,7 @@ unfoldable pub datumAt : State → List ℕ → ℕ → ℕ
 datumAt s m k =
     cond (isExchange (s .reply .drawn)) (contentAt Exchange s m k)
     (cond (eqb k 0) 0x3E
-    (cond (eqb k 1) (pointOf (s .reply .drawn)) (contentAt (s .reply .drawn) s m (k - 2))))
+    (cond (eqb k 1) (replyPoint (s .reply .drawn)) (contentAt (s .reply .drawn) s m (k - 2))))
 
 -- the data octet asked for, 0 where none is
 abbrev pub askedAs : Datum → State → List ℕ → ℕ

@@ -19,7 +19,7 @@ use Rattle.rules.specs.Control.{withEvents}
 use Rattle.rules.specs.Diagnosis.{delayed, diagnosed, delaying}
 use Rattle.rules.specs.Line.{clearOn}
 use Rattle.rules.specs.User.{judgedParameters, judgedConfiguration}
-use Rattle.rules.specs.Kinds.{lengthOf, inRange, writable}
+use Rattle.rules.specs.Kinds.{kindLength, inRange, writable}
 use Rattle.state.specs.With.{withControl, withOutputs, withInputs}
 use Rattle.steps.specs.Stepped.{Stepped, unchanged}
 use Rattle.steps.specs.Deeds.{busy, isOpen, diagnosisLeaves, diagnosisChanged, carried}

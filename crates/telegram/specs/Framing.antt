@@ -8,7 +8,7 @@ use Rattle.telegram.specs.declared.reader.Reader.{Reader}
 use Rattle.telegram.specs.declared.reader.Status.the-variants.{Fresh, Inside, Complete, Broken}
 use Rattle.telegram.specs.Checksum.{checksum}
 use Rattle.telegram.specs.Telegram.{Telegram, headOf, coveredOf, octetsOf, payloadOf, Valid, IsTelegram, Octets}
-use Rattle.telegram.specs.Reading.{start, off, received, run, runFrom, status, gathered, finished}
+use Rattle.telegram.specs.Reading.{start, off, readerAfter, run, runFrom, status, gathered, finished}
 
 -- some octets that come after xs complete a telegram
 abbrev pub Continues : List ℕ → Type 0
@@ -33,6 +33,6 @@ pub record Framing (xs : List ℕ) : Type 0 where
   -- no telegram begins with another, and the first octet behind one breaks off
   pub ends : IsTelegram xs → (y : ℕ) (ys : List ℕ) → ¬ IsTelegram (xs ++ y ∷ ys) × (status (run (xs ++ y ∷ ys)) ≡ Broken)
   -- an octet flagged bad breaks off, whatever follows it
-  pub flagged : (b : ℕ) (ys : List ℕ) → status (runFrom (received (run xs) b true) ys) ≡ Broken
+  pub flagged : (b : ℕ) (ys : List ℕ) → status (runFrom (readerAfter (run xs) b true) ys) ≡ Broken
   -- while DA up to the last data octet of a telegram come, the running checksum is their sum modulo 256
   pub sums : (t : Telegram) (ps qs : List ℕ) → Valid t → coveredOf t ≡ ps ++ qs → headOf t ++ ps ≡ xs → (run xs) .sum ≡ checksum ps

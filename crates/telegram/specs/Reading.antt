@@ -110,8 +110,8 @@ unfolding stepAt
 step r b = stepAt (r .phase) r b
 
 -- and after one that may be flagged bad: then it breaks off
-abbrev pub received : Reader → ℕ → Bool → Reader
-received r b bad = cond bad off (step r b)
+abbrev pub readerAfter : Reader → ℕ → Bool → Reader
+readerAfter r b bad = cond bad off (step r b)
 
 -- over a list of octets
 abbrev pub runFrom : Reader → List ℕ → Reader

@@ -3,7 +3,7 @@ use crate::Datum;
 use crate::Kind;
 ghost use mathlib.Core.Path.{_≡_};
 ghost use mathlib.Core.Bool.{true};
-ghost use Rattle.telegram.specs.Reading.{start, off, before, moved, summed, afterSa, afterFc, nextAt, stepAt, step, received, status, inBody, takesData, datumOf};
+ghost use Rattle.telegram.specs.Reading.{start, off, before, moved, summed, afterSa, afterFc, nextAt, stepAt, step, readerAfter, status, inBody, takesData, datumOf};
 
 // What the next octet is.
 pub enum Phase {
@@ -68,7 +68,7 @@ impl Reader {
 
     // The reader after one octet more; one flagged bad by the receiver breaks off.
     pub fn receive(self, octet: u8, bad: bool) -> Reader
-        ensures { λ r. ⌜ r ≡ received self octet bad ⌝ }
+        ensures { λ r. ⌜ r ≡ readerAfter self octet bad ⌝ }
     {
         if bad {
             return Reader::off();

@@ -52,7 +52,7 @@ use Rattle.state.proofs.state.State.Laws as T′
 use Rattle.steps.specs.Safe.{Safe}
 use Rattle.steps.specs.Stepped.{Steps}
 use Rattle.steps.specs.Reading as reading
-use Rattle.lent.specs.Run.{octet, run, received}
+use Rattle.lent.specs.Run.{octet, run, wellReceived}
 use Rattle.lent.proofs.Value.{R, value, values, value-tells, head, typed, over}
 use Rattle.lent.proofs.Loops.{byte, word, refT, refB, sliceM, sliceE, fits-unit, by-bool, next-fits, nearer, reached}
 use Rattle.lent.proofs.OnLocal as on
@@ -129,7 +129,7 @@ module _ {M : Type 1} (𝓤 : URA M) (H : Heap 𝓤) (A : Atoms 𝓤) (W : Given
   abbrev Post : Val → SProp 𝓤
   Post = walkOf 𝓤 H A listen.ended stayed (listen.clauses 𝓤 H A at-mem run′) .post (((κ, (κ′, tt)), (q, (q′, tt)), bounds, a, vals), tt)
 
-  exits : (t : State) (zs : List ℕ) → Steps (run h ys (received sc)) t zs → length zs ≡ length ys → ent 𝓤 (⋆ 𝓤 H A (‵ (R .own t (values t)) ∷ Mem zs ∷ Scr ∷ ‵ (flft κ′ q′) ∷ [])) (Post (value t))
+  exits : (t : State) (zs : List ℕ) → Steps (run h ys (wellReceived sc)) t zs → length zs ≡ length ys → ent 𝓤 (⋆ 𝓤 H A (‵ (R .own t (values t)) ∷ Mem zs ∷ Scr ∷ ‵ (flft κ′ q′) ∷ [])) (Post (value t))
   exits t zs e len =
       qed W (‵ (R .own t (values t)) ∷ Mem zs ∷ Scr ∷ ‵ (flft κ′ q′) ∷ []) ∵
       suffices ! _ (ends-at 𝓤 H A listen.ended stayed (listen.clauses 𝓤 H A at-mem run′) W (((κ, (κ′, tt)), (q, (q′, tt)), bounds, a, vals), tt) (value t) t (tt, (zs, (tt, tt))) (tt, (len, (tt, tt)))) $ says ! e $
@@ -138,7 +138,7 @@ module _ {M : Type 1} (𝓤 : URA M) (H : Heap 𝓤) (A : Atoms 𝓤) (W : Given
 
   -- where the loop stands: i octets are heard, with the state t and the memory zs
   abbrev Pos : Type 0
-  Pos = (p : ℕ × (State × List ℕ)) × ((p .0 ≤ length sc) × Partly h ys (received sc) (p .1 .0) (p .1 .1) (received (skip (p .0) sc)))
+  Pos = (p : ℕ × (State × List ℕ)) × ((p .0 ≤ length sc) × Partly h ys (wellReceived sc) (p .1 .0) (p .1 .1) (wellReceived (skip (p .0) sc)))
 
   abbrev Nearer : Pos → Pos → Type 0
   Nearer y z = length sc - y .0 .0 < length sc - z .0 .0
@@ -191,8 +191,8 @@ module _ {M : Type 1} (𝓤 : URA M) (H : Heap 𝓤) (A : Atoms 𝓤) (W : Given
         room-now = subst (Room u8) (sym (y .1 .1 .long)) room
 
         -- one octet more is heard
-        further : i < length sc → Partly h ys (received sc) t₁ us (received (skip (i + 1) sc))
-        further less = partly-more t zs (octet c false) (received (skip (i + 1) sc)) (subst (Partly h ys (received sc) t zs) (next-octet sc i less) (y .1 .1))
+        further : i < length sc → Partly h ys (wellReceived sc) t₁ us (wellReceived (skip (i + 1) sc))
+        further less = partly-more t zs (octet c false) (wellReceived (skip (i + 1) sc)) (subst (Partly h ys (wellReceived sc) t zs) (next-octet sc i less) (y .1 .1))
 
         -- a turn that takes one octet
         more : i < length sc → ltb i (length sc) ≡ true → Sq W (At y) (runs C Λ En turn-body (anyQ (Turned y)))
@@ -234,7 +234,7 @@ module _ {M : Type 1} (𝓤 : URA M) (H : Heap 𝓤) (A : Atoms 𝓤) (W : Given
             returns ! (look ! 30 refl) $ forget ! 1 refl $ forget ! 17 refl $ forget ! 19 refl $ forget ! 21 refl $ forget ! 24 refl $ forget ! 26 refl $ forget ! 28 refl $ forget ! 30 refl $
             move ! (30 ∷ 31 ∷ []) $ free1 ! $ move ! (28 ∷ 29 ∷ []) $ free1 ! $ move ! (26 ∷ 27 ∷ []) $ free1 ! $ move ! (24 ∷ 25 ∷ []) $ free1 ! $ move ! (1 ∷ 23 ∷ []) $ free1 ! $ move ! (20 ∷ 21 ∷ []) $ free1 ! $ move ! (18 ∷ 19 ∷ []) $ free1 ! $
             move ! (16 ∷ 17 ∷ []) $ free1 ! $ move ! (14 ∷ 15 ∷ []) $ free1 ! $ move ! (12 ∷ 13 ∷ []) $ free1 ! $ move ! (10 ∷ 11 ∷ []) $ free1 ! $ move ! (8 ∷ 9 ∷ []) $ free1 ! $ move ! (6 ∷ 7 ∷ []) $ free1 ! $ move ! (4 ∷ 5 ∷ []) $ free1 ! $ free0 ! $
-            by ! (exits t zs (partly-all t zs (subst (Partly h ys (received sc) t zs) (no-octet sc i (y .1 .0) (ltb-false i (length sc) e)) (y .1 .1))) (y .1 .1 .long)))
+            by ! (exits t zs (partly-all t zs (subst (Partly h ys (wellReceived sc) t zs) (no-octet sc i (y .1 .0) (ltb-false i (length sc) e)) (y .1 .1))) (y .1 .1 .long)))
 
         turns : Sq W (At y) (runs C Λ En turn-body (anyQ (Turned y)))
         turns = by-bool (ltb i (length sc)) (λ e. more (ltb-true i (length sc) e) e) ends
@@ -249,7 +249,7 @@ module _ {M : Type 1} (𝓤 : URA M) (H : Heap 𝓤) (A : Atoms 𝓤) (W : Given
         -- the local's cell goes together with what it owns, and the memory's slice with its token
         move ! (29 ∷ []) $ fsplit ! $ move ! (1 ∷ []) $ fsplit ! $ move ! (1 ∷ []) $ fsplit ! $ move ! (32 ∷ []) $ split ! $ move ! (1 ∷ []) $ split ! $ move ! (25 ∷ 6 ∷ []) $ join ! $ move ! (6 ∷ 3 ∷ []) $ join ! $
         keep ! (1 ∷ 0 ∷ 4 ∷ 2 ∷ 6 ∷ 7 ∷ 8 ∷ 9 ∷ 10 ∷ 11 ∷ 12 ∷ 13 ∷ 14 ∷ 15 ∷ 16 ∷ 17 ∷ 18 ∷ 19 ∷ 20 ∷ 21 ∷ 22 ∷ 23 ∷ 24 ∷ 25 ∷ 26 ∷ 27 ∷ 28 ∷ 29 ∷ 30 ∷ 31 ∷ 32 ∷ []) $
-        first ! $ blocks ! $ loops ! 𝓣 Nearer Nearer-wf (At l₀ l₁ l₂ l₃ l₄ l₅ l₆ l₇ l₈ l₉ l₁₀ l₁₁ l₁₂ l₁₃) (turns l₀ l₁ l₂ l₃ l₄ l₅ l₆ l₇ l₈ l₉ l₁₀ l₁₁ l₁₂ l₁₃) ((0, (h, ys)), (omega arith, partly-none h ys (received sc) safe))))))))))))))))
+        first ! $ blocks ! $ loops ! 𝓣 Nearer Nearer-wf (At l₀ l₁ l₂ l₃ l₄ l₅ l₆ l₇ l₈ l₉ l₁₀ l₁₁ l₁₂ l₁₃) (turns l₀ l₁ l₂ l₃ l₄ l₅ l₆ l₇ l₈ l₉ l₁₀ l₁₁ l₁₂ l₁₃) ((0, (h, ys)), (omega arith, partly-none h ys (wellReceived sc) safe))))))))))))))))
 
 module _ {M : Type 1} (𝓤 : URA M) (H : Heap 𝓤) (A : Atoms 𝓤) (W : Given 𝓤 H A) (mem : Memory → SProp 𝓤) (run′ : Routine → Fun 𝓤) (𝓣 : Tables 𝓤 H) where
   listen-walks : FmC 𝓤 H (W .laws) (𝓣 .C) → Triple 𝓤 (𝓣 .C #lent·octet) (Octet 𝓤 H A mem run′) → Walks 𝓤 H A listen.ended stayed (WpFn 𝓤 H (𝓣 .C) (𝓣 .Λ) fn) (listen.clauses 𝓤 H A mem run′)

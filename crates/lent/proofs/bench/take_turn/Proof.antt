@@ -2,7 +2,7 @@
 use denote.Ref.{now}
 use mathlib.Core.List.{[], _∷_, _++_}
 use borrow.Author.Needs.{needs}
-use Rattle.lent.specs.Run.{gap, received, ticks}
+use Rattle.lent.specs.Run.{gap, wellReceived, ticks}
 use Rattle.lent.proofs.Turns.{safe-after, in-turn, gap-run}
 use Rattle.lent.proofs.bench.take_turn.Statement.{statement}
 use Rattle.lent.proofs.bench.take_turn.Tie as tie
@@ -20,7 +20,7 @@ wait-requires c κs =
     let heard = c .before .before .before in
     let begun = heard .before .before .before .before in
     let first = begun .before .before .before .before in
-    safe-after _ _ (received (now (first .args .telegram))) _ _
+    safe-after _ _ (wellReceived (now (first .args .telegram))) _ _
     (safe-after _ _ (gap ∷ []) _ _ (first .pre) (gap-run _ _ _ _ (begun .pause .ensures))) (heard .listen .ensures)
 
 same-length : tie.Need-same-length
@@ -32,7 +32,7 @@ returns c =
     let heard = waited .before .before .before .before in
     let begun = heard .before .before .before .before in
     let first = begun .before .before .before .before in
-    let octets = received (now (first .args .telegram)) in
+    let octets = wellReceived (now (first .args .telegram)) in
     let waits = ticks (first .args .count) in
     in-turn _ _ (gap ∷ []) (octets ++ waits) _ _ _ _ (gap-run _ _ _ _ (begun .pause .ensures))
     (in-turn _ _ octets waits _ _ _ _ (heard .listen .ensures) (waited .wait .ensures))

@@ -10,8 +10,8 @@ after-reply-requires c κs = search needs
 busy-requires : tie.Need-busy-requires
 busy-requires c κs = search needs
 
-settled-requires : tie.Need-settled-requires
-settled-requires c κs = search needs
+clear-noted-requires : tie.Need-clear-noted-requires
+clear-noted-requires c κs = search needs
 
 carry-out-requires : tie.Need-carry-out-requires
 carry-out-requires c κs =
@@ -27,7 +27,7 @@ returns c =
     rw (
       ← c .before .before .before .before .before .before .after-reply .ensures,
       ← c .before .before .before .before .busy .ensures,
-      ← c .before .before .before .settled .ensures,
+      ← c .before .before .before .clear-noted .ensures,
     )
     (c .before .before .carry-out .ensures)
 
@@ -37,7 +37,7 @@ settle-waiting-spec =
     (tie.spec
     after-reply-requires
     busy-requires
-    settled-requires
+    clear-noted-requires
     carry-out-requires
     same-length
     returns)

@@ -26,8 +26,8 @@ returns-2 c =
       c .cfg-fault .ensures,
     )
 
-accepted-requires : tie.Need-accepted-requires
-accepted-requires c κs = search needs
+good-exchange-requires : tie.Need-good-exchange-requires
+good-exchange-requires c κs = search needs
 
 returns-3 : tie.Need-returns-3
 unfolding dataExchange
@@ -36,7 +36,7 @@ returns-3 c =
       ← c .before .before .before .before .before .exchanges .ensures,
       c .before .before .if1 .left,
       c .before .if2 .left,
-      c .accepted .ensures,
+      c .good-exchange .ensures,
     )
 
 pub data-exchange-spec : {M : Type 1} → statement M
@@ -48,5 +48,5 @@ data-exchange-spec =
     returns
     cfg-fault-requires
     returns-2
-    accepted-requires
+    good-exchange-requires
     returns-3)

@@ -36,8 +36,8 @@ returns-2 c =
       eq-eqb _ _ (c .if2 .taken),
     )
 
-point-of-requires : tie.Need-point-of-requires
-point-of-requires c κs = search needs
+reply-point-requires : tie.Need-reply-point-requires
+reply-point-requires c κs = search needs
 
 returns-3 : tie.Need-returns-3
 unfolding datumAt
@@ -48,7 +48,7 @@ returns-3 c =
       c .before .before .before .if1 .left,
       ne-eqb _ _ (c .before .before .if2 .left),
       eq-eqb _ _ (c .before .if3 .taken),
-      c .point-of .ensures,
+      c .reply-point .ensures,
     )
 
 sub-content-at : tie.Need-sub-content-at
@@ -76,7 +76,7 @@ datum-at-spec =
     input-octet-requires
     returns
     returns-2
-    point-of-requires
+    reply-point-requires
     returns-3
     sub-content-at
     content-at-requires

@@ -1,6 +1,6 @@
 use borrow.Author.Needs.{needs}
-use Rattle.rules.proofs.line.settled.Statement.{statement}
-use Rattle.rules.proofs.line.settled.Tie as tie
+use Rattle.rules.proofs.line.clear_noted.Statement.{statement}
+use Rattle.rules.proofs.line.clear_noted.Tie as tie
 
 clearing-requires : tie.Need-clearing-requires
 clearing-requires c κs = search needs
@@ -14,5 +14,5 @@ drawing-requires c κs = search needs
 returns-2 : tie.Need-returns-2
 returns-2 c = rw (c .before .if1 .left, c .drawing .ensures)
 
-pub settled-spec : {M : Type 1} → statement M
-settled-spec = tie.close (tie.spec clearing-requires returns drawing-requires returns-2)
+pub clear-noted-spec : {M : Type 1} → statement M
+clear-noted-spec = tie.close (tie.spec clearing-requires returns drawing-requires returns-2)

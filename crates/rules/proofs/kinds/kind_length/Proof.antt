@@ -1,7 +1,7 @@
--- `rules::kinds::length_of` meets its contract.
+-- `rules::kinds::kind_length` meets its contract.
 use borrow.Author.Tests.{eq-eqb, ne-eqb}
-use Rattle.rules.proofs.kinds.length_of.Statement.{statement}
-use Rattle.rules.proofs.kinds.length_of.Tie as tie
+use Rattle.rules.proofs.kinds.kind_length.Statement.{statement}
+use Rattle.rules.proofs.kinds.kind_length.Tie as tie
 
 returns : tie.Need-returns
 returns c = simp (eq-eqb _ _ (c .if1 .taken))
@@ -42,5 +42,5 @@ returns-6 c =
       ne-eqb _ _ (c .if5 .left),
     )
 
-pub length-of-spec : {M : Type 1} → statement M
-length-of-spec = tie.close (tie.spec returns returns-2 returns-3 returns-4 returns-5 returns-6)
+pub kind-length-spec : {M : Type 1} → statement M
+kind-length-spec = tie.close (tie.spec returns returns-2 returns-3 returns-4 returns-5 returns-6)
