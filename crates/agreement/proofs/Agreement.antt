@@ -1,6 +1,5 @@
 -- Demand 3: for every list of calls from a freshly started station the answers over the memory are the ledger's.
-use Prim.Native.Nat.{ℕ, _≤_, _<_}
-use native.Mathlib.Omega.{arith}
+use Prim.Native.Nat.{ℕ, _≤_}
 use mathlib.Core.Path.{_≡_, refl, sym, ap, subst, _∙_}
 use mathlib.Core.Bool.{Bool}
 use mathlib.Core.List.{List, [], _∷_, _++_}
@@ -20,7 +19,6 @@ use Rattle.state.proofs.LaidOut.{laid-holds, laid-length}
 use Rattle.ledger.specs.Ledger.{Ledger, fresh}
 use Rattle.ledger.specs.Calls as ledger
 use Rattle.rules.specs.Call.{Call, octet, read}
-use Rattle.ledger.specs.Calls.{after}
 use Rattle.ledger.specs.Exchange.{Exchanged}
 use Rattle.ledger.specs.History.{readable, history}
 use Rattle.ledger.specs.ReadBack.{Fit}

@@ -7,7 +7,6 @@ use mathlib.Core.List.{List}
 use lib.Dec.{eqb, leb}
 use lib.ListN.{getD, set}
 use borrow.Author.Tests.{not-false}
-use Rattle.buffers.specs.Events.{parametersEvent, configurationEvent}
 use Rattle.buffers.specs.Triple.{taken}
 use Rattle.telegram.specs.Reading.{start, off, readerAfter, status, datumOf}
 use Rattle.telegram.specs.Sending.{left, sent}
@@ -27,7 +26,8 @@ use Rattle.rules.specs.Kinds.{inRange, writable}
 use Rattle.rules.specs.Call.{Call, gap, tick, take, read, write, hand-over, new-diagnosis, judge-parameters, judge-configuration, events, acknowledge, pending, leave, octet, send}
 use Rattle.state.specs.With.{withControl, withOutputs, withReply}
 use Rattle.steps.specs.Stepped.{Stepped, unchanged}
-use Rattle.steps.specs.Deeds.{begun, busy, isOpen, diagnosisLeaves, diagnosisChanged, carried, afterReply, settle}
+use Rattle.steps.specs.Line.{begun, busy, diagnosisLeaves}
+use Rattle.steps.specs.Outcome.{isOpen, diagnosisChanged, carried, afterReply, settle}
 use Rattle.state.specs.Start.{noReply}
 use Rattle.steps.specs.Replies.{replyFor, askedFor}
 use Rattle.steps.specs.Reading.{readBy, isIgnored, storedAs, requestBy, answered, completed, beginning, heardAs, heard}
@@ -45,8 +45,7 @@ use Rattle.telegram.specs.declared.Datum.the-variants as datum
 use Rattle.telegram.specs.declared.reader.Reader.{Reader}
 use Rattle.telegram.specs.declared.reader.Status.{Status}
 use Rattle.telegram.specs.declared.reader.Status.the-variants as reader-status
-use Rattle.rules.specs.declared.request.Service.the-variants.{Nothing}
-use Rattle.steps.proofs.Outcomes.{outcome-served}
+use Rattle.steps.proofs.OutcomeServed.{outcome-served}
 
 -- an outcome without data that spares the reply leaves no DATA_EXCH under it
 quiet-allows : {g : Setup} {c : Control} {o : Outcome} (r : Reply) → Quiet g c (Spared r) o → Allows c r → Allows (o .control) r

@@ -28,7 +28,7 @@ use Rattle.rules.specs.Line.{clearing, clearOn, clearNoted, counts, withRemaini
 use Rattle.rules.specs.User.{judgedParameters, judgedConfiguration}
 use Rattle.ledger.specs.Lists.{some, Buffers, takenOutputs, handedOver, withOutputs, withInputs}
 use Rattle.ledger.specs.Ledger.{Line, Ledger, withControl, withBuffers, withLine, begun, busy, diagnosisLeaves, parametersOpen, configurationOpen, fresh}
-use Rattle.ledger.specs.Deeds.{carried, diagnosisChanged, afterReply, settle}
+use Rattle.ledger.specs.Outcome.{carried, diagnosisChanged, afterReply, settle}
 use Rattle.ledger.specs.Bus.{telegramOn, answered, completed, brokenOff, lengthened, beginning, sendLeft, silenced, heardAs, heard, paused, sent, elapsed}
 use Rattle.ledger.specs.User.{Told, told, refused, absent, octetsOfKind, writtenOctet, takeOutputs, readOctet, writeOctet, handOver, newDiagnosis, judgeParameters, judgeConfiguration, acknowledgeEvents, leaveMaster}
 use Rattle.rules.specs.Kinds.{inRange, writable}

@@ -10,13 +10,14 @@ use Rattle.state.specs.declared.state.State.{State}
 use Rattle.rules.specs.Line.{ticked}
 use Rattle.ledger.specs.Ledger as ledger
 use Rattle.ledger.specs.Ledger.{Line, Ledger, withLine}
-use Rattle.ledger.specs.Deeds as ledger-deeds
+use Rattle.ledger.specs.Outcome as ledger-outcome
 use Rattle.ledger.specs.Bus as ledger-bus
 use Rattle.ledger.specs.Calls as ledger-calls
 use Rattle.rules.specs.Call.{gap, tick}
 use Rattle.state.specs.With.{withReply}
 use Rattle.steps.specs.Stepped.{Stepped}
-use Rattle.steps.specs.Deeds.{begun, busy, carried, settle}
+use Rattle.steps.specs.Line.{begun, busy}
+use Rattle.steps.specs.Outcome.{carried, settle}
 use Rattle.state.specs.Start.{noReply}
 use Rattle.steps.specs.Reading.{readBy}
 use Rattle.steps.specs.Bus.{paused, silencedReader, elapsed}
@@ -74,7 +75,7 @@ module _ {s : State} {m : List ℕ} {l : Ledger} (a : Agrees s m l) where
   tick-agrees =
       both (λ (x : Stepped) y. Agrees (x .state) (x .memory) y) (s .control .noted) (l .control .noted)
       (settle (withReply (readBy s (silencedReader (begun s) (s .incoming .reader))) noReply) m) (carried s m (ticked (busy s) (s .control)) 0)
-      (ledger-deeds.settle (withLine l (ledger-bus.silenced l))) (ledger-deeds.carried l (ticked (ledger.busy l) (l .control)) [])
+      (ledger-outcome.settle (withLine l (ledger-bus.silenced l))) (ledger-outcome.carried l (ticked (ledger.busy l) (l .control)) [])
       (ap (λ (c : Control). c .noted) (a .control))
       (λ _. settle-agrees (reply-dropped (reading-changed a (silencedReader (begun s) (s .incoming .reader)) (l .line .ignored || ledger.begun l) [] (silenced a))))
       (λ _. quiet-agrees a (ticked-quiet (s .setup) (s .control) (busy s) (idle-spared s)) (ticked (ledger.busy l) (l .control))

@@ -22,10 +22,10 @@ use Rattle.rules.specs.Services.{outcomeBy}
 use Rattle.ledger.specs.Ledger.{Ledger, withLine}
 use Rattle.ledger.specs.Replies.{replyOf}
 use Rattle.rules.specs.Replies.{diagnoses}
-use Rattle.ledger.specs.Deeds as ledger
+use Rattle.ledger.specs.Outcome as ledger
 use Rattle.ledger.specs.Bus as bus
 use Rattle.ledger.specs.Bus.{requestBy}
-use Rattle.steps.specs.Deeds.{openSets, carried}
+use Rattle.steps.specs.Outcome.{openSets, carried}
 use Rattle.steps.specs.Replies.{replyFor}
 use Rattle.steps.specs.Reading.{readBy, prmIn, dataIn, outcomeOf, answered, completed}
 use Rattle.agreement.proofs.Relation.{Gathered, Agrees, After}
@@ -35,7 +35,7 @@ use Rattle.agreement.proofs.SameLine.{open-agrees}
 use Rattle.agreement.proofs.OnePartChanges.{reading-changed, replied, reply-changed}
 use Rattle.agreement.proofs.ReplyDrawn.{draws}
 use Rattle.rules.proofs.Served.{Served}
-use Rattle.steps.proofs.Outcomes.{outcome-served}
+use Rattle.steps.proofs.OutcomeServed.{outcome-served}
 use Rattle.rules.proofs.LookedAt.{same-outcome}
 use Rattle.agreement.proofs.LineStays.{begins-whole, reply-line, ignored-agrees}
 use Rattle.agreement.proofs.OutcomeCarried.{received-agrees}

@@ -17,9 +17,10 @@ use Rattle.telegram.proofs.Framing.{framing, told}
 use Rattle.state.specs.declared.state.State.{State}
 use Rattle.ledger.specs.Ledger as ledger
 use Rattle.ledger.specs.Ledger.{Ledger, withLine}
-use Rattle.ledger.specs.Deeds as ledger-deeds
+use Rattle.ledger.specs.Outcome as ledger-outcome
 use Rattle.ledger.specs.Bus as bus
-use Rattle.steps.specs.Deeds.{begun, settle}
+use Rattle.steps.specs.Line.{begun}
+use Rattle.steps.specs.Outcome.{settle}
 use Rattle.steps.specs.Reading.{isIgnored, readBy, completed, settleAfter, beginning, heardAs, heard}
 use Rattle.agreement.proofs.Relation.{Gathered, Agrees, After}
 use Rattle.agreement.proofs.Steady.{Steady}
@@ -49,7 +50,7 @@ first-never b = go (okAt (start .phase) start b) (eqb b 0x10) (eqb b 0xA2) (eqb 
 
 module _ (s : State) (m : List ℕ) (l : Ledger) (b : ℕ) (d : Steady l) (w : Ranged (l .setup)) (a : Agrees s m l) where
   -- broken off: octets are ignored until the next gap
-  breaks-off : After (settle (readBy s off) m) (ledger-deeds.settle (withLine l (bus.brokenOff (l .line))))
+  breaks-off : After (settle (readBy s off) m) (ledger-outcome.settle (withLine l (bus.brokenOff (l .line))))
   breaks-off = settle-agrees (reading-changed a off true [] (ignored-agrees refl refl refl))
 
   abbrev r : Reader
@@ -67,7 +68,7 @@ module _ (s : State) (m : List ℕ) (l : Ledger) (b : ℕ) (d : Steady l) (w : R
     first n = ap (λ (x : Reader). step x b) (read ∙ ap run (closed-list xs n))
 
     -- a beginning drops an unfinished reply
-    begins : ledger.begun l ≡ false → status (step r b) ≡ Inside → After (settle (beginning s (step r b)) m) (ledger-deeds.settle (withLine l (bus.beginning b)))
+    begins : ledger.begun l ≡ false → status (step r b) ≡ Inside → After (settle (beginning s (step r b)) m) (ledger-outcome.settle (withLine l (bus.beginning b)))
     begins n e =
         settle-agrees
         (reply-dropped
@@ -91,7 +92,7 @@ module _ (s : State) (m : List ℕ) (l : Ledger) (b : ℕ) (d : Steady l) (w : R
         go false h = absurd (first-never b (ap status (sym (first h)) ∙ e))
 
     -- it is complete, and the data octets gathered are its data
-    ends : status (step r b) ≡ Complete → After (settleAfter (completed s m (step r b))) (ledger-deeds.settle (bus.completed l (bus.telegramOn (xs ++ b ∷ []))))
+    ends : status (step r b) ≡ Complete → After (settleAfter (completed s m (step r b))) (ledger-outcome.settle (bus.completed l (bus.telegramOn (xs ++ b ∷ []))))
     ends e =
         let ys = xs ++ b ∷ [] in
         let went : step (run xs) b ≡ run ys = sym (run-snoc xs b) in
@@ -104,8 +105,8 @@ module _ (s : State) (m : List ℕ) (l : Ledger) (b : ℕ) (d : Steady l) (w : R
         let moved = subst (λ (x : Reader). Gathered (readBy s x) m (gathered start ys)) (went ∙ fields .0) stored in
         let g = subst (λ (ds : List ℕ). Gathered (readBy s (finished t)) m ds) (fields .1) moved in
         let done = settle-agrees (completes a d w t g (nothing-left (a .reply) (d .quiet (under-way e)))) in
-        subst (λ (x : Reader). After (settleAfter (completed s m x)) (ledger-deeds.settle (bus.completed l (bus.telegramOn ys)))) (sym (steps ∙ went ∙ fields .0))
-        (subst (λ (x : Telegram). After (settleAfter (completed s m (finished t))) (ledger-deeds.settle (bus.completed l x))) (sym is) done)
+        subst (λ (x : Reader). After (settleAfter (completed s m x)) (ledger-outcome.settle (bus.completed l (bus.telegramOn ys)))) (sym (steps ∙ went ∙ fields .0))
+        (subst (λ (x : Telegram). After (settleAfter (completed s m (finished t))) (ledger-outcome.settle (bus.completed l x))) (sym is) done)
 
     -- by what the octets are with this one
     hears : (bad : Bool) (x : Status) → status (readerAfter r b bad) ≡ x → After (heardAs x s m (readerAfter r b bad) b) (bus.heardAs x l b)

@@ -24,14 +24,15 @@ use Rattle.ledger.specs.Lists as lists
 use Rattle.ledger.specs.Lists.{Diagnoses, exchanged, withDiagnoses}
 use Rattle.ledger.specs.Ledger as ledger
 use Rattle.ledger.specs.Ledger.{Line, Ledger, withLine}
-use Rattle.ledger.specs.Deeds as ledger-deeds
+use Rattle.ledger.specs.Outcome as ledger-outcome
 use Rattle.state.specs.With.{withControl, withOutputs, withInputs, withIncoming, withReply}
 use Rattle.rules.specs.Replies.{diagnoses}
-use Rattle.steps.specs.Deeds.{diagnosisLeaves, diagnosisChanged}
+use Rattle.steps.specs.Line.{diagnosisLeaves}
+use Rattle.steps.specs.Outcome.{diagnosisChanged}
 use Rattle.state.specs.Start.{noReply}
 use Rattle.steps.specs.Replies.{ownPlace}
 use Rattle.steps.specs.Reading.{readOn, readBy}
-use Rattle.steps.proofs.Safety.{safe-control, safe-outputs, safe-inputs, safe-incoming, safe-reply}
+use Rattle.steps.proofs.KeepsSafe.{safe-control, safe-outputs, safe-inputs, safe-incoming, safe-reply}
 use Rattle.agreement.proofs.Relation.{OutputsAgree, InputsAgree, DiagnosesAgree, ReadingAgrees, ReplyAgrees, Agrees}
 use Rattle.agreement.proofs.LineStays.{reply-stays, reading-stays, reply-line, reading-line}
 
@@ -96,7 +97,7 @@ module _ {s : State} {m : List ℕ} {l : Ledger} (a : Agrees s m l) where
   }
 
   -- the two diagnosis buffers change, with that control part
-  pub diagnosis-changed : (c d : Control) → c ≡ d → diagnosisLeaves s ≡ false → Agrees (diagnosisChanged s c) m (ledger-deeds.diagnosisChanged l d)
+  pub diagnosis-changed : (c d : Control) → c ≡ d → diagnosisLeaves s ≡ false → Agrees (diagnosisChanged s c) m (ledger-outcome.diagnosisChanged l d)
   diagnosis-changed c d e f =
       diagnoses-changed c d e (not (s .swapped)) (exchanged (l .buffers .diagnosis)) (flipped (s .swapped) (a .diagnosis)) (λ h w. absurd (not-diagnosis s f h w))
 

@@ -16,7 +16,7 @@ use Rattle.state.specs.Layout.{inputs, diagnosis, getCfg, countOf, lengthOf, st
 use Rattle.state.proofs.Places.{first-start, in-front, inside, apart}
 use Rattle.ledger.specs.Lists.{Inputs, Sets, Diagnoses}
 use Rattle.steps.specs.Replies.{ownPlace, userPlace}
-use Rattle.steps.proofs.Safety.{own-in, user-in}
+use Rattle.steps.proofs.KeepsSafe.{own-in, user-in}
 use Rattle.agreement.proofs.Relation.{InputsAgree, SetsAgree, DiagnosesAgree}
 
 -- m′ is m but for the buffer i of the kind a

@@ -31,11 +31,11 @@ use Rattle.rules.proofs.Headed.{Plain, To}
 use Rattle.rules.proofs.Served.{Publishes, Receives, Lawful, Quiet, Served}
 use Rattle.ledger.specs.Lists.{some, Outputs, Inputs, Sets}
 use Rattle.ledger.specs.Ledger.{Ledger}
-use Rattle.ledger.specs.Deeds as ledger
+use Rattle.ledger.specs.Outcome as ledger
 use Rattle.steps.specs.Safe.{Safe}
-use Rattle.steps.specs.Deeds.{isOpen, onOutputs, onInputs, onSets, onState, onMemory, carried}
+use Rattle.steps.specs.Outcome.{isOpen, onOutputs, onInputs, onSets, onState, onMemory, carried}
 use Rattle.steps.specs.Replies.{ownPlace}
-use Rattle.steps.proofs.Safety.{safe-carried}
+use Rattle.steps.proofs.KeepsSafe.{safe-carried}
 use Rattle.agreement.proofs.Relation.{OutputsAgree, InputsAgree, SetsAgree, BeginsWith, Gathered, ReadingAgrees, ReplyAgrees, Agrees, After}
 use Rattle.agreement.proofs.OtherBuffersStay.{Elsewhere, same-elsewhere, pasted-elsewhere, inputs-stay, diagnoses-stay, slice-stays, sets-stay}
 use Rattle.agreement.proofs.LineStays.{SameSource, SameFills, begins-stays, begins-whole, reply-stays, reading-stays, ignored-agrees}

@@ -22,7 +22,7 @@ use Rattle.rules.proofs.Alike.{Alike, exchange-same}
 use Rattle.rules.proofs.Headed.{To}
 use Rattle.rules.proofs.Served.{Receives, Judges, Served}
 use Rattle.ledger.specs.Lists.{some, Sets, noSets}
-use Rattle.ledger.specs.Deeds.{onSets}
+use Rattle.ledger.specs.Outcome.{onSets}
 use Rattle.agreement.proofs.Steady.{SetsFit, CountIn}
 
 pub record InOrder (g : Setup) (c : Control) (p q : Sets) : Type 0 where

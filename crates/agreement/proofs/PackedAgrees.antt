@@ -25,7 +25,7 @@ use Rattle.ledger.specs.ReadBack.{Fit}
 use Rattle.steps.specs.Replies.{ownPlace, userPlace}
 use Rattle.agreement.proofs.Relation.{SetsAgree, Agrees}
 use Rattle.agreement.proofs.LineStays.{SameSource, SameFills, reply-stays, reading-stays}
-use Rattle.steps.proofs.Safety.{own-in, user-in, safe-length}
+use Rattle.steps.proofs.KeepsSafe.{own-in, user-in, safe-length}
 
 -- the relation holds of the packed memory
 pub kept-agrees : {s : State} {m : List ℕ} {l : Ledger} → stateLength ≤ length m → Agrees s m l → Agrees s (kept s m) l

@@ -32,7 +32,7 @@ use Rattle.agreement.proofs.Relation.{InputsAgree, SetsAgree, Diagnoses
 use Rattle.agreement.proofs.Steady.{SetsFit, Steady, Related}
 use Rattle.agreement.proofs.OtherBuffersStay.{Elsewhere, set-elsewhere, inputs-stay, diagnoses-stay, slice-stays, sets-stay}
 use Rattle.agreement.proofs.LineStays.{reading-stays, reply-stays}
-use Rattle.steps.proofs.Safety.{own-in, user-in, safe-length}
+use Rattle.steps.proofs.KeepsSafe.{own-in, user-in, safe-length}
 use Rattle.state.proofs.Choice.{both, and-left, and-right, or-left}
 use Rattle.agreement.proofs.UserCallsAgree.{refuses}
 

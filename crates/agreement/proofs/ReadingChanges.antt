@@ -18,7 +18,7 @@ use Rattle.steps.specs.Safe.{Safe}
 use Rattle.state.specs.With.{withIncoming}
 use Rattle.steps.specs.Reading.{storedData}
 use Rattle.agreement.proofs.Relation.{SetsAgree, ReadingAgrees, ReplyAgrees, Agrees}
-use Rattle.steps.proofs.Safety.{safe-length, safe-incoming}
+use Rattle.steps.proofs.KeepsSafe.{safe-length, safe-incoming}
 use Rattle.agreement.proofs.OtherBuffersStay.{Elsewhere, same-elsewhere, inputs-stay, diagnoses-stay, slice-stays, sets-stay}
 use Rattle.agreement.proofs.Steady.{SetsFit, Steady}
 use Rattle.agreement.proofs.DataOctetStored.{stored-elsewhere}

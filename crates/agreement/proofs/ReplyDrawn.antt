@@ -36,7 +36,7 @@ use Rattle.state.specs.With.{withReply}
 use Rattle.rules.specs.Replies.{exchangeFc}
 use Rattle.steps.specs.Replies.{servicing, replyFor, ownPlace, headerAt, contentAt, datumAt}
 use Rattle.agreement.proofs.Relation.{ReplyAgrees}
-use Rattle.steps.proofs.Safety.{own-in}
+use Rattle.steps.proofs.KeepsSafe.{own-in}
 use Rattle.state.specs.Sound.{Ranged}
 
 -- ---- the octets of a service's reply

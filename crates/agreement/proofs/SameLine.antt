@@ -22,7 +22,8 @@ use Rattle.state.specs.declared.state.State.{State}
 use Rattle.ledger.specs.Lists.{some, Sets}
 use Rattle.ledger.specs.Ledger as ledger
 use Rattle.ledger.specs.Ledger.{Line, Ledger}
-use Rattle.steps.specs.Deeds.{isInside, begun, busy, diagnosisLeaves, isOpen}
+use Rattle.steps.specs.Line.{isInside, begun, busy, diagnosisLeaves}
+use Rattle.steps.specs.Outcome.{isOpen}
 use Rattle.steps.specs.Reading.{isIgnored}
 use Rattle.agreement.proofs.Relation.{SetsAgree, ReadingAgrees, ReplyAgrees, Agrees}
 

@@ -22,11 +22,11 @@ use Rattle.state.specs.declared.state.State.{State}
 use Rattle.rules.specs.Diagnosis.{delayed}
 use Rattle.rules.specs.Line.{clearNoted}
 use Rattle.ledger.specs.Ledger.{Line, Ledger, withLine, busy, diagnosisLeaves}
-use Rattle.ledger.specs.Deeds as ledger
+use Rattle.ledger.specs.Outcome as ledger
 use Rattle.ledger.specs.Bus as bus
 use Rattle.state.specs.With.{withReply}
 use Rattle.steps.specs.Stepped.{Stepped, unchanged}
-use Rattle.steps.specs.Deeds.{settle}
+use Rattle.steps.specs.Outcome.{settle}
 use Rattle.steps.specs.Replies.{contentAt, replyPoint, isExchange, datumAt, askedAs, askedFor}
 use Rattle.steps.specs.Bus.{sentBy, sendTold, sendLeft}
 use Rattle.agreement.proofs.Relation.{ReplyAgrees, Agrees, After}

@@ -12,8 +12,9 @@ use Rattle.rules.specs.Diagnosis.{delayed, caughtUp}
 use Rattle.rules.specs.Line.{clearNoted}
 use Rattle.ledger.specs.Ledger as ledger
 use Rattle.ledger.specs.Ledger.{Ledger}
-use Rattle.ledger.specs.Deeds as ledger-deeds
-use Rattle.steps.specs.Deeds.{begun, busy, diagnosisLeaves, diagnosisChanged, afterReply, settle}
+use Rattle.ledger.specs.Outcome as ledger-outcome
+use Rattle.steps.specs.Line.{begun, busy, diagnosisLeaves}
+use Rattle.steps.specs.Outcome.{diagnosisChanged, afterReply, settle}
 use Rattle.agreement.proofs.Relation.{Agrees}
 use Rattle.agreement.proofs.SameLine.{busy-agrees, leaves-agrees}
 use Rattle.rules.proofs.Served.{settled-quiet}
@@ -32,19 +33,19 @@ after-reply-keeps s =
     (λ _. refl) (λ _. refl)
 
 module _ {s : State} {m : List ℕ} {l : Ledger} (a : Agrees s m l) where
-  pub after-reply-agrees : Agrees (afterReply s) m (ledger-deeds.afterReply l)
-  unfolding afterReply ledger-deeds.afterReply
+  pub after-reply-agrees : Agrees (afterReply s) m (ledger-outcome.afterReply l)
+  unfolding afterReply ledger-outcome.afterReply
   after-reply-agrees =
       both (λ x y. Agrees x m y) (delayed (s .control) && not (diagnosisLeaves s)) (delayed (l .control) && not (ledger.diagnosisLeaves l))
-      (diagnosisChanged s (caughtUp (s .control))) s (ledger-deeds.diagnosisChanged l (caughtUp (l .control))) l
+      (diagnosisChanged s (caughtUp (s .control))) s (ledger-outcome.diagnosisChanged l (caughtUp (l .control))) l
       (λ i. delayed (a .control i) && not (leaves-agrees a i))
       (λ e. diagnosis-changed a (caughtUp (s .control)) (caughtUp (l .control)) (ap caughtUp (a .control))
       (not-true (diagnosisLeaves s) (and-right (delayed (s .control)) (not (diagnosisLeaves s)) e)))
       (λ _. a)
 
-  pub settle-agrees : Agrees (settle s m .state) (settle s m .memory) (ledger-deeds.settle l)
-  unfolding settle ledger-deeds.settle
+  pub settle-agrees : Agrees (settle s m .state) (settle s m .memory) (ledger-outcome.settle l)
+  unfolding settle ledger-outcome.settle
   settle-agrees =
       quiet-agrees after-reply-agrees
       (settled-quiet (afterReply s .setup) (afterReply s .control) (busy s) (λ e. subst Spared (sym (after-reply-keeps s)) (idle-spared s e)))
-      (clearNoted (ledger.busy l) (ledger-deeds.afterReply l .control)) (λ i. clearNoted (busy-agrees a i) (after-reply-agrees .control i))
+      (clearNoted (ledger.busy l) (ledger-outcome.afterReply l .control)) (λ i. clearNoted (busy-agrees a i) (after-reply-agrees .control i))

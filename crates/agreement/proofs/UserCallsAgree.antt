@@ -25,12 +25,13 @@ use Rattle.ledger.specs.Lists as lists
 use Rattle.ledger.specs.Lists.{some}
 use Rattle.ledger.specs.Ledger as ledger
 use Rattle.ledger.specs.Ledger.{Ledger, withBuffers}
-use Rattle.ledger.specs.Deeds as ledger-deeds
+use Rattle.ledger.specs.Outcome as ledger-outcome
 use Rattle.ledger.specs.User as ledger-user
 use Rattle.ledger.specs.Calls as ledger-calls
 use Rattle.rules.specs.Call.{take, hand-over, new-diagnosis, judge-parameters, judge-configuration, events, acknowledge, pending, leave}
 use Rattle.state.specs.With.{withControl, withOutputs}
-use Rattle.steps.specs.Deeds.{busy, isOpen, diagnosisLeaves, diagnosisChanged}
+use Rattle.steps.specs.Line.{busy, diagnosisLeaves}
+use Rattle.steps.specs.Outcome.{isOpen, diagnosisChanged}
 use Rattle.steps.specs.User.{told, refusing, takeOutputs, handOver, newDiagnosis, judgeParameters, judgeConfiguration, acknowledgeEvents, leaveMaster}
 use Rattle.steps.specs.Step.{step}
 use Rattle.agreement.proofs.Relation.{SetsAgree, Agrees, Matches}
@@ -115,7 +116,7 @@ module _ {s : State} {m : List ℕ} {l : Ledger} (a : Agrees s m l) where
       (λ _. refuses a Delayed)
       (λ _. both Matches (diagnosisLeaves s) (ledger.diagnosisLeaves l)
       (told 0 (withControl s (delaying (s .control) count flags)) m) (told 0 (diagnosisChanged s (diagnosed (s .control) count flags)) m)
-      (ledger-user.told 0 (ledger.withControl l (delaying (l .control) count flags))) (ledger-user.told 0 (ledger-deeds.diagnosisChanged l (diagnosed (l .control) count flags)))
+      (ledger-user.told 0 (ledger.withControl l (delaying (l .control) count flags))) (ledger-user.told 0 (ledger-outcome.diagnosisChanged l (diagnosed (l .control) count flags)))
       (leaves-agrees a)
       (λ _. record {
         answers = refl;

@@ -1,6 +1,6 @@
 // The event word: one bit for each event, and the events' numbers.
 ghost use mathlib.Core.Path.{_≡_};
-ghost use Rattle.buffers.specs.Events.{only, noEvents, raised, cleared, acknowledged, pendingOf, bit};
+ghost use Rattle.buffers.specs.Events.{only, noEvents, raised, cleared, acknowledged, pendingOf};
 
 // The events that are set: event n is bit n of the word.
 pub struct Events {

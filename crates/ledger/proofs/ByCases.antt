@@ -12,7 +12,7 @@ use Rattle.rules.specs.Diagnosis.{delayed, diagnosed, delaying}
 use Rattle.rules.specs.User.{judgedParameters, judgedConfiguration}
 use Rattle.ledger.specs.Lists.{some, takenOutputs, withOutputs}
 use Rattle.ledger.specs.Ledger.{Ledger, withControl, withBuffers, diagnosisLeaves, parametersOpen, configurationOpen}
-use Rattle.ledger.specs.Deeds.{carried, diagnosisChanged}
+use Rattle.ledger.specs.Outcome.{carried, diagnosisChanged}
 use Rattle.ledger.specs.User.{Told, told, refused, absent, octetsOfKind, writtenOctet, takeOutputs, readOctet, writeOctet, newDiagnosis, judgeParameters, judgeConfiguration}
 use Rattle.rules.specs.Kinds.{inRange, writable}
 

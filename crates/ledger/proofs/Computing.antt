@@ -8,7 +8,7 @@ use Rattle.rules.specs.Services.{parametrized, setPrm, chkCfg, dataExchange, sl
 use Rattle.rules.specs.Diagnosis.{headerOf, diagnosed, delaying}
 use Rattle.rules.specs.Line.{ticked}
 use Rattle.rules.specs.User.{judgedParameters, judgedConfiguration}
-use Rattle.ledger.specs.Deeds.{afterReply, settle}
+use Rattle.ledger.specs.Outcome.{afterReply, settle}
 use Rattle.ledger.specs.Bus.{answered, heard, paused, sent, elapsed}
 use Rattle.ledger.specs.User.{takeOutputs, readOctet, writeOctet, handOver, newDiagnosis, judgeParameters, judgeConfiguration, acknowledgeEvents, leaveMaster}
 

@@ -19,7 +19,7 @@ use Rattle.rules.specs.Line.{clearOn}
 use Rattle.rules.specs.User.{judgedParameters, judgedConfiguration}
 use Rattle.ledger.specs.Lists.{some, takenOutputs, withOutputs}
 use Rattle.ledger.specs.Ledger.{Line, Ledger, withControl, withBuffers, withLine, busy, diagnosisLeaves, parametersOpen, configurationOpen}
-use Rattle.ledger.specs.Deeds.{carried, diagnosisChanged, settle}
+use Rattle.ledger.specs.Outcome.{carried, diagnosisChanged, settle}
 use Rattle.ledger.specs.Bus.{answered, lengthened, heardAs, heard}
 use Rattle.ledger.specs.User.{Told, told, refused, absent, octetsOfKind, writtenOctet, takeOutputs, readOctet, writeOctet, handOver, newDiagnosis, judgeParameters, judgeConfiguration, acknowledgeEvents, leaveMaster}
 use Rattle.rules.specs.Kinds.{inRange, writable}

@@ -31,7 +31,7 @@ use Rattle.rules.specs.Diagnosis.{delayed, diagnosed, delaying, caughtUp}
 use Rattle.rules.specs.Line.{ticked}
 use Rattle.ledger.specs.Lists.{some, Outputs, takenOutputs, Inputs, handedOver, writtenInput, Sets, Diagnoses, exchanged, writtenDiagnosis, Buffers, withOutputs, withInputs, withDiagnoses}
 use Rattle.ledger.specs.Ledger.{Line, Ledger, withLine, begun, busy, diagnosisLeaves, openSets, fresh}
-use Rattle.ledger.specs.Deeds.{onOutputs, onInputs, onSets, onBuffers, carried, diagnosisChanged, afterReply, settle}
+use Rattle.ledger.specs.Outcome.{onOutputs, onInputs, onSets, onBuffers, carried, diagnosisChanged, afterReply, settle}
 use Rattle.ledger.specs.Bus.{telegramOn, requestBy, dataBy, outcomeOf, answered, completed, brokenOff, lengthened, beginning, sendLeft, silenced, heardAs, heard, paused, sent, elapsed}
 use Rattle.ledger.specs.User.{handOver, acknowledgeEvents, leaveMaster, writtenOctet}
 use Rattle.rules.specs.Call.{Call, octet, gap, send, tick, take, read, write, hand-over, new-diagnosis, judge-parameters, judge-configuration, events, acknowledge, pending, leave}

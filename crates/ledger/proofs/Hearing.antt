@@ -14,7 +14,7 @@ use Rattle.telegram.specs.Sending.{startOctet}
 use Rattle.telegram.proofs.Run.{broken-complete, run-snoc}
 use Rattle.telegram.proofs.Framing.{framing, told}
 use Rattle.ledger.specs.Ledger.{Line, Ledger, withLine}
-use Rattle.ledger.specs.Deeds.{settle}
+use Rattle.ledger.specs.Outcome.{settle}
 use Rattle.ledger.specs.Bus.{telegramOn, answered, completed, lengthened, beginning, heard, sendTold, sendLeft, sent}
 use Rattle.rules.specs.Call.{send}
 use Rattle.ledger.specs.Calls.{answers, after}

@@ -8,7 +8,7 @@ use Rattle.telegram.specs.declared.reader.Status.the-variants.{Fresh, Inside, C
 use Rattle.telegram.specs.Reading.{run, readerAfter, status}
 use Rattle.rules.specs.Line.{ticked}
 use Rattle.ledger.specs.Ledger.{Ledger, withLine, begun, busy}
-use Rattle.ledger.specs.Deeds.{carried, settle}
+use Rattle.ledger.specs.Outcome.{carried, settle}
 use Rattle.ledger.specs.Bus.{telegramOn, answered, completed, brokenOff, lengthened, beginning, sendLeft, silenced, heardAs, heard, paused, sent, elapsed}
 use Rattle.ledger.specs.User.{handOver, acknowledgeEvents, leaveMaster}
 use Rattle.rules.specs.Call.{Call, octet, gap, send, tick, take, read, write, hand-over, new-diagnosis, judge-parameters, judge-configuration, events, acknowledge, pending, leave}

@@ -16,7 +16,7 @@ use Rattle.telegram.proofs.Run.{no-true}
 use Rattle.telegram.proofs.Framing.{framing, told}
 use Rattle.ledger.specs.Lists.{some}
 use Rattle.ledger.specs.Ledger.{Ledger, begun}
-use Rattle.ledger.specs.Deeds.{settle}
+use Rattle.ledger.specs.Outcome.{settle}
 use Rattle.ledger.specs.Bus.{telegramOn, completed}
 use Rattle.ledger.specs.Calls.{step, answers, after}
 use Rattle.ledger.specs.Hearing.{hear, begunBy, sendsOf}

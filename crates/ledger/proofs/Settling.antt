@@ -5,7 +5,7 @@ use mathlib.Core.List.{[]}
 use Rattle.rules.specs.Diagnosis.{delayed, diagnosed, caughtUp}
 use Rattle.rules.specs.Line.{clearNoted}
 use Rattle.ledger.specs.Ledger.{Ledger, busy, diagnosisLeaves}
-use Rattle.ledger.specs.Deeds.{onOutputs, carried, diagnosisChanged, afterReply, settle}
+use Rattle.ledger.specs.Outcome.{onOutputs, carried, diagnosisChanged, afterReply, settle}
 
 -- what a delayed diagnosis leaves as it was, settling does too
 module _ {A : Type 0} (F : Ledger → A) where

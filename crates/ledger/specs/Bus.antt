@@ -17,7 +17,7 @@ use Rattle.rules.specs.Line.{ticked}
 use Rattle.ledger.specs.Ledger.{Line, Ledger, withLine, begun, busy, openSets}
 use Rattle.ledger.specs.Replies.{replyOf}
 use Rattle.rules.specs.Replies.{diagnoses}
-use Rattle.ledger.specs.Deeds.{carried, onBuffers, settle}
+use Rattle.ledger.specs.Outcome.{carried, onBuffers, settle}
 
 -- the telegram with these octets
 abbrev pub telegramOn : List ℕ → Telegram

@@ -9,7 +9,7 @@ use Rattle.state.specs.declared.answer.Answer.the-variants.{Value}
 use Rattle.telegram.specs.Telegram.{Telegram, kindOf, octetsOf, Valid}
 use Rattle.telegram.specs.Sending.{startOctet}
 use Rattle.ledger.specs.Ledger.{Ledger, withLine}
-use Rattle.ledger.specs.Deeds.{settle}
+use Rattle.ledger.specs.Outcome.{settle}
 use Rattle.ledger.specs.Bus.{beginning, completed}
 use Rattle.rules.specs.Call.{Call, octet, send}
 use Rattle.ledger.specs.Calls.{answers, after}

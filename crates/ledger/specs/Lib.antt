@@ -1,7 +1,7 @@
 pub mod Lists
 pub mod Ledger
 pub mod Replies
-pub mod Deeds
+pub mod Outcome
 pub mod Bus
 pub mod User
 pub mod Calls

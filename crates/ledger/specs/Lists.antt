@@ -1,9 +1,8 @@
 -- The lists that stand in place of buffers (document 01, The ledger), and what the rules do to them.
 use Prim.Native.Nat.{ℕ}
-use mathlib.Core.Bool.{Bool, true, false, cond, not}
+use mathlib.Core.Bool.{Bool, true, false, cond}
 use mathlib.Core.List.{List, [], _∷_}
-use lib.Dec.{eqb}
-use lib.ListN.{length, set, replicate}
+use lib.ListN.{set, replicate}
 
 -- a list with something in it
 abbrev pub some : List ℕ → Bool

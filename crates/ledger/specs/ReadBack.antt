@@ -18,7 +18,7 @@ use Rattle.state.specs.Sound.{Within, NoneOr, Ranged}
 use Rattle.rules.specs.Requests.{masterOf}
 use Rattle.ledger.specs.Lists.{Outputs, Inputs, Sets, Diagnoses, Buffers}
 use Rattle.ledger.specs.Ledger.{Ledger, fresh}
-use Rattle.ledger.specs.Deeds.{onBuffers}
+use Rattle.ledger.specs.Outcome.{onBuffers}
 use Rattle.ledger.specs.Replies.{diagnosisOctets}
 use Rattle.rules.specs.Replies.{exchangeFc}
 use Rattle.ledger.specs.Bus.{telegramOn, requestBy, outcomeOf, completed, heard}

@@ -1,7 +1,7 @@
 -- The calls of the vat program (document 01, User calls, and Numbers by who causes them).
 use Prim.Native.Nat.{ℕ}
-use mathlib.Core.Bool.{Bool, true, false, cond, not, _&&_, _||_}
-use mathlib.Core.List.{List, [], _∷_}
+use mathlib.Core.Bool.{Bool, cond, not, _&&_, _||_}
+use mathlib.Core.List.{List, []}
 use lib.Dec.{eqb, leb}
 use lib.ListN.{length, getD}
 use Rattle.buffers.specs.Events.{acknowledged, pendingOf}
@@ -17,7 +17,7 @@ use Rattle.rules.specs.Line.{clearOn}
 use Rattle.rules.specs.User.{judgedParameters, judgedConfiguration}
 use Rattle.ledger.specs.Lists.{some, takenOutputs, handedOver, writtenInput, writtenDiagnosis, Buffers, withOutputs, withInputs, withDiagnoses}
 use Rattle.ledger.specs.Ledger.{Ledger, withControl, withBuffers, busy, diagnosisLeaves, parametersOpen, configurationOpen}
-use Rattle.ledger.specs.Deeds.{carried, diagnosisChanged}
+use Rattle.ledger.specs.Outcome.{carried, diagnosisChanged}
 
 -- what a call answers, and the ledger after it
 pub record Told : Type 0 where

@@ -28,10 +28,11 @@ use Rattle.rules.specs.Services.{outcomeBy}
 use Rattle.rules.specs.Line.{clearNoted, ticked}
 use Rattle.steps.specs.Safe.{Safe}
 use Rattle.steps.specs.Stepped.{Stepped}
-use Rattle.steps.specs.Deeds.{begun, busy, openSets, onMemory, carried, afterReply, settle}
+use Rattle.steps.specs.Line.{begun, busy}
+use Rattle.steps.specs.Outcome.{openSets, onMemory, carried, afterReply, settle}
 use Rattle.steps.specs.Reading.{storedData, storedAs, readBy, requestBy, prmAt, prmIn, outcomeOf, answered, completed, beginning, isIgnored, heardAs, heard}
 use Rattle.steps.specs.Bus.{paused, silencedReader, elapsed}
-use Rattle.steps.proofs.Safety.{safe-after-reply, safe-read-by, safe-beginning, safe-completed}
+use Rattle.steps.proofs.KeepsSafe.{safe-after-reply, safe-read-by, safe-beginning, safe-completed}
 use Rattle.lent.specs.Run.{Beat, octet, gap, tick, beat}
 
 -- what lies behind the state part

@@ -33,13 +33,14 @@ use Rattle.state.proofs.Choice.{by-test, and-left}
 use Rattle.steps.specs.Safe.{Safe}
 use Rattle.steps.specs.Stepped.{Stepped, unchanged}
 use Rattle.state.specs.With.{withIncoming, withReply}
-use Rattle.steps.specs.Deeds.{begun, busy, isOpen, diagnosisLeaves, onSets, carried, diagnosisChanged, afterReply, settle}
+use Rattle.steps.specs.Line.{begun, busy, diagnosisLeaves}
+use Rattle.steps.specs.Outcome.{isOpen, onSets, carried, diagnosisChanged, afterReply, settle}
 use Rattle.state.specs.Start.{noReply}
 use Rattle.steps.specs.Replies.{replyFor}
 use Rattle.steps.specs.Reading.{keptOctets, storedAs, readBy, requestBy, outcomeOf, answered, completed, beginning, isIgnored, heardAs, heard}
 use Rattle.steps.specs.Bus.{paused, silencedReader, elapsed}
-use Rattle.steps.proofs.Outcomes.{outcome-served}
-use Rattle.steps.proofs.Safety.{safe-carried, safe-after-reply, safe-read-by, safe-beginning, safe-completed}
+use Rattle.steps.proofs.OutcomeServed.{outcome-served}
+use Rattle.steps.proofs.KeepsSafe.{safe-carried, safe-after-reply, safe-read-by, safe-beginning, safe-completed}
 use Rattle.lent.specs.Run.{Beat, octet, gap, tick, beat}
 
 -- ---- a set of parameters or of configuration after an outcome

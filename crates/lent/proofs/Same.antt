@@ -28,9 +28,10 @@ use Rattle.steps.specs.Safe.{Safe}
 use Rattle.steps.specs.Step.{stepOver}
 use Rattle.steps.specs.Calls.{called, answers}
 use Rattle.agreement.specs.Agreement.{memoryOf}
-use Rattle.steps.proofs.Safety.{safe-heard, safe-paused, safe-elapsed}
+use Rattle.steps.proofs.KeepsSafe.{safe-heard, safe-paused, safe-elapsed}
 use Rattle.steps.proofs.KeepsSetup.{step-keeps}
-use Rattle.steps.proofs.Holding.{holds-safe, fronted, step-whole}
+use Rattle.steps.proofs.Holding.{holds-safe, step-whole}
+use Rattle.state.proofs.Damage.{fronted-same}
 use Rattle.steps.proofs.Guarded.{LengthIn, holds-well, called-steps}
 use Rattle.agreement.proofs.Agreement.{Ready, does, calls-of, ready-again, begins-ready, agreement}
 use Rattle.lent.specs.Run.{Beat, octet, gap, tick, beat, run, callOf, calls, memoryAfter, Same, CarriesOver}
@@ -94,7 +95,7 @@ beside-beat p s m b x =
 
 -- the run packed where it is
 packs : (p : List ℕ) (s : State) (m : List ℕ) → Beside p s m → kept s m ≡ p
-packs p s m b = ap (λ (l : List ℕ). image s ++ l) (sym (b .bodies)) ∙ sym (fronted p p s (b .holds) refl)
+packs p s m b = ap (λ (l : List ℕ). image s ++ l) (sym (b .bodies)) ∙ sym (fronted-same p s (b .holds))
 
 record Ends (p : List ℕ) (s : State) (m : List ℕ) (bs : List Beat) : Type 0 where
   image-is : kept (run s m bs .state) (run s m bs .memory) ≡ memoryAfter p (calls bs)

@@ -13,7 +13,7 @@ use Rattle.rules.specs.Call.{Call}
 use Rattle.steps.specs.Safe.{Safe}
 use Rattle.steps.specs.Stepped.{Stepped, Steps}
 use Rattle.steps.specs.Bus.{paused}
-use Rattle.steps.proofs.Safety.{safe-steps}
+use Rattle.steps.proofs.KeepsSafe.{safe-steps}
 use Rattle.steps.proofs.Guarded.{LengthIn, called-damaged}
 use Rattle.lent.specs.Run.{Beat, gap, run, calls, memoryAfter}
 use Rattle.lent.proofs.Partly.{run-append}

@@ -16,7 +16,7 @@ use state::state::State;
 ghost use mathlib.Core.Path.{_≡_};
 ghost use Rattle.steps.specs.Safe.{Safe};
 ghost use Rattle.steps.specs.Stepped.{Steps};
-ghost use Rattle.steps.specs.Deeds.{isOpen, onOutputs, onInputs, receivedSet, onSets, onState, onMemory, carried, diagnosisChanged, afterReply, settle};
+ghost use Rattle.steps.specs.Outcome.{isOpen, onOutputs, onInputs, receivedSet, onSets, onState, onMemory, carried, diagnosisChanged, afterReply, settle};
 
 // A set is open.
 pub fn is_open(s: Sets) -> bool

@@ -11,7 +11,7 @@ ghost use lib.ListN.{length};
 ghost use Rattle.state.specs.Layout.{stateLength};
 ghost use Rattle.state.specs.Unpack.{unpacked};
 ghost use Rattle.rules.specs.Diagnosis.{delayed};
-ghost use Rattle.steps.specs.Deeds.{isInside, begun, busy, diagnosisLeaves};
+ghost use Rattle.steps.specs.Line.{isInside, begun, busy, diagnosisLeaves};
 
 pub fn is_inside(status: Status) -> bool
     ensures { λ r. ⌜ r ≡ isInside status ⌝ }

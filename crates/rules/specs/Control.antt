@@ -21,6 +21,12 @@ exchanging WaitPrm = false
 exchanging WaitCfg = false
 exchanging DataExch = true
 
+-- the phase is WAIT_PRM
+abbrev pub inWaitPrm : Phase → Bool
+inWaitPrm WaitPrm = true
+inWaitPrm WaitCfg = false
+inWaitPrm DataExch = false
+
 -- in DATA_EXCH
 abbrev pub inExchange : Control → Bool
 inExchange c = exchanging (c .phase)

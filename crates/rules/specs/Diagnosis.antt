@@ -1,25 +1,17 @@
 -- The diagnosis octets that the station makes, and a new diagnosis of the user's (document 01, Services and User calls).
 use Prim.Native.Nat.{ℕ, _+_, _*_}
-use mathlib.Core.Bool.{Bool, true, false, cond, not}
+use mathlib.Core.Bool.{Bool, true, false, not}
 use lib.Dec.{eqb}
 use Rattle.buffers.specs.Events.{diagnosisEvent}
-use Rattle.state.specs.declared.control.Phase.{Phase}
-use Rattle.state.specs.declared.control.Phase.the-variants.{WaitPrm, WaitCfg, DataExch}
 use Rattle.state.specs.declared.control.Diagnosis.{Diagnosis}
 use Rattle.state.specs.declared.control.Control.{Control}
 use Rattle.state.specs.declared.state.Header.{Header}
-use Rattle.rules.specs.Control.{inExchange, withFlags, withDiagnosis, withDiagnosisFlags, raise}
+use Rattle.rules.specs.Control.{inWaitPrm, inExchange, withFlags, withDiagnosis, withDiagnosisFlags, raise}
 
 -- a flag's value in an octet
 abbrev pub one : Bool → ℕ
 one true = 1
 one false = 0
-
--- the phase is WAIT_PRM
-abbrev pub inWaitPrm : Phase → Bool
-inWaitPrm WaitPrm = true
-inWaitPrm WaitCfg = false
-inWaitPrm DataExch = false
 
 -- octet 0: bit 1 not DATA_EXCH, 2 Cfg_Fault, 3 Ext_Diag, 4 Not_Supported, 6 Prm_Fault
 abbrev pub status1 : Control → ℕ

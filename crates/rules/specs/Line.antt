@@ -1,15 +1,14 @@
 -- The clear, the watchdog and the Tick (document 01, User calls, last paragraph).
 use Prim.Native.Nat.{ℕ, _-_}
-use mathlib.Core.Bool.{Bool, true, false, cond, not, _&&_, _||_}
+use mathlib.Core.Bool.{Bool, true, false, cond, not, _&&_}
 use lib.Dec.{eqb, leb}
 use Rattle.buffers.specs.Events.{watchdogEvent}
-use Rattle.state.specs.declared.control.Phase.{Phase}
 use Rattle.state.specs.declared.control.Control.{Control}
 use Rattle.state.specs.declared.state.Drawn.the-variants.{Nothing}
 use Rattle.rules.specs.declared.outcome.Outcome.{Outcome}
 use Rattle.rules.specs.Control.{withNoted, withWatchdog, raise}
 use Rattle.rules.specs.Phases.{drawing, enteringWaitPrm}
-use Rattle.rules.specs.Diagnosis.{inWaitPrm}
+use Rattle.rules.specs.Control.{inWaitPrm}
 
 -- a clear enters WAIT_PRM, and none is noted any more
 abbrev pub clearing : Control → Outcome

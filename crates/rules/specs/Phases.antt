@@ -1,15 +1,12 @@
 -- Entering and leaving the phases (document 01, Services, last paragraph).
-use Prim.Native.Nat.{ℕ}
-use mathlib.Core.Bool.{Bool, cond}
+use mathlib.Core.Bool.{cond}
 use Rattle.buffers.specs.declared.events.Events.{Events}
 use Rattle.buffers.specs.Events.{raised, cleared, dataExchangeEvent, configurationEvent, parametersEvent, outputsEvent}
 use Rattle.state.specs.declared.control.Phase.the-variants.{WaitPrm, WaitCfg, DataExch}
 use Rattle.state.specs.declared.control.Control.{Control}
 use Rattle.state.specs.declared.state.Drawn.{Drawn}
-use Rattle.state.specs.declared.state.Drawn.the-variants.{Nothing}
 use Rattle.rules.specs.declared.outcome.OutputsDeed.{OutputsDeed}
 use Rattle.rules.specs.declared.outcome.OutputsDeed.the-variants as outputs-deed
-use Rattle.rules.specs.declared.outcome.SetDeed.{SetDeed}
 use Rattle.rules.specs.declared.outcome.SetDeed.the-variants as set-deed
 use Rattle.rules.specs.declared.outcome.Outcome.{Outcome}
 use Rattle.state.specs.Start.{noOwner}

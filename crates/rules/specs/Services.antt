@@ -1,12 +1,11 @@
 -- The services (document 01, Services): what comes of each, on the control part. opened: a set of that kind is open.
 use Prim.Native.Nat.{ℕ, _+_, _*_}
-use mathlib.Core.Bool.{Bool, true, false, cond, not, _&&_, _||_}
+use mathlib.Core.Bool.{Bool, cond, not, _&&_, _||_}
 use lib.Bits.{bitAnd}
 use lib.Dec.{eqb}
 use Rattle.buffers.specs.declared.events.Events.{Events}
 use Rattle.buffers.specs.Events.{raised, cleared, controlEvent, configurationEvent, parametersEvent, outputsEvent}
 use Rattle.state.specs.declared.setup.Setup.{Setup}
-use Rattle.state.specs.declared.control.Watchdog.{Watchdog}
 use Rattle.state.specs.declared.control.Control.{Control}
 use Rattle.state.specs.declared.state.Drawn.the-variants as drawn
 use Rattle.state.specs.Start.{noOwner}
@@ -17,7 +16,6 @@ use Rattle.rules.specs.declared.request.OpenSets.{OpenSets}
 use Rattle.rules.specs.declared.request.Prm.{Prm}
 use Rattle.rules.specs.declared.request.Service.{Service}
 use Rattle.rules.specs.declared.request.Service.the-variants.{Nothing, Status, Reject, GlobalControl, DataExchange, SetPrm, ChkCfg, SlaveDiag, GetCfg, ReadInputs, ReadOutputs}
-use Rattle.rules.specs.declared.outcome.OutputsDeed.{OutputsDeed}
 use Rattle.rules.specs.declared.outcome.OutputsDeed.the-variants as outputs-deed
 use Rattle.rules.specs.declared.outcome.SetDeed.the-variants as set-deed
 use Rattle.rules.specs.declared.outcome.Outcome.{Outcome}

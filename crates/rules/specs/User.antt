@@ -1,5 +1,5 @@
 -- Judging (document 01, User calls), on the control part. A new diagnosis is in Diagnosis.antt.
-use mathlib.Core.Bool.{Bool, true, false, cond, not, _&&_, _||_}
+use mathlib.Core.Bool.{Bool, cond}
 use Rattle.buffers.specs.Events.{configurationEvent, parametersEvent}
 use Rattle.state.specs.declared.control.Control.{Control}
 use Rattle.state.specs.declared.state.Drawn.the-variants.{Nothing}

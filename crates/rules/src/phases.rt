@@ -9,7 +9,7 @@ use state::control::Watchdog;
 use state::state::Drawn;
 ghost use mathlib.Core.Path.{_≡_};
 ghost use Rattle.rules.specs.Control.{exchanging, withPhase};
-ghost use Rattle.rules.specs.Diagnosis.{inWaitPrm};
+ghost use Rattle.rules.specs.Control.{inWaitPrm};
 ghost use Rattle.rules.specs.Phases.{drawing, leftExchange, waitPrm, enteringWaitPrm, waitCfg, zerosIfLeft, dataExch};
 
 // Whether the phase is DATA_EXCH.
@@ -89,7 +89,10 @@ pub fn wait_prm(control: Control) -> Control
     let events = dropped.raise(Events::OUTPUTS);
     let flags = control.flags;
     let diagnosis = control.diagnosis;
-    let watchdog = Watchdog { reload: 0, remaining: 0 };
+    let watchdog = Watchdog {
+        reload: 0,
+        remaining: 0,
+    };
     Control {
         phase: Phase::WaitPrm,
         owner: Control::NO_OWNER,

@@ -1,14 +1,13 @@
 -- A memory passes the damage check exactly if it holds a state, and it is that state.
 use Prim.Native.Nat.{ℕ, _≤_, _<_}
 use native.Mathlib.Omega.{arith}
-use mathlib.Core.Path.{_≡_, sym, ap, _∙_}
-use mathlib.Core.Bool.{Bool, true, false, _&&_}
+use mathlib.Core.Path.{_≡_, refl, sym, ap, _∙_}
+use mathlib.Core.Bool.{true, false, _&&_}
 use mathlib.Core.List.{List, [], _∷_, _++_}
 use lib.Dec.{leb}
-use lib.ListN.{length, getD, drop, take-append-drop}
+use lib.ListN.{length, getD, take, drop, take-append-drop}
 use borrow.Author.Tests.{leb-true, le-leb, lt-leb}
 use Rattle.state.specs.declared.state.State.{State}
-use Rattle.state.specs.Image.{image}
 use Rattle.state.specs.Layout.{stateLength, endOf}
 use Rattle.state.specs.Memory.{kept, holdsState, Holds}
 use Rattle.state.specs.Sound.{Sound}
@@ -19,19 +18,23 @@ use Rattle.state.proofs.Places.{end-behind}
 use Rattle.state.proofs.Round.{round, image-well, well-sound, well-image}
 use Rattle.state.proofs.Tests.{all-at, all-fails}
 
--- a memory that holds a state is that state's image and a rest
-pub fronted : (m : List ℕ) (s : State) → Holds m s → m ≡ image s ++ drop stateLength m
-fronted m s h = sym (take-append-drop stateLength m) ∙ ap (λ (l : List ℕ). l ++ drop stateLength m) (h .front)
+-- a memory with the same octets in front as one that holds a state stays as it is where that state is packed again
+pub fronted : (m n : List ℕ) (s : State) → Holds m s → take stateLength n ≡ take stateLength m → n ≡ kept s n
+fronted m n s h e = sym (take-append-drop stateLength n) ∙ ap (λ (l : List ℕ). l ++ drop stateLength n) (e ∙ h .front)
+
+-- so does that memory itself
+pub fronted-same : (m : List ℕ) (s : State) → Holds m s → m ≡ kept s m
+fronted-same m s h = fronted m m s h refl
 
 -- it unpacks to it
 pub holds-unpacked : (m : List ℕ) (s : State) → Holds m s → unpacked m ≡ s
-holds-unpacked m s h = ap unpacked (fronted m s h) ∙ round s (h .sound) (drop stateLength m)
+holds-unpacked m s h = ap unpacked (fronted-same m s h) ∙ round s (h .sound) (drop stateLength m)
 
 -- and passes the check
 pub holds-passes : (m : List ℕ) (s : State) → Holds m s → holdsState m ≡ true
 unfolding holdsState
 holds-passes m s h =
-    let image-is : wellImage m ≡ true = ap wellImage (fronted m s h) ∙ image-well s (h .sound) (drop stateLength m) in
+    let image-is : wellImage m ≡ true = ap wellImage (fronted-same m s h) ∙ image-well s (h .sound) (drop stateLength m) in
     let room-is : leb (endOf (unpacked m .setup)) (length m) ≡ true =
     ap (λ (t : State). leb (endOf (t .setup)) (length m)) (holds-unpacked m s h) ∙ le-leb (endOf (s .setup)) (length m) (h .room)
     in

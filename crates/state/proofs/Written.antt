@@ -12,7 +12,7 @@ use Rattle.state.specs.Layout.{stateLength}
 use Rattle.state.specs.Memory.{kept, Holds}
 use Rattle.state.specs.Number.{readingNumber, kindNumber, stageNumber}
 use Rattle.state.specs.With.{withIncoming, withData, withSender}
-use Rattle.state.proofs.Damage.{fronted}
+use Rattle.state.proofs.Damage.{fronted-same}
 
 -- ---- the octets lie in the memory
 
@@ -61,13 +61,13 @@ module _ (m : List ℕ) (s : State) (h : Holds m s) where
       ∷ i .first
       ∷ i .second
       ∷ []))
-      (fronted m s h)
+      (fronted-same m s h)
 
   -- octets 35 and 41 to 43
   pub data-saved : (at sum first second : ℕ)
       → set (set (set (set m 35 at) 41 sum) 42 first) 43 second ≡ kept (withData s at sum first second) m
   unfolding image
-  data-saved at sum first second = ap (λ (l : List ℕ). set (set (set (set l 35 at) 41 sum) 42 first) 43 second) (fronted m s h)
+  data-saved at sum first second = ap (λ (l : List ℕ). set (set (set (set l 35 at) 41 sum) 42 first) 43 second) (fronted-same m s h)
 
   -- octets 44 to 51
   pub sender-saved : (x : Sender)
@@ -80,4 +80,4 @@ module _ (m : List ℕ) (s : State) (h : Holds m s) where
       (λ (l : List ℕ).
       wrote l 44
       (stageNumber (x .stage) ∷ kindNumber (x .kind) ∷ x .count ∷ x .at ∷ x .da ∷ x .sa ∷ x .fc ∷ x .sum ∷ []))
-      (fronted m s h)
+      (fronted-same m s h)

@@ -7,7 +7,7 @@ use lib.ListN.{getD}
 use Rattle.state.specs.declared.setup.Setup.{Setup}
 use Rattle.state.specs.Unpack.{marksIn, bitAt, setupIn}
 
--- a and each of l, as the code's `a & b & c` joins them
+-- a and each of l
 abbrev pub allFrom : Bool → List Bool → Bool
 allFrom a [] = a
 allFrom a (b ∷ l) = allFrom (a && b) l

@@ -1,12 +1,10 @@
 -- The state with a part of it changed.
 use Prim.Native.Nat.{ℕ}
-use mathlib.Core.Bool.{Bool}
 use Rattle.buffers.specs.declared.triple.Triple.{Triple}
 use Rattle.telegram.specs.declared.sender.Sender.{Sender}
 use Rattle.telegram.specs.Reading.{rd}
 use Rattle.state.specs.declared.control.Control.{Control}
 use Rattle.state.specs.declared.state.Outputs.{Outputs}
-use Rattle.state.specs.declared.state.Sets.{Sets}
 use Rattle.state.specs.declared.state.Incoming.{Incoming}
 use Rattle.state.specs.declared.state.Reply.{Reply}
 use Rattle.state.specs.declared.state.State.{State}

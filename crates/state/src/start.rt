@@ -97,7 +97,10 @@ fn first_control() -> Control
         owner: Control::NO_OWNER,
         group: 0,
         stored: 0,
-        watchdog: Watchdog { reload: 0, remaining: 0 },
+        watchdog: Watchdog {
+            reload: 0,
+            remaining: 0,
+        },
         flags: Flags {
             prm_fault: false,
             cfg_fault: false,

@@ -1,6 +1,6 @@
-pub mod Reaching
+pub mod KindsInMemory
 pub mod Stepping
 pub mod Guarding
-mod OverMemory
+mod HeardOverMemory
 mod StoredOverMemory
-mod Leaving
+mod SentOverMemory

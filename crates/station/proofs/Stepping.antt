@@ -1,6 +1,6 @@
 -- A call's step as the code makes it: by value and packed again, over the memory, or only answered.
 use Prim.Native.Nat.{ℕ}
-use mathlib.Core.Path.{_≡_, refl, sym, ap, subst, _∙_}
+use mathlib.Core.Path.{_≡_, sym, ap, subst, _∙_}
 use mathlib.Core.List.{List}
 use lib.ListN.{take}
 use Rattle.state.specs.declared.answer.Answer.{Answer}
@@ -15,8 +15,9 @@ use Rattle.rules.specs.Call.{Call}
 use Rattle.steps.specs.Stepped.{Stepped, Steps, packedAfter}
 use Rattle.steps.specs.User.{toldOf, Tells, writeOctet}
 use Rattle.steps.specs.Step.{step, stepOver}
-use Rattle.steps.proofs.Holding.{holds-safe, fronted, step-whole}
-use Rattle.station.proofs.Reaching.{written-front}
+use Rattle.steps.proofs.Holding.{holds-safe, step-whole}
+use Rattle.state.proofs.Damage.{fronted, fronted-same}
+use Rattle.station.proofs.KindsInMemory.{written-front}
 
 -- the state that the code unpacked
 pub holding : (m : List ℕ) (s : State) → Holds m (unpacked m) → s ≡ unpacked m → Holds m s
@@ -34,7 +35,7 @@ module _ (m : List ℕ) (s : State) (c : Call) (h : Holds m s) where
 
   -- and as it only answers
   pub answered : (a : Answer) → Tells (step s m c) a s m → Meets (stepOver m c) a m
-  answered a r = stepped a s m m r (fronted m m s h refl)
+  answered a r = stepped a s m m r (fronted-same m s h)
 
 -- a step of the bus tells a number
 pub bus-tells : (j : ℕ) (r : Stepped) (k : ℕ) (t : State) (n : List ℕ)

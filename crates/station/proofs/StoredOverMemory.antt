@@ -13,7 +13,7 @@ use Rattle.state.specs.declared.state.State.{State}
 use Rattle.state.specs.Layout.{outputs, parameters, configuration, countOf, lengthOf, startOf}
 use Rattle.steps.specs.Safe.{Safe}
 use Rattle.steps.specs.Reading.{storedData}
-use Rattle.steps.proofs.Safety.{buffer-room}
+use Rattle.steps.proofs.KeepsSafe.{buffer-room}
 
 -- an octet stored in the fill buffer of the set t, whose buffers are of that kind
 abbrev inFill : State → List ℕ → ℕ → Triple → ℕ → ℕ → List ℕ

@@ -23,7 +23,7 @@ ghost use Rattle.state.specs.Unpack.{unpacked};
 ghost use Rattle.state.specs.With.{withSender};
 ghost use Rattle.steps.specs.Safe.{Safe};
 ghost use Rattle.steps.specs.Stepped.{Steps, packedAfter};
-ghost use Rattle.steps.specs.Deeds.{settle};
+ghost use Rattle.steps.specs.Outcome.{settle};
 ghost use Rattle.steps.specs.Bus.{paused, sentBy, sendTold, sendLeft, silencedReader, elapsed};
 
 // A gap: the next octet may begin a telegram.

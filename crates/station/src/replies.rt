@@ -20,7 +20,6 @@ ghost use lib.ListN.{length, getD};
 ghost use Rattle.octets.specs.Part.{part};
 ghost use Rattle.state.specs.Memory.{Holds};
 ghost use Rattle.state.specs.Unpack.{unpacked};
-ghost use Rattle.state.specs.Start.{noReply};
 ghost use Rattle.steps.specs.Replies.{servicing, senderFor, replyFor, ownPlace, userPlace, headerAt, contentAt, replyPoint, isExchange, datumAt, askedFor};
 
 // SD2 with bit 7 in both addresses: DSAP and SSAP stand before n data octets.

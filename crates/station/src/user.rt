@@ -26,7 +26,7 @@ ghost use Prim.Native.Nat.{ℕ};
 ghost use mathlib.Core.Bool.{cond};
 ghost use mathlib.Core.List.{List};
 ghost use mathlib.Core.Path.{_≡_};
-ghost use lib.Dec.{eqb, leb};
+ghost use lib.Dec.{leb};
 ghost use Rattle.state.specs.Memory.{Holds};
 ghost use Rattle.state.specs.Unpack.{unpacked};
 ghost use Rattle.steps.specs.Safe.{Safe};

@@ -1,34 +1,25 @@
 -- A step over a memory that holds a state: it may be made, a refusal leaves the memory, and what it leaves is packed again.
-use Prim.Native.Nat.{ℕ, _≤_}
-use native.Mathlib.Omega.{arith}
-use mathlib.Core.Path.{_≡_, refl, sym, ap, subst, _∙_}
-use mathlib.Core.Bool.{Bool, true, false, cond, not, _&&_}
-use mathlib.Core.List.{List, _++_}
-use mir.Syntax.{w8}
-use mir.Val.{Fits}
+use Prim.Native.Nat.{ℕ}
+use mathlib.Core.Path.{_≡_, refl, ap, _∙_}
+use mathlib.Core.Bool.{Bool, cond, not, _&&_}
+use mathlib.Core.List.{List}
 use lib.Dec.{leb}
-use lib.ListN.{length, getD, take, drop, take-append-drop}
-use borrow.Author.Tests.{not-true, not-false}
-use Rattle.state.specs.declared.answer.Answer.{Answer}
-use Rattle.state.specs.declared.answer.Answer.the-variants.{Value, Refused}
 use Rattle.state.specs.declared.answer.Refusal.{Refusal}
-use Rattle.state.specs.declared.answer.Refusal.the-variants.{Damaged, Judging, Range, Absent, Delayed}
+use Rattle.state.specs.declared.answer.Refusal.the-variants.{Judging, Range, Absent, Delayed}
 use Rattle.state.specs.declared.state.State.{State}
-use Rattle.state.specs.Answer.{Called, Meets, refused}
-use Rattle.state.specs.Layout.{stateLength}
+use Rattle.state.specs.Answer.{Called, refused}
 use Rattle.state.specs.Memory.{kept, Holds}
-use Rattle.state.specs.Unpack.{unpacked}
 use Rattle.state.proofs.Choice.{either}
-use Rattle.state.proofs.Damage.{holds-unpacked}
+use Rattle.state.proofs.Damage.{fronted-same, holds-unpacked}
 use Rattle.state.specs.Well.{within}
 use Rattle.rules.specs.Diagnosis.{delayed}
 use Rattle.rules.specs.Kinds.{inRange, writable}
 use Rattle.rules.specs.Call as calls
 use Rattle.rules.specs.Call.{Call}
 use Rattle.steps.specs.Safe.{Safe}
-use Rattle.steps.specs.Stepped.{Stepped, Steps, packedAfter}
-use Rattle.steps.specs.Deeds.{isOpen, diagnosisLeaves}
-use Rattle.steps.specs.User.{absent, Told, told, refusing, toldOf, Tells, takeOutputs, readOctet, writeOctet, handOver, newDiagnosis, judgeParameters, judgeConfiguration, acknowledgeEvents, leaveMaster}
+use Rattle.steps.specs.Outcome.{isOpen}
+use Rattle.steps.specs.Line.{diagnosisLeaves}
+use Rattle.steps.specs.User.{absent, Told, told, refusing, takeOutputs, readOctet, writeOctet, handOver, newDiagnosis, judgeParameters, judgeConfiguration, acknowledgeEvents, leaveMaster}
 use Rattle.steps.specs.Step.{step, packed, stepOver}
 
 -- ---- a memory that holds a state
@@ -46,10 +37,6 @@ holds-safe m s h =
       long = g .setup .parameter-len .0;
       room = h .room;
     }
-
--- another memory with that state's octets in front stays as it is where the state is packed again
-pub fronted : (m n : List ℕ) (s : State) → Holds m s → take stateLength n ≡ take stateLength m → n ≡ kept s n
-fronted m n s h e = sym (take-append-drop stateLength n) ∙ ap (λ (l : List ℕ). l ++ drop stateLength n) (e ∙ h .front)
 
 -- ---- a refusal leaves the memory
 
@@ -101,4 +88,4 @@ module _ (m : List ℕ) (s : State) (c : Call) (h : Holds m s) where
   -- the state is unpacked, its step made and what it leaves packed
   pub step-whole : stepOver m c ≡ whole (step s m c)
   unfolding stepOver
-  step-whole = ap (λ (t : State). packed m (step t m c)) (holds-unpacked m s h) ∙ packs s m (fronted m m s h refl) c .packed-so
+  step-whole = ap (λ (t : State). packed m (step t m c)) (holds-unpacked m s h) ∙ packs s m (fronted-same m s h) c .packed-so

@@ -1,7 +1,7 @@
 -- No call changes the memory's length or the setup that Start gave.
 use Prim.Native.Nat.{ℕ}
 use mathlib.Core.Path.{_≡_, refl, _∙_}
-use mathlib.Core.Bool.{Bool, true, false, cond, not, _&&_}
+use mathlib.Core.Bool.{Bool, not, _&&_}
 use mathlib.Core.List.{List}
 use lib.Dec.{leb}
 use lib.ListN.{length, length-set}
@@ -22,15 +22,16 @@ use Rattle.rules.specs.Kinds.{inRange, writable}
 use Rattle.rules.specs.Call.{Call, octet, gap, send, tick, take, read, write, hand-over, new-diagnosis, judge-parameters, judge-configuration, events, acknowledge, pending, leave}
 use Rattle.state.specs.With.{withReply}
 use Rattle.steps.specs.Safe.{Safe}
-use Rattle.steps.specs.Stepped.{Stepped, unchanged}
-use Rattle.steps.specs.Deeds.{begun, busy, isOpen, diagnosisLeaves, carried, afterReply, settle}
+use Rattle.steps.specs.Stepped.{Stepped}
+use Rattle.steps.specs.Line.{begun, busy, diagnosisLeaves}
+use Rattle.steps.specs.Outcome.{isOpen, carried, afterReply, settle}
 use Rattle.state.specs.Start.{noReply}
 use Rattle.steps.specs.Replies.{askedFor}
 use Rattle.steps.specs.Reading.{storedAs, readBy, requestBy, outcomeOf, answered, completed, beginning, isIgnored, heardAs, heard}
 use Rattle.steps.specs.Bus.{paused, sentBy, sendLeft, silencedReader, elapsed}
 use Rattle.steps.specs.User.{Told, absent, takeOutputs, readOctet, writeOctet, handOver, newDiagnosis, judgeParameters, judgeConfiguration, acknowledgeEvents, leaveMaster}
 use Rattle.steps.specs.Step.{step}
-use Rattle.steps.proofs.Safety.{on-memory-length, stored-data-length, safe-after-reply, safe-read-by, safe-reply, safe-no-reply, safe-completed, safe-beginning}
+use Rattle.steps.proofs.KeepsSafe.{on-memory-length, stored-data-length, safe-after-reply, safe-read-by, safe-reply, safe-no-reply, safe-completed, safe-beginning}
 
 -- from s and m to t and n
 pub record Keeps (s : State) (m : List ℕ) (t : State) (n : List ℕ) : Type 0 where

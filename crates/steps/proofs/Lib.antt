@@ -1,6 +1,6 @@
-pub mod Safety
+pub mod KeepsSafe
 pub mod KeepsSetup
-pub mod Idle
+pub mod NothingWaits
 pub mod Holding
 pub mod Guarded
-pub mod Outcomes
+pub mod OutcomeServed

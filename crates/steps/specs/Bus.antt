@@ -1,6 +1,6 @@
 -- Gap, send and tick on the state and the memory.
 use Prim.Native.Nat.{ℕ}
-use mathlib.Core.Bool.{Bool, true, false, cond, not}
+use mathlib.Core.Bool.{Bool, cond}
 use mathlib.Core.List.{List}
 use Rattle.telegram.specs.declared.reader.Reader.{Reader}
 use Rattle.telegram.specs.declared.sender.Sender.{Sender}
@@ -11,7 +11,8 @@ use Rattle.state.specs.declared.state.State.{State}
 use Rattle.rules.specs.Line.{ticked}
 use Rattle.state.specs.With.{withReply}
 use Rattle.steps.specs.Stepped.{Stepped, unchanged}
-use Rattle.steps.specs.Deeds.{begun, busy, carried, settle}
+use Rattle.steps.specs.Line.{begun, busy}
+use Rattle.steps.specs.Outcome.{carried, settle}
 use Rattle.state.specs.Start.{noReply}
 use Rattle.steps.specs.Replies.{askedFor}
 use Rattle.steps.specs.Reading.{readBy}

@@ -1,6 +1,7 @@
 pub mod Safe
 pub mod Stepped
-pub mod Deeds
+pub mod Line
+pub mod Outcome
 pub mod Replies
 pub mod Reading
 pub mod Bus

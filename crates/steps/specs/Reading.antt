@@ -23,7 +23,8 @@ use Rattle.rules.specs.Requests.{masterOf}
 use Rattle.rules.specs.Services.{outcomeBy}
 use Rattle.state.specs.With.{withIncoming, withReply}
 use Rattle.steps.specs.Stepped.{Stepped, unchanged}
-use Rattle.steps.specs.Deeds.{isInside, begun, openSets, carried, settle}
+use Rattle.steps.specs.Line.{isInside, begun}
+use Rattle.steps.specs.Outcome.{openSets, carried, settle}
 use Rattle.state.specs.Start.{noReply}
 use Rattle.steps.specs.Replies.{replyFor}
 

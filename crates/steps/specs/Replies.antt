@@ -1,7 +1,7 @@
 -- The reply in progress: how it is drawn, and where its data octets are read.
 use Prim.Native.Nat.{ℕ, _+_, _-_, _/_, _%_}
 use mathlib.Core.Bool.{Bool, true, false, cond}
-use mathlib.Core.List.{List, []}
+use mathlib.Core.List.{List}
 use lib.Dec.{eqb, ltb}
 use lib.ListN.{getD}
 use Rattle.buffers.specs.Triple.{fillOf, heldOf}
@@ -10,10 +10,8 @@ use Rattle.telegram.specs.declared.Kind.the-variants.{Sd1, Sd2}
 use Rattle.telegram.specs.declared.Datum.{Datum}
 use Rattle.telegram.specs.declared.Datum.the-variants as datum
 use Rattle.telegram.specs.declared.sender.Sender.{Sender}
-use Rattle.telegram.specs.declared.sender.Sent.{Sent}
-use Rattle.telegram.specs.Sending.{empty, single, sending, asks, sent}
+use Rattle.telegram.specs.Sending.{empty, single, sending, asks}
 use Rattle.state.specs.declared.setup.Setup.{Setup}
-use Rattle.state.specs.declared.control.Control.{Control}
 use Rattle.state.specs.declared.state.Drawn.{Drawn}
 use Rattle.state.specs.declared.state.Drawn.the-variants.{Nothing, Acknowledge, Status, Rejected, Exchange, Inputs, Outputs, Configuration, Diagnosis}
 use Rattle.state.specs.declared.state.Header.{Header}

@@ -1,13 +1,12 @@
 -- The calls of the vat program on the state and the memory.
 use Prim.Native.Nat.{ℕ, _+_}
-use mathlib.Core.Bool.{Bool, true, false, cond, not, _&&_, _||_}
+use mathlib.Core.Bool.{Bool, cond, not, _&&_, _||_}
 use mathlib.Core.List.{List}
 use mathlib.Core.Path.{_≡_}
-use lib.Dec.{eqb, leb, ltb}
+use lib.Dec.{eqb, leb}
 use lib.ListN.{getD, set}
 use Rattle.buffers.specs.Events.{acknowledged, pendingOf}
 use Rattle.buffers.specs.Triple.{heldOf, taken, handedOver}
-use Rattle.state.specs.declared.setup.Setup.{Setup}
 use Rattle.state.specs.declared.answer.Answer.{Answer}
 use Rattle.state.specs.declared.answer.Answer.the-variants.{Value, Refused}
 use Rattle.state.specs.declared.answer.Refusal.{Refusal}
@@ -19,10 +18,11 @@ use Rattle.rules.specs.Control.{withEvents}
 use Rattle.rules.specs.Diagnosis.{delayed, diagnosed, delaying}
 use Rattle.rules.specs.Line.{clearOn}
 use Rattle.rules.specs.User.{judgedParameters, judgedConfiguration}
-use Rattle.rules.specs.Kinds.{kindLength, inRange, writable}
+use Rattle.rules.specs.Kinds.{inRange, writable}
 use Rattle.state.specs.With.{withControl, withOutputs, withInputs}
-use Rattle.steps.specs.Stepped.{Stepped, unchanged}
-use Rattle.steps.specs.Deeds.{busy, isOpen, diagnosisLeaves, diagnosisChanged, carried}
+use Rattle.steps.specs.Stepped.{Stepped}
+use Rattle.steps.specs.Line.{busy, diagnosisLeaves}
+use Rattle.steps.specs.Outcome.{isOpen, diagnosisChanged, carried}
 use Rattle.steps.specs.Replies.{userPlace}
 
 -- what a call answers, and what it leaves

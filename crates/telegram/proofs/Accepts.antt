@@ -1,5 +1,5 @@
 -- A reader that completes has read a telegram: from the last octet back to the first.
-use Prim.Native.Nat.{ℕ, _+_, _-_, _%_, _≤_, _<_}
+use Prim.Native.Nat.{ℕ, _+_, _-_, _%_, _≤_}
 use native.Mathlib.Nat.{mod-add-mod, add-zero, add-assoc}
 use native.Mathlib.Omega.{arith}
 use mathlib.Core.Path.{_≡_, refl, ap, _∙_}
@@ -11,11 +11,11 @@ use lib.Dec.{ltb, leb, eqb}
 use lib.ListN.{length}
 use Rattle.telegram.specs.declared.Kind.{Kind}
 use Rattle.telegram.specs.declared.Kind.the-variants.{Sd1, Sd2, Sd3, Sd4}
-use Rattle.telegram.specs.declared.reader.Phase.the-variants.{Start, Le, LeAgain, SdAgain, Da, Sa, Fc, Dsap, Ssap, Body, End, Done}
+use Rattle.telegram.specs.declared.reader.Phase.the-variants.{Le, LeAgain, SdAgain, Da, Sa, Fc, Dsap, Ssap, Body, End, Done}
 use Rattle.telegram.specs.declared.reader.Status.the-variants.{Complete}
 use Rattle.telegram.specs.Checksum.{total, checksum}
 use Rattle.telegram.specs.Telegram.{sd1, sd2, sd3, sd4, Addresses, IsTelegram}
-use Rattle.telegram.specs.Reading.{rd, before, start, afterSa, afterFc, counted, runFrom, run, status}
+use Rattle.telegram.specs.Reading.{rd, before, start, afterSa, counted, runFrom, run, status}
 use Rattle.telegram.proofs.Run.{no-true, inside-complete, fresh-complete, passed}
 
 -- complete: nothing more came

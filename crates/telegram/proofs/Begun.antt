@@ -11,7 +11,7 @@ use Rattle.telegram.specs.declared.reader.Phase.the-variants.{Start, Le,
 use Rattle.telegram.specs.declared.reader.Reader.{Reader}
 use Rattle.telegram.specs.declared.reader.Status.{Status}
 use Rattle.telegram.specs.declared.reader.Status.the-variants.{Fresh, Inside, Complete, Broken}
-use Rattle.telegram.specs.Reading.{rd, before, moved, off, okAt, nextAt, afterSa, afterFc, step, runFrom, run, status, statusAt}
+use Rattle.telegram.specs.Reading.{rd, before, moved, off, okAt, nextAt, afterSa, step, runFrom, run, status, statusAt}
 use Rattle.telegram.proofs.Run.{no-true}
 
 abbrev isFresh : Status → Bool

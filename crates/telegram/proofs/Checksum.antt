@@ -1,7 +1,7 @@
 -- The running checksum over u8 is the sum modulo 256 over the list.
 use Prim.Native.Nat.{ℕ, _+_, _%_}
 use native.Mathlib.Nat.{mod-add-mod, add-zero, add-assoc, zero-add}
-use mathlib.Core.Path.{_≡_, refl, ap, _∙_}
+use mathlib.Core.Path.{_≡_, ap, _∙_}
 use mathlib.Core.List.{List, [], _∷_}
 use Rattle.telegram.specs.Checksum.{total, checksum, running}
 

@@ -1,5 +1,5 @@
 -- What is gathered octet by octet, for a layer that stores each data octet as it comes.
-use Prim.Native.Nat.{ℕ, _+_, _-_, _%_, _≤_, _<_}
+use Prim.Native.Nat.{ℕ, _+_, _%_, _<_}
 use native.Mathlib.Nat.{add-zero, zero-add}
 use native.Mathlib.Omega.{arith}
 use mathlib.Core.Path.{_≡_, refl, sym, ap, _∙_}
@@ -12,7 +12,7 @@ use Rattle.telegram.specs.declared.Kind.the-variants.{Sd1, Sd2, Sd3, Sd4
 use Rattle.telegram.specs.declared.reader.Phase.{Phase}
 use Rattle.telegram.specs.declared.reader.Phase.the-variants.{Start, Le, LeAgain, SdAgain, Da, Sa, Fc, Dsap, Ssap, Body, End, Done, Off}
 use Rattle.telegram.specs.declared.reader.Reader.{Reader}
-use Rattle.telegram.specs.declared.reader.Status.the-variants.{Inside, Complete, Broken}
+use Rattle.telegram.specs.declared.reader.Status.the-variants.{Inside, Broken}
 use Rattle.telegram.specs.Reading.{rd, before, moved, off, start, okAt, nextAt, step, runFrom, run, status, statusAt, inBody, takesData, gathered}
 use Rattle.telegram.proofs.Run.{no-true, off-stays}
 use Rattle.telegram.proofs.Continues.{small-run}

@@ -2,7 +2,7 @@
 use Prim.Native.Nat.{ℕ, _+_, _-_, _%_, _≤_, _<_}
 use native.Mathlib.Nat.{mod-add-mod, add-zero, add-assoc}
 use native.Mathlib.Omega.{arith}
-use mathlib.Core.Path.{_≡_, refl, sym, ap, _∙_}
+use mathlib.Core.Path.{_≡_, refl, ap, _∙_}
 use mathlib.Core.List.{List, [], _∷_, _++_}
 use mathlib.Core.Bool.{Bool, true, false, cond}
 use mathlib.Core.Logic.{inl, inr}
@@ -12,10 +12,10 @@ use lib.ListN.{length, drop, getD}
 use Rattle.telegram.specs.declared.Kind.{Kind}
 use Rattle.telegram.specs.declared.Kind.the-variants.{Sd1, Sd2, Sd3, Sd4}
 use Rattle.telegram.specs.declared.reader.Phase.{Phase}
-use Rattle.telegram.specs.declared.reader.Phase.the-variants.{Start, Le, LeAgain, SdAgain, Da, Sa, Fc, Dsap, Ssap, Body, End, Done}
+use Rattle.telegram.specs.declared.reader.Phase.the-variants.{Le, LeAgain, SdAgain, Da, Sa, Fc, Dsap, Ssap, Body, End, Done}
 use Rattle.telegram.specs.declared.reader.Reader.{Reader}
 use Rattle.telegram.specs.Checksum.{total, checksum}
-use Rattle.telegram.specs.Telegram.{Telegram, sd1, sd2, sd3, sd4, headOf, coveredOf, octetsOf, payloadOf, Addresses, Valid}
+use Rattle.telegram.specs.Telegram.{Telegram, sd1, sd2, sd3, sd4, octetsOf, payloadOf, Addresses, Valid}
 use Rattle.telegram.specs.Reading.{rd, before, start, afterSa, counted, step, runFrom, run, takesData, gathered, finished}
 use Rattle.telegram.proofs.Run.{on, run-append}
 

@@ -4,11 +4,11 @@ use native.Mathlib.Nat.{mod-eq-of-lt}
 use native.Mathlib.Numerals.{add-one}
 use native.Mathlib.Omega.{arith}
 use mathlib.Core.Path.{_≡_, refl, sym, ap, _∙_}
-use mathlib.Core.List.{List, [], _∷_, _++_}
+use mathlib.Core.List.{List, [], _∷_}
 use mathlib.Core.Bool.{Bool, true, false, cond}
 use borrow.Author.Tests.{ltb-true, ltb-false}
 use lib.Dec.{ltb}
-use lib.ListN.{length, drop, getD, drop-of-length-le}
+use lib.ListN.{length, getD, drop-of-length-le}
 use lib.Seq.{drop-cons}
 use Rattle.telegram.specs.declared.Kind.{Kind}
 use Rattle.telegram.specs.declared.Kind.the-variants.{Sd1, Sd2, Sd3, Sd4}
@@ -16,12 +16,10 @@ use Rattle.telegram.specs.declared.Datum.the-variants.{Number, Nothing}
 use Rattle.telegram.specs.declared.sender.Stage.{Stage}
 use Rattle.telegram.specs.declared.sender.Stage.the-variants.{Start, Le, LeAgain, SdAgain, Da, Sa, Fc, Body, End, Single, Empty}
 use Rattle.telegram.specs.declared.sender.Sender.{Sender}
-use Rattle.telegram.specs.declared.sender.Sent.{Sent}
-use Rattle.telegram.specs.Checksum.{checksum, running}
 use Rattle.telegram.specs.Telegram.{Telegram, sd1, sd2, sd3, sd4, dataOf, octetsOf, Valid}
 use Rattle.telegram.specs.Reading.{start, run, gathered}
 use Rattle.telegram.specs.Sending.{sn, single, senderOf, left, leftAt, asks, asksAt, octetAt, onto, afterAt, sent, sentUpTo, Sending}
-use Rattle.telegram.specs.ToSend.{closing, behind, toSend, toSendAt}
+use Rattle.telegram.specs.ToSend.{toSend, toSendAt}
 use Rattle.telegram.proofs.Run.{no-true}
 use Rattle.telegram.proofs.Checksum.{running-total}
 use Rattle.telegram.proofs.ReadBack.{reads, gathers}

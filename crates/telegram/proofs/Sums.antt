@@ -1,10 +1,10 @@
 -- While DA up to the last data octet of a telegram come, the running checksum is their sum modulo 256.
 use Prim.Native.Nat.{ℕ, _+_, _-_, _%_, _≤_, _<_}
-use native.Mathlib.Nat.{mod-add-mod, add-zero}
+use native.Mathlib.Nat.{mod-add-mod}
 use native.Mathlib.Omega.{arith}
-use mathlib.Core.Path.{_≡_, refl, sym, ap, _∙_}
+use mathlib.Core.Path.{_≡_, refl, ap, _∙_}
 use mathlib.Core.List.{List, [], _∷_, _++_}
-use mathlib.Core.Bool.{Bool, true, false, cond}
+use mathlib.Core.Bool.{true, false}
 use mathlib.Core.Logic.{inl, inr}
 use borrow.Author.Tests.{le-leb, lt-leb}
 use lib.ListN.{length, length-append}
@@ -14,7 +14,7 @@ use Rattle.telegram.specs.declared.reader.Phase.the-variants.{Da, Fc}
 use Rattle.telegram.specs.declared.reader.Reader.{Reader}
 use Rattle.telegram.specs.Checksum.{total, checksum}
 use Rattle.telegram.specs.Telegram.{Telegram, sd1, sd2, sd3, sd4, headOf, coveredOf, Addresses, Valid}
-use Rattle.telegram.specs.Reading.{before, start, afterSa, counted, runFrom, run}
+use Rattle.telegram.specs.Reading.{before, afterSa, counted, runFrom, run}
 use Rattle.telegram.proofs.Run.{on}
 use Rattle.telegram.proofs.ReadBack.{step-start, step-da, step-sa, step-dsap, head, head2, points, run-skip, run-data}
 

@@ -4,11 +4,10 @@ use mathlib.Core.Path.{_≡_}
 use mathlib.Core.List.{List, [], _∷_, _++_}
 use mathlib.Core.Bool.{true}
 use mathlib.Core.Logic.{_↔_}
-use Rattle.telegram.specs.declared.reader.Reader.{Reader}
 use Rattle.telegram.specs.declared.reader.Status.the-variants.{Fresh, Inside, Complete, Broken}
 use Rattle.telegram.specs.Checksum.{checksum}
 use Rattle.telegram.specs.Telegram.{Telegram, headOf, coveredOf, octetsOf, payloadOf, Valid, IsTelegram, Octets}
-use Rattle.telegram.specs.Reading.{start, off, readerAfter, run, runFrom, status, gathered, finished}
+use Rattle.telegram.specs.Reading.{start, readerAfter, run, runFrom, status, gathered, finished}
 
 -- some octets that come after xs complete a telegram
 abbrev pub Continues : List ℕ → Type 0

@@ -1,5 +1,5 @@
 use borrow.Author.Needs.{needs}
-use Rattle.steps.specs.Deeds.{afterReply}
+use Rattle.steps.specs.Outcome.{afterReply}
 use Rattle.outcomes.proofs.carry.after_reply.Statement.{statement}
 use Rattle.outcomes.proofs.carry.after_reply.Tie as tie
 

@@ -1,5 +1,5 @@
 use borrow.Author.Needs.{needs}
-use Rattle.steps.specs.Deeds.{carried}
+use Rattle.steps.specs.Outcome.{carried}
 use Rattle.outcomes.proofs.carry.carry_out.Statement.{statement}
 use Rattle.outcomes.proofs.carry.carry_out.Tie as tie
 

@@ -1,6 +1,6 @@
 use borrow.Author.Needs.{needs}
 use Rattle.state.specs.Layout.{outputs}
-use Rattle.steps.proofs.Safety.{buffer-room}
+use Rattle.steps.proofs.KeepsSafe.{buffer-room}
 use Rattle.outcomes.proofs.carry.clear_next.Statement.{statement}
 use Rattle.outcomes.proofs.carry.clear_next.Tie as tie
 

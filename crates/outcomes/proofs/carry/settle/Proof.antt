@@ -1,8 +1,7 @@
-use Rattle.steps.proofs.Idle.{unsettled}
+use Rattle.steps.proofs.NothingWaits.{unsettled}
 use mathlib.Core.Path.{sym, ap, _∙_}
 use borrow.Author.Tests.{not-true}
 use mathlib.Core.Bool.{_||_}
-use Rattle.rules.specs.Diagnosis.{delayed}
 use borrow.Author.Needs.{needs}
 use Rattle.outcomes.proofs.carry.settle.Statement.{statement}
 use Rattle.outcomes.proofs.carry.settle.Tie as tie

@@ -1,6 +1,6 @@
 use borrow.Author.Needs.{needs}
-use Rattle.steps.specs.Deeds.{settle}
-use Rattle.steps.proofs.Safety.{safe-after-reply}
+use Rattle.steps.specs.Outcome.{settle}
+use Rattle.steps.proofs.KeepsSafe.{safe-after-reply}
 use Rattle.outcomes.proofs.carry.settle_waiting.Statement.{statement}
 use Rattle.outcomes.proofs.carry.settle_waiting.Tie as tie
 

@@ -1,4 +1,3 @@
-use borrow.Author.Tests.{eq-eqb, ne-eqb}
 use borrow.Author.Needs.{needs}
 use Rattle.rules.specs.Services.{slaveDiag}
 use Rattle.rules.proofs.services.slave_diag.Statement.{statement}

@@ -1,5 +1,4 @@
 -- `state::memory::holds_state` meets its contract.
-use native.Mathlib.Omega.{arith}
 use mathlib.Core.Path.{sym, _∙_}
 use borrow.Author.Tests.{not-true, not-false}
 use Rattle.state.specs.Memory.{holdsState}

@@ -6,10 +6,11 @@ use borrow.Author.Needs.{needs}
 use Rattle.state.specs.declared.state.State.{State}
 use Rattle.rules.specs.Line.{ticked}
 use Rattle.steps.specs.Stepped.{Stepped, Steps}
-use Rattle.steps.specs.Deeds.{begun, busy, carried, settle}
+use Rattle.steps.specs.Line.{begun, busy}
+use Rattle.steps.specs.Outcome.{carried, settle}
 use Rattle.steps.specs.Reading.{beginning}
 use Rattle.steps.specs.Bus.{silencedReader, elapsed}
-use Rattle.steps.proofs.Safety.{safe-beginning}
+use Rattle.steps.proofs.KeepsSafe.{safe-beginning}
 use Rattle.station.proofs.bus.elapse.Statement.{statement}
 use Rattle.station.proofs.bus.elapse.Tie as tie
 

@@ -1,6 +1,6 @@
 -- `station::bus::gap` meets its contract.
 use Rattle.steps.proofs.Holding.{holds-safe}
-use Rattle.station.proofs.Leaving.{packs, quiet-gap}
+use Rattle.station.proofs.SentOverMemory.{packs, quiet-gap}
 use borrow.Author.Needs.{needs}
 use Rattle.station.proofs.bus.gap.Statement.{statement}
 use Rattle.station.proofs.bus.gap.Tie as tie

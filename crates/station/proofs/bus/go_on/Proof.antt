@@ -1,8 +1,8 @@
 -- `station::bus::go_on` meets its contract.
 use Rattle.state.specs.Unpack.{unpacked}
-use Rattle.steps.proofs.Safety.{safe-reply}
+use Rattle.steps.proofs.KeepsSafe.{safe-reply}
 use Rattle.steps.proofs.Holding.{holds-safe}
-use Rattle.station.proofs.Leaving.{packs, quiet-on}
+use Rattle.station.proofs.SentOverMemory.{packs, quiet-on}
 use borrow.Author.Needs.{needs}
 use Rattle.station.proofs.bus.go_on.Statement.{statement}
 use Rattle.station.proofs.bus.go_on.Tie as tie

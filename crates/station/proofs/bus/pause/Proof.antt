@@ -1,6 +1,6 @@
 use borrow.Author.Needs.{needs}
 use Rattle.steps.specs.Bus.{paused}
-use Rattle.steps.proofs.Safety.{safe-read-by}
+use Rattle.steps.proofs.KeepsSafe.{safe-read-by}
 use Rattle.station.proofs.bus.pause.Statement.{statement}
 use Rattle.station.proofs.bus.pause.Tie as tie
 

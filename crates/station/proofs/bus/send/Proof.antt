@@ -1,6 +1,6 @@
 -- `station::bus::send` meets its contract.
 use borrow.Author.Tests.{not-true, not-false}
-use Rattle.station.proofs.Leaving.{nothing-left, octet-left}
+use Rattle.station.proofs.SentOverMemory.{nothing-left, octet-left}
 use borrow.Author.Needs.{needs}
 use Rattle.station.proofs.bus.send.Statement.{statement}
 use Rattle.station.proofs.bus.send.Tie as tie

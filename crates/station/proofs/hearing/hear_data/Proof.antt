@@ -1,13 +1,10 @@
 -- `station::hearing::hear_data` meets its contract.
-use mathlib.Core.Path.{_≡_, sym, ap, subst, _∙_}
-use mathlib.Core.List.{List}
-use Prim.Native.Nat.{ℕ}
+use mathlib.Core.Path.{ap, _∙_}
 use denote.Ref.{now}
 use Rattle.telegram.specs.Reading.{takesData}
 use Rattle.state.specs.declared.state.Incoming.{Incoming}
-use Rattle.state.specs.Memory.{Holds}
 use Rattle.state.specs.Unpack.{unpacked}
-use Rattle.station.proofs.OverMemory.{stored-holds, leaves-data}
+use Rattle.station.proofs.HeardOverMemory.{stored-holds, leaves-data}
 use borrow.Author.Needs.{needs}
 use Rattle.station.proofs.hearing.hear_data.Statement.{statement}
 use Rattle.station.proofs.hearing.hear_data.Tie as tie

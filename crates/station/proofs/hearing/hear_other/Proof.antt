@@ -3,7 +3,7 @@ use denote.Ref.{now}
 use Rattle.state.specs.Unpack.{unpacked}
 use Rattle.steps.proofs.Holding.{holds-safe}
 use Rattle.station.proofs.Stepping.{holding}
-use Rattle.station.proofs.OverMemory.{leaves-ignored, leaves-plain, leaves-other}
+use Rattle.station.proofs.HeardOverMemory.{leaves-ignored, leaves-plain, leaves-other}
 use borrow.Author.Needs.{needs}
 use Rattle.station.proofs.hearing.hear_other.Statement.{statement}
 use Rattle.station.proofs.hearing.hear_other.Tie as tie

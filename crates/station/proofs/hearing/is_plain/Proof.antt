@@ -1,7 +1,7 @@
 -- `station::hearing::is_plain` meets its contract.
 use mathlib.Core.Path.{ap, _∙_}
 use mathlib.Core.Bool.{not, _&&_}
-use Rattle.steps.specs.Deeds.{isInside}
+use Rattle.steps.specs.Line.{isInside}
 use borrow.Author.Needs.{needs}
 use Rattle.station.proofs.hearing.is_plain.Statement.{statement}
 use Rattle.station.proofs.hearing.is_plain.Tie as tie

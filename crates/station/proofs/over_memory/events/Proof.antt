@@ -1,6 +1,5 @@
 -- `station::over_memory::events` meets its contract.
 use mathlib.Core.Path.{refl, ap}
-use Prim.Native.Nat.{ℕ}
 use Rattle.state.specs.declared.answer.Answer.the-variants.{Value}
 use Rattle.buffers.specs.declared.events.Events.{Events}
 use Rattle.station.proofs.Stepping.{answered}

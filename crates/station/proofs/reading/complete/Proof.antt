@@ -1,5 +1,5 @@
 use borrow.Author.Needs.{needs}
-use Rattle.steps.proofs.Safety.{safe-read-by}
+use Rattle.steps.proofs.KeepsSafe.{safe-read-by}
 use Rattle.station.proofs.reading.complete.Statement.{statement}
 use Rattle.station.proofs.reading.complete.Tie as tie
 

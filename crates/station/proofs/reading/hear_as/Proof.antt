@@ -1,6 +1,6 @@
 use mathlib.Core.Path.{refl}
 use borrow.Author.Needs.{needs}
-use Rattle.steps.proofs.Safety.{safe-steps, safe-completed, safe-read-by}
+use Rattle.steps.proofs.KeepsSafe.{safe-steps, safe-completed, safe-read-by}
 use Rattle.station.proofs.reading.hear_as.Statement.{statement}
 use Rattle.station.proofs.reading.hear_as.Tie as tie
 

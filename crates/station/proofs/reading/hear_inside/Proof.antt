@@ -1,5 +1,5 @@
 use borrow.Author.Needs.{needs}
-use Rattle.steps.proofs.Safety.{safe-beginning}
+use Rattle.steps.proofs.KeepsSafe.{safe-beginning}
 use Rattle.station.proofs.reading.hear_inside.Statement.{statement}
 use Rattle.station.proofs.reading.hear_inside.Tie as tie
 

@@ -1,5 +1,5 @@
 use borrow.Author.Needs.{needs}
-use Rattle.steps.proofs.Safety.{prm-room}
+use Rattle.steps.proofs.KeepsSafe.{prm-room}
 use Rattle.station.proofs.reading.prm_in.Statement.{statement}
 use Rattle.station.proofs.reading.prm_in.Tie as tie
 

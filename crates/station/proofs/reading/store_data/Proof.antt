@@ -1,7 +1,7 @@
 use borrow.Author.Tests.{lt-ltb, le-ltb, eq-eqb, ne-eqb}
 use borrow.Author.Needs.{needs}
 use Rattle.state.specs.Layout.{outputs, parameters, configuration}
-use Rattle.steps.proofs.Safety.{buffer-room}
+use Rattle.steps.proofs.KeepsSafe.{buffer-room}
 use Rattle.station.proofs.reading.store_data.Statement.{statement}
 use Rattle.station.proofs.reading.store_data.Tie as tie
 

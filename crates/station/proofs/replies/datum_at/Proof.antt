@@ -2,7 +2,7 @@
 use mathlib.Core.Path.{_∙_}
 use borrow.Author.Tests.{eq-eqb, ne-eqb}
 use Rattle.steps.specs.Replies.{datumAt}
-use Rattle.station.proofs.Leaving.{datum-inside}
+use Rattle.station.proofs.SentOverMemory.{datum-inside}
 use borrow.Author.Needs.{needs}
 use Rattle.station.proofs.replies.datum_at.Statement.{statement}
 use Rattle.station.proofs.replies.datum_at.Tie as tie

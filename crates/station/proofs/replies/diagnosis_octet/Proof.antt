@@ -1,6 +1,6 @@
 -- `station::replies::diagnosis_octet` meets its contract.
 use borrow.Author.Tests.{lt-ltb, le-ltb}
-use Rattle.station.proofs.Leaving.{diagnosis-room}
+use Rattle.station.proofs.SentOverMemory.{diagnosis-room}
 use borrow.Author.Needs.{needs}
 use Rattle.station.proofs.replies.diagnosis_octet.Statement.{statement}
 use Rattle.station.proofs.replies.diagnosis_octet.Tie as tie

@@ -1,5 +1,5 @@
 -- `station::replies::get_cfg_octet` meets its contract.
-use Rattle.steps.proofs.Safety.{get-cfg-room}
+use Rattle.steps.proofs.KeepsSafe.{get-cfg-room}
 use Rattle.steps.proofs.Holding.{holds-safe}
 use borrow.Author.Needs.{needs}
 use Rattle.station.proofs.replies.get_cfg_octet.Statement.{statement}

@@ -1,5 +1,5 @@
 -- `station::replies::input_octet` meets its contract.
-use Rattle.station.proofs.Leaving.{inputs-room}
+use Rattle.station.proofs.SentOverMemory.{inputs-room}
 use borrow.Author.Needs.{needs}
 use Rattle.station.proofs.replies.input_octet.Statement.{statement}
 use Rattle.station.proofs.replies.input_octet.Tie as tie

@@ -1,5 +1,5 @@
 -- `station::replies::output_octet` meets its contract.
-use Rattle.station.proofs.Leaving.{outputs-room}
+use Rattle.station.proofs.SentOverMemory.{outputs-room}
 use borrow.Author.Needs.{needs}
 use Rattle.station.proofs.replies.output_octet.Statement.{statement}
 use Rattle.station.proofs.replies.output_octet.Tie as tie

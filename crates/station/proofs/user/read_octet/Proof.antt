@@ -9,7 +9,7 @@ use borrow.Author.Tests.{not-true, not-false}
 use Rattle.state.specs.Unpack.{unpacked}
 use Rattle.rules.specs.Kinds.{inRange}
 use Rattle.steps.specs.User.{readOctet}
-use Rattle.station.proofs.Reaching.{reached}
+use Rattle.station.proofs.KindsInMemory.{reached}
 use Rattle.steps.proofs.Holding.{holds-safe}
 use borrow.Author.Needs.{needs}
 use Rattle.station.proofs.user.read_octet.Statement.{statement}

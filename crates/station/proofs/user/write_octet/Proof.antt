@@ -11,7 +11,7 @@ use Rattle.state.specs.Unpack.{unpacked}
 use Rattle.state.proofs.Tests.{all-at}
 use Rattle.rules.specs.Kinds.{inRange, writable}
 use Rattle.steps.specs.User.{writeOctet}
-use Rattle.station.proofs.Reaching.{reached}
+use Rattle.station.proofs.KindsInMemory.{reached}
 use Rattle.steps.proofs.Holding.{holds-safe}
 use borrow.Author.Needs.{needs}
 use Rattle.station.proofs.user.write_octet.Statement.{statement}

@@ -5,7 +5,7 @@ use mathlib.Core.Path.{_≡_, refl, sym, ap, subst, _∙_}
 use mathlib.Core.Bool.{Bool, true, false, cond, not, _&&_}
 use mathlib.Core.List.{List}
 use lib.Dec.{eqb, ltb}
-use lib.ListN.{length, take, set}
+use lib.ListN.{take, set}
 use lib.Seq.{take-set-le}
 use borrow.Author.Tests.{not-true}
 use Rattle.buffers.specs.Triple.{fillOf}
@@ -25,11 +25,13 @@ use Rattle.state.specs.With.{withIncoming, withData}
 use Rattle.state.proofs.Damage.{holds-unpacked}
 use Rattle.state.proofs.Places.{inside}
 use Rattle.steps.specs.Stepped.{Steps, unchanged, packedAfter}
-use Rattle.steps.specs.Deeds.{isInside, begun, settle}
+use Rattle.steps.specs.Line.{isInside}
+use Rattle.steps.specs.Outcome.{settle}
 use Rattle.steps.specs.Reading.{storedData, keptOctets, storedAs, readOn, readBy, beginning, heardAs, isIgnored, isPlain, heard}
-use Rattle.steps.proofs.Holding.{holds-safe, fronted}
+use Rattle.steps.proofs.Holding.{holds-safe}
+use Rattle.state.proofs.Damage.{fronted-same}
 use Rattle.telegram.proofs.Onward.{data-inside, data-goes-on, data-changes}
-use Rattle.steps.proofs.Safety.{stored-data-length}
+use Rattle.steps.proofs.KeepsSafe.{stored-data-length}
 use Rattle.state.proofs.Choice.{and-left, and-right}
 
 is-inside : (x : Status) → isInside x ≡ true → x ≡ Inside
@@ -157,7 +159,7 @@ module _ (m : List ℕ) (s : State) (h : Holds m s) where
   plain-octet b bad e = sym (ap packedAfter (heard-plain s m b bad e))
 
   ignored-octet : (b : ℕ) (bad : Bool) → isIgnored (status (s .incoming .reader)) ≡ true → m ≡ packedAfter (heard s m b bad)
-  ignored-octet b bad e = fronted m m s h refl ∙ sym (ap packedAfter (heard-ignored s m b bad e))
+  ignored-octet b bad e = fronted-same m s h ∙ sym (ap packedAfter (heard-ignored s m b bad e))
 
   -- ---- the same of the values that the code has
 

@@ -4,7 +4,7 @@ use mathlib.Core.List.{List}
 use Rattle.state.specs.declared.state.State.{State}
 use Rattle.rules.specs.declared.request.Request.{Request}
 use Rattle.rules.proofs.Served.{Served, served}
-use Rattle.steps.specs.Deeds.{openSets}
+use Rattle.steps.specs.Outcome.{openSets}
 use Rattle.steps.specs.Reading.{dataIn, outcomeOf}
 
 pub outcome-served : (s : State) (m : List ℕ) (r : Request) → Served (s .setup) (s .control) r (outcomeOf s m r)

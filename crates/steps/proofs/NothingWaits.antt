@@ -1,7 +1,7 @@
 -- Where no diagnosis is delayed and no clear is noted, settling changes nothing.
 use Prim.Native.Nat.{ℕ}
 use mathlib.Core.Path.{_≡_, sym, ap, _∙_}
-use mathlib.Core.Bool.{Bool, true, false, cond, not, _&&_, _||_}
+use mathlib.Core.Bool.{Bool, false, cond, not, _&&_, _||_}
 use mathlib.Core.List.{List}
 use Rattle.state.specs.declared.state.Drawn.the-variants.{Nothing}
 use Rattle.state.specs.declared.state.State.{State}
@@ -9,7 +9,8 @@ use Rattle.rules.specs.Phases.{drawing}
 use Rattle.rules.specs.Diagnosis.{delayed, caughtUp}
 use Rattle.rules.specs.Line.{clearing, clearNoted}
 use Rattle.steps.specs.Stepped.{Stepped, Steps, unchanged}
-use Rattle.steps.specs.Deeds.{busy, diagnosisLeaves, diagnosisChanged, carried, afterReply, settle}
+use Rattle.steps.specs.Line.{busy, diagnosisLeaves}
+use Rattle.steps.specs.Outcome.{diagnosisChanged, carried, afterReply, settle}
 use Rattle.state.proofs.Choice.{or-left, or-right}
 
 module _ (s : State) (m : List ℕ) where

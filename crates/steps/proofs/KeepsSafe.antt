@@ -42,7 +42,8 @@ use Rattle.state.specs.Start.{noReply}
 use Rattle.steps.specs.Replies.{ownPlace, userPlace, replyFor, askedFor}
 use Rattle.steps.specs.Reading.{storedData, keptOctets, readBy, storedAs, requestBy, outcomeOf, answered, completed, beginning, heardAs, isIgnored, heard}
 use Rattle.steps.specs.Bus.{paused, sentBy, sendLeft, silencedReader, elapsed}
-use Rattle.steps.specs.Deeds.{begun, busy, diagnosisLeaves, isOpen, onOutputs, onInputs, receivedSet, onSets, onMemory, carried, diagnosisChanged, afterReply, settle}
+use Rattle.steps.specs.Line.{begun, busy, diagnosisLeaves}
+use Rattle.steps.specs.Outcome.{isOpen, onOutputs, onInputs, receivedSet, onSets, onMemory, carried, diagnosisChanged, afterReply, settle}
 
 -- ---- the buffers lie in the memory
 

@@ -1,16 +1,12 @@
--- An outcome of the rules carried out on the state and the buffers, and the line as the state has it.
+-- An outcome of the rules carried out on the state and the buffers, and what waits for the end of the line's business.
 use Prim.Native.Nat.{ℕ}
-use mathlib.Core.Bool.{Bool, true, false, cond, not, _&&_, _||_}
+use mathlib.Core.Bool.{Bool, true, false, cond, not, _&&_}
 use mathlib.Core.List.{List}
 use lib.Dec.{eqb}
 use lib.ListN.{replicate}
 use Rattle.buffers.specs.declared.triple.Triple.{Triple}
 use Rattle.buffers.specs.Triple.{nextOf, published, taken, brought, shown, marked, dropped}
 use Rattle.octets.specs.Part.{pasted}
-use Rattle.telegram.specs.declared.reader.Status.{Status}
-use Rattle.telegram.specs.declared.reader.Status.the-variants.{Fresh, Inside, Complete, Broken}
-use Rattle.telegram.specs.Reading.{status}
-use Rattle.telegram.specs.Sending.{left}
 use Rattle.state.specs.declared.control.Control.{Control}
 use Rattle.state.specs.declared.state.Outputs.{Outputs}
 use Rattle.state.specs.declared.state.Sets.{Sets}
@@ -23,28 +19,9 @@ use Rattle.rules.specs.declared.outcome.SetDeed.the-variants as set-deed
 use Rattle.rules.specs.declared.outcome.Outcome.{Outcome}
 use Rattle.rules.specs.declared.request.OpenSets.{OpenSets}
 use Rattle.rules.specs.Line.{clearNoted}
-use Rattle.rules.specs.Replies.{diagnoses}
 use Rattle.rules.specs.Diagnosis.{delayed, caughtUp}
 use Rattle.steps.specs.Stepped.{Stepped}
-
--- the status of a telegram that is begun and unfinished
-abbrev pub isInside : Status → Bool
-isInside Fresh = false
-isInside Inside = true
-isInside Complete = false
-isInside Broken = false
-
--- a telegram is begun and unfinished
-abbrev pub begun : State → Bool
-begun s = isInside (status (s .incoming .reader))
-
--- a busy line: a telegram is begun or a reply is unfinished
-abbrev pub busy : State → Bool
-busy s = begun s || left (s .reply .sender)
-
--- a Slave_Diag reply is unfinished
-abbrev pub diagnosisLeaves : State → Bool
-diagnosisLeaves s = diagnoses (s .reply .drawn) && left (s .reply .sender)
+use Rattle.steps.specs.Line.{busy, diagnosisLeaves}
 
 -- a set is open
 abbrev pub isOpen : Sets → Bool

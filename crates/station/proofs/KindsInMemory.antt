@@ -19,7 +19,7 @@ use Rattle.rules.specs.Kinds.{kindLength, inRange, writable}
 use Rattle.steps.specs.Safe.{Safe}
 use Rattle.steps.specs.Replies.{userPlace}
 use Rattle.steps.specs.User.{told, refusing, absent, kindAt, writeOctet}
-use Rattle.steps.proofs.Safety.{user-in}
+use Rattle.steps.proofs.KeepsSafe.{user-in}
 
 -- an octet lies behind the state and in the memory
 abbrev pub Lies : List ℕ → ℕ → Type 0

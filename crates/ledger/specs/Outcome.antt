@@ -1,7 +1,7 @@
 -- An outcome of the rules carried out on the lists.
 use Prim.Native.Nat.{ℕ}
-use mathlib.Core.Bool.{Bool, true, false, cond, not, _&&_}
-use mathlib.Core.List.{List, [], _∷_}
+use mathlib.Core.Bool.{cond, not, _&&_}
+use mathlib.Core.List.{List, []}
 use Rattle.state.specs.declared.setup.Setup.{Setup}
 use Rattle.state.specs.declared.control.Control.{Control}
 use Rattle.rules.specs.declared.outcome.OutputsDeed.{OutputsDeed}
@@ -12,7 +12,7 @@ use Rattle.rules.specs.declared.outcome.Outcome.{Outcome}
 use Rattle.rules.specs.Line.{clearNoted}
 use Rattle.rules.specs.Diagnosis.{delayed, caughtUp}
 use Rattle.ledger.specs.Lists.{Outputs, Inputs, Sets, Buffers, published, publishedZeros, brought, receivedSet, advanced, noSets, exchanged, withDiagnoses}
-use Rattle.ledger.specs.Ledger.{Ledger, busy, diagnosisLeaves, withControl}
+use Rattle.ledger.specs.Ledger.{Ledger, busy, diagnosisLeaves}
 
 -- what becomes of the outputs; ds is the data received
 abbrev pub onOutputs : OutputsDeed → Outputs → ℕ → List ℕ → Outputs

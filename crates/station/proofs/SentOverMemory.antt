@@ -20,13 +20,14 @@ use Rattle.state.specs.Memory.{kept, Holds}
 use Rattle.state.specs.With.{withIncoming, withSender}
 use Rattle.rules.specs.Diagnosis.{delayed}
 use Rattle.steps.specs.Stepped.{Stepped, Steps, packedAfter}
-use Rattle.steps.specs.Deeds.{settle}
+use Rattle.steps.specs.Outcome.{settle}
 use Rattle.steps.specs.Replies.{ownPlace, contentAt, isExchange, datumAt, askedFor}
 use Rattle.steps.specs.Reading.{readOn, readBy}
 use Rattle.steps.specs.Bus.{paused, sendTold, sendLeft}
-use Rattle.steps.proofs.Idle.{idle}
-use Rattle.steps.proofs.Safety.{own-in, buffer-room}
-use Rattle.steps.proofs.Holding.{holds-safe, fronted}
+use Rattle.steps.proofs.NothingWaits.{idle}
+use Rattle.steps.proofs.KeepsSafe.{own-in, buffer-room}
+use Rattle.steps.proofs.Holding.{holds-safe}
+use Rattle.state.proofs.Damage.{fronted-same}
 
 -- ---- the buffers that a reply is read from
 
@@ -90,7 +91,7 @@ quiet-on m s w x n e f k = quiet m (withSender s x) w n e f k
 pub nothing-left : (m : List ℕ) (s : State) → Holds m s → left (s .reply .sender) ≡ false
     → (256 ≡ sendTold s m) × (m ≡ packedAfter (sendLeft s m))
 unfolding sendTold sendLeft
-nothing-left m s h e = rw e (refl, fronted m m s h refl)
+nothing-left m s h e = rw e (refl, fronted-same m s h)
 
 -- an octet leaves
 pub octet-left : (m : List ℕ) (s : State) (x : Sent) (n : List ℕ) → left (s .reply .sender) ≡ true
