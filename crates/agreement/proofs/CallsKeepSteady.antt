@@ -2,11 +2,10 @@
 use Prim.Native.Nat.{ℕ, _≤_}
 use native.Mathlib.Omega.{arith}
 use mathlib.Core.Path.{_≡_, refl, sym, ap, _∙_}
-use mathlib.Core.Bool.{Bool, true, false, cond, not, _&&_, _||_}
+use mathlib.Core.Bool.{Bool, true, false, not, _&&_, _||_}
 use mathlib.Core.List.{List, [], _∷_, _++_}
 use mathlib.Core.Logic.{_⊎_, inl, inr}
 use lib.Dec.{eqb, leb}
-use lib.ListN.{getD}
 use borrow.Author.Tests.{eqb-false, not-true, not-false}
 use Rattle.buffers.specs.Events.{watchdogEvent}
 use Rattle.telegram.specs.declared.reader.Status.{Status}
@@ -17,7 +16,7 @@ use Rattle.telegram.proofs.Run.{no-true}
 use Rattle.state.specs.declared.setup.Setup.{Setup}
 use Rattle.state.specs.declared.control.Control.{Control}
 use Rattle.state.specs.declared.state.Drawn.the-variants.{Nothing}
-use Rattle.state.specs.declared.answer.Refusal.the-variants.{Judging, Range, Absent, Delayed}
+use Rattle.state.specs.declared.answer.Refusal.the-variants.{Range, Delayed}
 use Rattle.rules.specs.declared.outcome.Outcome.{Outcome}
 use Rattle.state.specs.Sound.{Within}
 use Rattle.state.specs.Well.{within}
@@ -30,46 +29,20 @@ use Rattle.ledger.specs.Lists.{some, Buffers, takenOutputs, handedOver, withOut
 use Rattle.ledger.specs.Ledger.{Line, Ledger, withControl, withBuffers, withLine, begun, busy, diagnosisLeaves, parametersOpen, configurationOpen, fresh}
 use Rattle.ledger.specs.Outcome.{carried, diagnosisChanged, afterReply, settle}
 use Rattle.ledger.specs.Bus.{telegramOn, answered, completed, brokenOff, lengthened, beginning, sendLeft, silenced, heardAs, heard, paused, sent, elapsed}
-use Rattle.ledger.specs.User.{Told, told, refused, absent, octetsOfKind, writtenOctet, takeOutputs, readOctet, writeOctet, handOver, newDiagnosis, judgeParameters, judgeConfiguration, acknowledgeEvents, leaveMaster}
-use Rattle.rules.specs.Kinds.{inRange, writable}
+use Rattle.ledger.specs.User.{Told, told, refused, writtenOctet, handOver, newDiagnosis, acknowledgeEvents, leaveMaster}
 use Rattle.rules.specs.Call.{Call, octet, gap, send, tick, take, read, write, hand-over, new-diagnosis, judge-parameters, judge-configuration, events, acknowledge, pending, leave}
 use Rattle.ledger.specs.Calls.{step, after}
-use Rattle.agreement.proofs.Steady.{CountIn, Steady}
+use Rattle.agreement.proofs.Steady.{CountIn, InOrder, Steady}
 use Rattle.state.proofs.Choice.{by-test, and-left, and-right}
 use Rattle.state.proofs.Tests.{within-true}
 use Rattle.rules.proofs.Alike.{Alike, alike}
+use Rattle.ledger.proofs.ByCases.{take-cases, read-cases, write-cases, parameters-cases, configuration-cases}
 use Rattle.ledger.proofs.Fit.{outcome-served}
-use Rattle.agreement.proofs.OutcomesKeepOrder.{InOrder, Orders, closed-list, open-list, none-fit, kept, entered, served-order}
+use Rattle.agreement.proofs.OutcomesKeepOrder.{Orders, closed-list, open-list, none-fit, kept, entered, served-order}
 
 -- the part of it that has nothing to do with the line
 abbrev Order : Ledger → Type 0
 Order l = InOrder (l .setup) (l .control) (l .buffers .parameters) (l .buffers .configuration)
-
-pub order-of : {l : Ledger} → Steady l → Order l
-order-of s = record {
-  parameters-closed = s .parameters-closed;
-  configuration-closed = s .configuration-closed;
-  unjudged = s .unjudged;
-  parameters-fit = s .parameters-fit;
-  configuration-fit = s .configuration-fit;
-  count = s .count;
-  delayed-count = s .delayed-count;
-}
-
-steady-by : (l : Ledger) → Order l → (begun l ≡ true → l .line .reply ≡ []) → (l .control .noted ≡ true → busy l ≡ true)
-    → (delayed (l .control) ≡ true → diagnosisLeaves l ≡ true) → Steady l
-steady-by l h quiet noted delaying = record {
-  parameters-closed = h .parameters-closed;
-  configuration-closed = h .configuration-closed;
-  unjudged = h .unjudged;
-  parameters-fit = h .parameters-fit;
-  configuration-fit = h .configuration-fit;
-  count = h .count;
-  delayed-count = h .delayed-count;
-  quiet = quiet;
-  noted = noted;
-  delaying = delaying;
-}
 
 -- ---- an outcome on a line that stays
 
@@ -80,18 +53,22 @@ pub record Holds (l : Ledger) (o : Outcome) : Type 0 where
 
 carried-steady : {l : Ledger} → Steady l → (o : Outcome) → Holds l o → Steady (carried l o [])
 carried-steady {l} s o h =
-    steady-by (carried l o []) (h .order) (s .quiet) (h .noted)
-    (λ e. s .delaying (sym (ap (λ d. not (eqb (d .«delayed_count») 0)) (h .diagnosis)) ∙ e))
+    record {
+      order = h .order;
+      quiet = s .quiet;
+      noted = h .noted;
+      delaying = λ e. s .delaying (sym (ap (λ d. not (eqb (d .«delayed_count») 0)) (h .diagnosis)) ∙ e);
+    }
 
 module _ {l : Ledger} (s : Steady l) where
   -- nothing that counts here changed but what is said
   same : {c : Control} → Alike (l .control) c → InOrder (l .setup) c (l .buffers .parameters) (l .buffers .configuration)
-  same e = kept e (order-of s)
+  same e = kept e (s .order)
 
   -- WAIT_PRM entered
   enters-holds : (d : Control) → d .diagnosis ≡ l .control .diagnosis → (d .noted ≡ true → busy l ≡ true) → Holds l (enteringWaitPrm d Nothing)
   unfolding waitPrm
-  enters-holds d e f = record { order = entered d e (order-of s); noted = f; diagnosis = e }
+  enters-holds d e f = record { order = entered d e (s .order); noted = f; diagnosis = e }
 
   clear-holds : (c : Control) → Alike (l .control) c → Holds l (clearOn (busy l) c)
   clear-holds c e =
@@ -103,7 +80,7 @@ module _ {l : Ledger} (s : Steady l) where
   unfolding ticked
   ticked-holds =
       by-test (Holds l) (not (counts (l .control))) _ _
-      (λ _. record { order = order-of s; noted = s .noted; diagnosis = refl })
+      (λ _. record { order = s .order; noted = s .noted; diagnosis = refl })
       (λ _. by-test (Holds l) (leb (l .control .watchdog .remaining) 1) _ _
       (λ _. clear-holds (raise (withRemaining (l .control) 0) watchdogEvent) (alike refl refl refl))
       (λ _. record { order = same (alike refl refl refl); noted = s .noted; diagnosis = refl }))
@@ -114,13 +91,13 @@ module _ {l : Ledger} (s : Steady l) where
       by-test (Holds l) waits _ _
       (λ _. record {
         order = record {
-          parameters-closed = λ f. absurd (open-list e (s .parameters-closed f));
-          configuration-closed = s .configuration-closed;
-          unjudged = λ _. s .unjudged e;
-          parameters-fit = record { shown = s .parameters-fit .waiting; waiting = omega arith };
-          configuration-fit = s .configuration-fit;
-          count = s .count;
-          delayed-count = s .delayed-count;
+          parameters-closed = λ f. absurd (open-list e (s .order .parameters-closed f));
+          configuration-closed = s .order .configuration-closed;
+          unjudged = λ _. s .order .unjudged e;
+          parameters-fit = record { shown = s .order .parameters-fit .waiting; waiting = omega arith };
+          configuration-fit = s .order .configuration-fit;
+          count = s .order .count;
+          delayed-count = s .order .delayed-count;
         };
         noted = s .noted;
         diagnosis = refl;
@@ -129,12 +106,12 @@ module _ {l : Ledger} (s : Steady l) where
       (λ _. record {
         order = record {
           parameters-closed = λ _. refl;
-          configuration-closed = s .configuration-closed;
+          configuration-closed = s .order .configuration-closed;
           unjudged = λ f. no-true f;
           parameters-fit = none-fit (l .setup .«parameter_len»);
-          configuration-fit = s .configuration-fit;
-          count = s .count;
-          delayed-count = s .delayed-count;
+          configuration-fit = s .order .configuration-fit;
+          count = s .order .count;
+          delayed-count = s .order .delayed-count;
         };
         noted = s .noted;
         diagnosis = refl;
@@ -149,13 +126,13 @@ module _ {l : Ledger} (s : Steady l) where
       by-test (Holds l) waits _ _
       (λ _. record {
         order = record {
-          parameters-closed = s .parameters-closed;
-          configuration-closed = λ f. absurd (open-list opened (s .configuration-closed f));
-          unjudged = s .unjudged;
-          parameters-fit = s .parameters-fit;
-          configuration-fit = record { shown = s .configuration-fit .waiting; waiting = omega arith };
-          count = s .count;
-          delayed-count = s .delayed-count;
+          parameters-closed = s .order .parameters-closed;
+          configuration-closed = λ f. absurd (open-list opened (s .order .configuration-closed f));
+          unjudged = s .order .unjudged;
+          parameters-fit = s .order .parameters-fit;
+          configuration-fit = record { shown = s .order .configuration-fit .waiting; waiting = omega arith };
+          count = s .order .count;
+          delayed-count = s .order .delayed-count;
         };
         noted = s .noted;
         diagnosis = refl;
@@ -165,11 +142,11 @@ module _ {l : Ledger} (s : Steady l) where
         order = record {
           parameters-closed = λ _. closed (parametersOpen l) refl;
           configuration-closed = λ _. refl;
-          unjudged = s .unjudged;
-          parameters-fit = s .parameters-fit;
+          unjudged = s .order .unjudged;
+          parameters-fit = s .order .parameters-fit;
           configuration-fit = none-fit (l .setup .«configuration_len»);
-          count = s .count;
-          delayed-count = s .delayed-count;
+          count = s .order .count;
+          delayed-count = s .order .delayed-count;
         };
         noted = s .noted;
         diagnosis = refl;
@@ -178,7 +155,7 @@ module _ {l : Ledger} (s : Steady l) where
     where
       -- good parameters are judged, so that none is open
       closed : (t : Bool) → parametersOpen l ≡ t → l .buffers .parameters .shown ≡ []
-      closed true f = no-true (sym (s .unjudged f) ∙ and-right (configurationOpen l) (l .control .flags .«parameters_good») e)
+      closed true f = no-true (sym (s .order .unjudged f) ∙ and-right (configurationOpen l) (l .control .flags .«parameters_good») e)
       closed false f = closed-list (l .buffers .parameters .shown) f
 
 -- ---- settling
@@ -233,9 +210,13 @@ settle-steady l h quiet = go (afterReply l) (after-half l h)
     go : (m : Ledger) → Half l m → Steady (carried m (clearNoted (busy l) (m .control)) [])
     go m w =
         by-test (λ (o : Outcome). Steady (carried m o [])) (m .control .noted && not (busy l)) (clearing (m .control)) (drawing (m .control) Nothing)
-        (λ _. steady-by (carried m (clearing (m .control)) []) (entered (withNoted (m .control) false) refl (w .order)) still (λ e. no-true e) (w .delaying))
-        (λ e. steady-by m (w .order) still
-        (λ f. ap (λ (n : Line). some (n .telegram) || some (n .reply)) (w .line) ∙ remains (m .control .noted) (busy l) f e) (w .delaying))
+        (λ _. record { order = entered (withNoted (m .control) false) refl (w .order); quiet = still; noted = λ e. no-true e; delaying = w .delaying })
+        (λ e. record {
+          order = w .order;
+          quiet = still;
+          noted = λ f. ap (λ (n : Line). some (n .telegram) || some (n .reply)) (w .line) ∙ remains (m .control .noted) (busy l) f e;
+          delaying = w .delaying;
+        })
       where
         still : begun m ≡ true → m .line .reply ≡ []
         still e = ap (λ (n : Line). n .reply) (w .line) ∙ quiet (sym (ap (λ (n : Line). some (n .telegram)) (w .line)) ∙ e)
@@ -245,11 +226,11 @@ settle-steady l h quiet = go (afterReply l) (after-half l h)
 module _ {l : Ledger} (s : Steady l) where
   -- on a line where no telegram is begun
   idle-settles : (n : Line) → n .telegram ≡ [] → Steady (settle (withLine l n))
-  idle-settles n e = settle-steady (withLine l n) (order-of s) (λ f. no-true (sym (ap some e) ∙ f))
+  idle-settles n e = settle-steady (withLine l n) (s .order) (λ f. no-true (sym (ap some e) ∙ f))
 
   completed-order : (t : Telegram) → Order (completed l t)
   unfolding answered
-  completed-order t = served-order (payloadOf t) refl (order-of s) (outcome-served l t)
+  completed-order t = served-order (payloadOf t) refl (s .order) (outcome-served l t)
 
   completed-steady : (t : Telegram) → Steady (settle (completed l t))
   unfolding answered
@@ -258,8 +239,12 @@ module _ {l : Ledger} (s : Steady l) where
   -- an inner octet
   lengthened-steady : (b : ℕ) → begun l ≡ true → Steady (withLine l (lengthened (l .line) b))
   lengthened-steady b e =
-      steady-by (withLine l (lengthened (l .line) b)) (order-of s) (λ _. s .quiet e)
-      (λ _. ap (λ (t : Bool). t || some (l .line .reply)) (longer (l .line .telegram))) (s .delaying)
+      record {
+        order = s .order;
+        quiet = λ _. s .quiet e;
+        noted = λ _. ap (λ (t : Bool). t || some (l .line .reply)) (longer (l .line .telegram));
+        delaying = s .delaying;
+      }
     where
       longer : (xs : List ℕ) → some (xs ++ b ∷ []) ≡ true
       longer [] = refl
@@ -269,7 +254,7 @@ module _ {l : Ledger} (s : Steady l) where
   heard-steady b Fresh = s
   heard-steady b Inside =
       by-test Steady (begun l) (withLine l (lengthened (l .line) b)) (settle (withLine l (beginning b))) (lengthened-steady b)
-      (λ _. settle-steady (withLine l (beginning b)) (order-of s) (λ _. refl))
+      (λ _. settle-steady (withLine l (beginning b)) (s .order) (λ _. refl))
   heard-steady b Complete = completed-steady (telegramOn (l .line .telegram ++ b ∷ []))
   heard-steady b Broken = idle-settles (brokenOff (l .line)) refl
 
@@ -283,7 +268,7 @@ module _ {l : Ledger} (s : Steady l) where
   sent-steady = settle-steady (withLine l (sendLeft (l .line) (l .line .reply))) (sent-order (l .line .reply)) (sent-quiet (l .line .reply) refl)
     where
       sent-order : (xs : List ℕ) → Order (withLine l (sendLeft (l .line) xs))
-      sent-order xs = order-of s
+      sent-order xs = s .order
 
   pub octet-steady : (b : ℕ) (bad : Bool) → Steady (heard l b bad)
   unfolding heard
@@ -306,9 +291,7 @@ module _ {l : Ledger} (s : Steady l) where
   -- nothing changes but buffers that are not looked at here
   lists-steady : (x : Buffers) → x .parameters ≡ l .buffers .parameters → x .configuration ≡ l .buffers .configuration → Steady (withBuffers l x)
   lists-steady x e f =
-      steady-by (withBuffers l x)
-      (rw (e, f) (order-of s))
-      (s .quiet) (s .noted) (s .delaying)
+      record { order = rw (e, f) (s .order); quiet = s .quiet; noted = s .noted; delaying = s .delaying }
 
   written-sets : (kind index v : ℕ)
       → (writtenOctet (l .buffers) kind index v .parameters ≡ l .buffers .parameters) × (writtenOctet (l .buffers) kind index v .configuration ≡ l .buffers .configuration)
@@ -318,23 +301,25 @@ module _ {l : Ledger} (s : Steady l) where
   -- a diagnosis is delayed, or takes effect
   delaying-steady : (count flags : ℕ) → CountIn (l .setup) count → diagnosisLeaves l ≡ true → Steady (withControl l (delaying (l .control) count flags))
   unfolding delaying
-  delaying-steady count flags w e =
-      steady-by (withControl l (delaying (l .control) count flags))
-      (record {
-        parameters-closed = s .parameters-closed;
-        configuration-closed = s .configuration-closed;
-        unjudged = s .unjudged;
-        parameters-fit = s .parameters-fit;
-        configuration-fit = s .configuration-fit;
-        count = s .count;
-        delayed-count = inr w;
-      })
-      (s .quiet) (s .noted) (λ _. e)
+  delaying-steady count flags w e = record {
+    order = record {
+      parameters-closed = s .order .parameters-closed;
+      configuration-closed = s .order .configuration-closed;
+      unjudged = s .order .unjudged;
+      parameters-fit = s .order .parameters-fit;
+      configuration-fit = s .order .configuration-fit;
+      count = s .order .count;
+      delayed-count = inr w;
+    };
+    quiet = s .quiet;
+    noted = s .noted;
+    delaying = λ _. e;
+  }
 
   diagnosed-steady : (count flags : ℕ) → CountIn (l .setup) count → Steady (diagnosisChanged l (diagnosed (l .control) count flags))
   unfolding diagnosed
   diagnosed-steady count flags w =
-      steady-by (diagnosisChanged l (diagnosed (l .control) count flags)) (diagnosed-order l count flags w (order-of s)) (s .quiet) (s .noted) (λ e. no-true e)
+      record { order = diagnosed-order l count flags w (s .order); quiet = s .quiet; noted = s .noted; delaying = λ e. no-true e }
 
   count-in : (n m : ℕ) (p : Bool) → within 6 n m && p ≡ true → Within 6 n m
   count-in n m p e = within-true 6 n m (and-left (within 6 n m) p e)
@@ -343,22 +328,17 @@ Keeps : Told → Type 0
 Keeps t = Steady (t .ledger)
 
 pub step-steady : (l : Ledger) (c : Call) → Steady l → Steady (step l c .ledger)
-unfolding takeOutputs readOctet writeOctet handOver newDiagnosis judgeParameters judgeConfiguration acknowledgeEvents leaveMaster Keeps
+unfolding handOver newDiagnosis acknowledgeEvents leaveMaster Keeps
 step-steady l (octet b bad) s = octet-steady s b bad
 step-steady l gap s = gap-steady s
 step-steady l send s = sent-steady s
 step-steady l tick s = tick-steady s
 step-steady l take s =
-    by-test Keeps (not (l .buffers .outputs .fresh)) (told 0 l)
-    (told (cond (l .buffers .outputs .zeros) 2 1) (withBuffers l (withOutputs (l .buffers) (takenOutputs (l .buffers .outputs)))))
-    (λ _. s) (λ _. lists-steady s (withOutputs (l .buffers) (takenOutputs (l .buffers .outputs))) refl refl)
-step-steady l (read kind index) s =
-    by-test Keeps (not (inRange (l .setup) kind index)) (refused Range l) _ (λ _. s)
-    (λ _. by-test Keeps (absent l kind index) (refused Absent l) (told (getD (octetsOfKind (l .buffers) kind) index 0) l) (λ _. s) (λ _. s))
+    take-cases Keeps l (λ _. s) (λ _. lists-steady s (withOutputs (l .buffers) (takenOutputs (l .buffers .outputs))) refl refl)
+step-steady l (read kind index) s = read-cases Keeps l kind index (λ _. s) s
 step-steady l (write kind index x) s =
-    by-test Keeps (not (writable kind && inRange (l .setup) kind index)) (refused Range l) _ (λ _. s)
-    (λ _. by-test Keeps (absent l kind index) (refused Absent l) (told 0 (withBuffers l (writtenOctet (l .buffers) kind index x))) (λ _. s)
-    (λ _. lists-steady s (writtenOctet (l .buffers) kind index x) (written-sets s kind index x .0) (written-sets s kind index x .1)))
+    write-cases Keeps l kind index x (λ _. s)
+    (lists-steady s (writtenOctet (l .buffers) kind index x) (written-sets s kind index x .0) (written-sets s kind index x .1))
 step-steady l hand-over s = lists-steady s (withInputs (l .buffers) (handedOver (l .buffers .inputs))) refl refl
 step-steady l (new-diagnosis count flags) s =
     by-test Keeps (not (within 6 count (l .setup .«diagnosis_len») && leb flags 7)) (refused Range l) _ (λ _. s)
@@ -367,18 +347,16 @@ step-steady l (new-diagnosis count flags) s =
     (λ f. delaying-steady s count flags (count-in s count _ _ (not-false _ e)) f)
     (λ _. diagnosed-steady s count flags (count-in s count _ _ (not-false _ e)))))
 step-steady l (judge-parameters j) s =
-    by-test Keeps (not (parametersOpen l)) (refused Judging l) _ (λ _. s)
-    (λ e. by-test Keeps (not (leb j 1)) (refused Range l) _ (λ _. s)
-    (λ _. carried-steady s (judgedParameters (l .control) (some (l .buffers .parameters .waiting)) (eqb j 1))
-    (parameters-holds s (some (l .buffers .parameters .waiting)) (eqb j 1) (not-false _ e))))
+    parameters-cases Keeps l j (λ _ _. s)
+    (λ e. carried-steady s _ (parameters-holds s (some (l .buffers .parameters .waiting)) (eqb j 1) (and-left (parametersOpen l) (leb j 1) e)))
 step-steady l (judge-configuration j) s =
-    by-test Keeps (not (configurationOpen l && l .control .flags .«parameters_good»)) (refused Judging l) _ (λ _. s)
-    (λ e. by-test Keeps (not (leb j 1)) (refused Range l) _ (λ _. s)
-    (λ _. carried-steady s (judgedConfiguration (l .control) (some (l .buffers .configuration .waiting)) (eqb j 1))
-    (configuration-holds s (some (l .buffers .configuration .waiting)) (eqb j 1) (not-false _ e))))
+    configuration-cases Keeps l j (λ _ _. s)
+    (λ e. carried-steady s _
+    (configuration-holds s (some (l .buffers .configuration .waiting)) (eqb j 1)
+    (and-left (configurationOpen l && l .control .flags .«parameters_good») (leb j 1) e)))
 step-steady l events s = s
 step-steady l (acknowledge mask) s =
-    steady-by (step l (acknowledge mask) .ledger) (kept {c = l .control} (alike refl refl refl) (order-of s)) (s .quiet) (s .noted) (s .delaying)
+    record { order = kept {c = l .control} (alike refl refl refl) (s .order); quiet = s .quiet; noted = s .noted; delaying = s .delaying }
 step-steady l pending s = s
 step-steady l leave s = carried-steady s (clearOn (busy l) (l .control)) (clear-holds s (l .control) (alike refl refl refl))
 
@@ -386,13 +364,15 @@ step-steady l leave s = carried-steady s (clearOn (busy l) (l .control)) (clear-
 
 pub fresh-steady : (g : Setup) (slice : List ℕ) → 6 ≤ g .«diagnosis_len» → Steady (fresh g slice)
 fresh-steady g slice h = record {
-  parameters-closed = λ _. refl;
-  configuration-closed = λ _. refl;
-  unjudged = λ e. no-true e;
-  parameters-fit = none-fit (g .«parameter_len»);
-  configuration-fit = none-fit (g .«configuration_len»);
-  count = (omega arith, h);
-  delayed-count = inl refl;
+  order = record {
+    parameters-closed = λ _. refl;
+    configuration-closed = λ _. refl;
+    unjudged = λ e. no-true e;
+    parameters-fit = none-fit (g .«parameter_len»);
+    configuration-fit = none-fit (g .«configuration_len»);
+    count = (omega arith, h);
+    delayed-count = inl refl;
+  };
   quiet = λ e. no-true e;
   noted = λ e. no-true e;
   delaying = λ e. no-true e;

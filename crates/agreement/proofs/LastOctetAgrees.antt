@@ -101,8 +101,8 @@ module _ {s : State} {m : List ℕ} {l : Ledger} (a : Agrees s m l) (d : Steady 
         let b = ledger.onBuffers o (l .setup) ds (l .buffers) in
         let xs = replyOf (o .drawn) (l .setup) (l .slice) (o .control) b master in
         let place : heldOf (carried (reading s t) m o (length (payloadOf t)) .state .outputs .set .place) < 3 = h .safe .outputs .held-in in
-        let low : 6 ≤ o .control .diagnosis .count = rw counts (d .count .0) in
-        let high : o .control .diagnosis .count ≤ s .setup .«diagnosis_len» = rw (counts, a .setup) (d .count .1) in
+        let low : 6 ≤ o .control .diagnosis .count = rw counts (d .order .count .0) in
+        let high : o .control .diagnosis .count ≤ s .setup .«diagnosis_len» = rw (counts, a .setup) (d .order .count .1) in
         reply-changed h (replyFor (o .drawn) (x .state) master) xs (diagnoses (o .drawn)) (omega arith)
         (reply-line
         (draws (x .state) (x .memory) (l .slice) b master (h .safe) (subst Ranged (sym (a .setup)) w) (mod-lt (requestBy t .sa) (omega arith)) low high

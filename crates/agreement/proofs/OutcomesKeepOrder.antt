@@ -5,7 +5,6 @@ use native.Mathlib.Omega.{arith}
 use mathlib.Core.Path.{_≡_, refl, sym, ap, _∙_}
 use mathlib.Core.Bool.{Bool, true, false}
 use mathlib.Core.List.{List, [], _∷_}
-use mathlib.Core.Logic.{_⊎_}
 use lib.ListN.{length}
 use Rattle.telegram.proofs.Run.{no-true}
 use Rattle.state.specs.declared.setup.Setup.{Setup}
@@ -16,25 +15,15 @@ use Rattle.rules.specs.declared.request.Request.{Request}
 use Rattle.rules.specs.declared.outcome.SetDeed.{SetDeed}
 use Rattle.rules.specs.declared.outcome.SetDeed.the-variants as set-deed
 use Rattle.rules.specs.declared.outcome.Outcome.{Outcome}
-use Rattle.rules.specs.Control.{inExchange}
 use Rattle.rules.specs.Phases.{waitPrm}
 use Rattle.rules.proofs.Alike.{Alike, exchange-same}
 use Rattle.rules.proofs.Headed.{To}
 use Rattle.rules.proofs.Served.{Receives, Judges, Served}
 use Rattle.ledger.specs.Lists.{some, Sets, noSets}
 use Rattle.ledger.specs.Outcome.{onSets}
-use Rattle.agreement.proofs.Steady.{SetsFit, CountIn}
+use Rattle.agreement.proofs.Steady.{SetsFit, InOrder}
 
-pub record InOrder (g : Setup) (c : Control) (p q : Sets) : Type 0 where
-  pub parameters-closed : inExchange c ≡ true → p .shown ≡ []
-  pub configuration-closed : inExchange c ≡ true → q .shown ≡ []
-  pub unjudged : some (p .shown) ≡ true → c .flags .«parameters_good» ≡ false
-  pub parameters-fit : SetsFit (g .«parameter_len») p
-  pub configuration-fit : SetsFit (g .«configuration_len») q
-  pub count : CountIn g (c .diagnosis .count)
-  pub delayed-count : (c .diagnosis .«delayed_count» ≡ 0) ⊎ CountIn g (c .diagnosis .«delayed_count»)
-
--- what an outcome makes of them; ds is the data received
+-- what an outcome makes of the control part and the sets; ds is the data received
 abbrev pub Orders : Setup → Sets → Sets → List ℕ → Outcome → Type 0
 Orders g p q ds o = InOrder g (o .control) (onSets (o .parameters) p ds) (onSets (o .configuration) q ds)
 

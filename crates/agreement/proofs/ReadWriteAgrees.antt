@@ -130,8 +130,8 @@ module _ {s : State} {m m′ : List ℕ} {l : Ledger} (r : Agrees s m l) (t : St
       (record { outputs = l .buffers .outputs; inputs = x; parameters = l .buffers .parameters; configuration = l .buffers .configuration; diagnosis = y }))
   written x y hx hy =
       let f = r .safe in
-      let p = within-fit (s .parameters) (l .buffers .parameters) _ _ (parametersAt (s .setup)) (ap (λ (g : Setup). g .«parameter_len») (r .setup)) (t .parameters-fit) (r .parameters) in
-      let q = within-fit (s .configuration) (l .buffers .configuration) _ _ (configurationAt (s .setup)) (ap (λ (g : Setup). g .«configuration_len») (r .setup)) (t .configuration-fit) (r .configuration) in
+      let p = within-fit (s .parameters) (l .buffers .parameters) _ _ (parametersAt (s .setup)) (ap (λ (g : Setup). g .«parameter_len») (r .setup)) (t .order .parameters-fit) (r .parameters) in
+      let q = within-fit (s .configuration) (l .buffers .configuration) _ _ (configurationAt (s .setup)) (ap (λ (g : Setup). g .«configuration_len») (r .setup)) (t .order .configuration-fit) (r .configuration) in
       record {
         setup = r .setup;
         control = r .control;

@@ -103,10 +103,10 @@ reread {s} {m} {m′} {l} i n d w r reading reply =
       inputs = inputs-stay e (f .inputs) (h .no-inputs) (r .inputs);
       parameters =
           sets-beside e parameters (s .parameters) (l .buffers .parameters) refl (f .parameters) (h .of-parameters)
-          (rw lengths (d .parameters-fit)) (r .parameters);
+          (rw lengths (d .order .parameters-fit)) (r .parameters);
       configuration =
           sets-beside e configuration (s .configuration) (l .buffers .configuration) refl (f .configuration) (h .of-configuration)
-          (rw lengths (d .configuration-fit)) (r .configuration);
+          (rw lengths (d .order .configuration-fit)) (r .configuration);
       diagnosis = diagnoses-stay e (h .no-diagnosis) (r .diagnosis);
       slice = slice-stays e (h .no-slice) ∙ r .slice;
       reading = reading;

@@ -1,4 +1,4 @@
--- Facts of every ledger that a list of calls leads to, on which the simulation rests.
+-- Facts of every ledger that a list of calls leads to, on which the agreement rests, and all that is known between two calls.
 use Prim.Native.Nat.{ℕ, _≤_}
 use mathlib.Core.Path.{_≡_}
 use mathlib.Core.Bool.{true, false}
@@ -13,8 +13,8 @@ use Rattle.state.specs.declared.state.Reply.{Reply}
 use Rattle.state.specs.declared.state.State.{State}
 use Rattle.rules.specs.Control.{inExchange}
 use Rattle.rules.specs.Diagnosis.{delayed}
-use Rattle.ledger.specs.Lists.{Sets}
-use Rattle.ledger.specs.Ledger.{Ledger, begun, busy, diagnosisLeaves, parametersOpen}
+use Rattle.ledger.specs.Lists.{some, Sets}
+use Rattle.ledger.specs.Ledger.{Ledger, begun, busy, diagnosisLeaves}
 use Rattle.agreement.proofs.Relation.{Agrees}
 
 -- no set is longer than its buffers
@@ -26,17 +26,22 @@ pub record SetsFit (n : ℕ) (x : Sets) : Type 0 where
 abbrev pub CountIn : Setup → ℕ → Type 0
 CountIn s n = (6 ≤ n) × (n ≤ s .«diagnosis_len»)
 
-pub record Steady (l : Ledger) : Type 0 where
+-- the control part and the sets of parameters and configuration, which outcomes of the rules change
+pub record InOrder (g : Setup) (c : Control) (p q : Sets) : Type 0 where
   -- in DATA_EXCH no set is open
-  pub parameters-closed : inExchange (l .control) ≡ true → l .buffers .parameters .shown ≡ []
-  pub configuration-closed : inExchange (l .control) ≡ true → l .buffers .configuration .shown ≡ []
+  pub parameters-closed : inExchange c ≡ true → p .shown ≡ []
+  pub configuration-closed : inExchange c ≡ true → q .shown ≡ []
   -- while a parameter set is open none is judged good
-  pub unjudged : parametersOpen l ≡ true → l .control .flags .«parameters_good» ≡ false
-  pub parameters-fit : SetsFit (l .setup .«parameter_len») (l .buffers .parameters)
-  pub configuration-fit : SetsFit (l .setup .«configuration_len») (l .buffers .configuration)
+  pub unjudged : some (p .shown) ≡ true → c .flags .«parameters_good» ≡ false
+  pub parameters-fit : SetsFit (g .«parameter_len») p
+  pub configuration-fit : SetsFit (g .«configuration_len») q
   -- diagnosis has 6 octets to the set length, and a delayed one too
-  pub count : CountIn (l .setup) (l .control .diagnosis .count)
-  pub delayed-count : (l .control .diagnosis .«delayed_count» ≡ 0) ⊎ CountIn (l .setup) (l .control .diagnosis .«delayed_count»)
+  pub count : CountIn g (c .diagnosis .count)
+  pub delayed-count : (c .diagnosis .«delayed_count» ≡ 0) ⊎ CountIn g (c .diagnosis .«delayed_count»)
+
+-- every ledger that calls lead to
+pub record Steady (l : Ledger) : Type 0 where
+  pub order : InOrder (l .setup) (l .control) (l .buffers .parameters) (l .buffers .configuration)
   -- while a telegram is coming no reply is left
   pub quiet : begun l ≡ true → l .line .reply ≡ []
   -- a clear is noted only on a busy line, and a diagnosis delayed only while a Slave_Diag reply is unfinished

@@ -138,11 +138,11 @@ module _ {s : State} {m : List ℕ} {l : Ledger} (r : Related s m l) where
 
   pub parameters-spared : isOpen (s .parameters) ≡ true → Spared (s .reply)
   parameters-spared =
-      open-spared (s .parameters) (l .buffers .parameters) (parametersAt (s .setup)) (r .agrees .parameters) (r .steady .parameters-closed)
+      open-spared (s .parameters) (l .buffers .parameters) (parametersAt (s .setup)) (r .agrees .parameters) (r .steady .order .parameters-closed)
 
   pub configuration-spared : isOpen (s .configuration) && s .control .flags .«parameters_good» ≡ true → Spared (s .reply)
   configuration-spared e =
-      open-spared (s .configuration) (l .buffers .configuration) (configurationAt (s .setup)) (r .agrees .configuration) (r .steady .configuration-closed)
+      open-spared (s .configuration) (l .buffers .configuration) (configurationAt (s .setup)) (r .agrees .configuration) (r .steady .order .configuration-closed)
       (and-left (isOpen (s .configuration)) (s .control .flags .«parameters_good») e)
 
   pub judge-parameters-matches : (j : ℕ) → Matches (step s m (judge-parameters j)) (ledger-calls.step l (judge-parameters j))
