@@ -28,7 +28,7 @@ use Rattle.rules.specs.User.{judgedParameters, judgedConfiguration}
 use Rattle.ledger.specs.Lists.{some, Buffers, takenOutputs, handedOver, withOutputs, withInputs}
 use Rattle.ledger.specs.Ledger.{Line, Ledger, withControl, withBuffers, withLine, begun, busy, diagnosisLeaves, parametersOpen, configurationOpen, fresh}
 use Rattle.ledger.specs.Outcome.{carried, diagnosisChanged, afterReply, settle}
-use Rattle.ledger.specs.Bus.{telegramOn, answered, completed, brokenOff, lengthened, beginning, sendLeft, silenced, heardAs, heard, paused, sent, elapsed}
+use Rattle.ledger.specs.Bus.{telegramOn, answered, completed, brokenOff, lengthened, beginning, sendLeft, silenced, heardAs, heard, paused, afterSend, elapsed}
 use Rattle.ledger.specs.User.{Told, told, refused, writtenOctet, handOver, newDiagnosis, acknowledgeEvents, leaveMaster}
 use Rattle.rules.specs.Call.{Call, octet, gap, send, tick, take, read, write, hand-over, new-diagnosis, judge-parameters, judge-configuration, events, acknowledge, pending, leave}
 use Rattle.ledger.specs.Calls.{step, after}
@@ -263,8 +263,8 @@ module _ {l : Ledger} (s : Steady l) where
   sent-quiet [] e f = e
   sent-quiet (x ∷ xs) e f = absurd (open-list (ap some e) (s .quiet f))
 
-  pub sent-steady : Steady (sent l)
-  unfolding sent
+  pub sent-steady : Steady (afterSend l)
+  unfolding afterSend
   sent-steady = settle-steady (withLine l (sendLeft (l .line) (l .line .reply))) (sent-order (l .line .reply)) (sent-quiet (l .line .reply) refl)
     where
       sent-order : (xs : List ℕ) → Order (withLine l (sendLeft (l .line) xs))

@@ -10,7 +10,7 @@ use borrow.Author.Tests.{lt-ltb, le-ltb, eq-eqb}
 use Rattle.buffers.specs.Triple.{fillOf}
 use Rattle.telegram.specs.declared.reader.Reader.{Reader}
 use Rattle.telegram.specs.declared.reader.Status.the-variants.{Broken}
-use Rattle.telegram.specs.Reading.{start, step, run, status, takesData, gathered}
+use Rattle.telegram.specs.Reading.{start, readerStep, run, status, takesData, gathered}
 use Rattle.telegram.proofs.Gather.{gather-snoc}
 use Rattle.state.specs.declared.state.State.{State}
 use Rattle.state.specs.Layout.{outputs, parameters, configuration, countOf, lengthOf, startOf}
@@ -77,14 +77,14 @@ gathered-more s m q ds b f o g =
 
 -- an octet that is no data came, and did not break off
 pub gathered-on : (s : State) (m : List ℕ) (xs : List ℕ) (b : ℕ) → s .incoming .reader ≡ run xs → takesData (run xs) ≡ false
-    → ¬ (status (step (run xs) b) ≡ Broken) → Gathered s m (gathered start xs)
-    → Gathered (readBy s (step (run xs) b)) m (gathered start (xs ++ b ∷ []))
+    → ¬ (status (readerStep (run xs) b) ≡ Broken) → Gathered s m (gathered start xs)
+    → Gathered (readBy s (readerStep (run xs) b)) m (gathered start (xs ++ b ∷ []))
 gathered-on s m xs b e t n g =
-    subst (λ (ds : List ℕ). Gathered (readBy s (step (run xs) b)) m ds) (sym same) (go (inHead ((run xs) .phase)) refl)
+    subst (λ (ds : List ℕ). Gathered (readBy s (readerStep (run xs) b)) m ds) (sym same) (go (inHead ((run xs) .phase)) refl)
   where
     same : gathered start (xs ++ b ∷ []) ≡ gathered start xs
     same = gather-snoc xs b ∙ rw t (append-nil (gathered start xs))
 
-    go : (c : Bool) → inHead ((run xs) .phase) ≡ c → Gathered (readBy s (step (run xs) b)) m (gathered start xs)
-    go true h = rw (none-gathered xs h) (gathered-none (readBy s (step (run xs) b)) m)
-    go false h = gathered-onward s m (step (run xs) b) (gathered start xs) (rw e (step-onward (run xs) b h n)) g
+    go : (c : Bool) → inHead ((run xs) .phase) ≡ c → Gathered (readBy s (readerStep (run xs) b)) m (gathered start xs)
+    go true h = rw (none-gathered xs h) (gathered-none (readBy s (readerStep (run xs) b)) m)
+    go false h = gathered-onward s m (readerStep (run xs) b) (gathered start xs) (rw e (step-onward (run xs) b h n)) g

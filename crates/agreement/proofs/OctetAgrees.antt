@@ -11,7 +11,7 @@ use Rattle.telegram.specs.declared.reader.Reader.{Reader}
 use Rattle.telegram.specs.declared.reader.Status.{Status}
 use Rattle.telegram.specs.declared.reader.Status.the-variants.{Fresh, Inside, Complete, Broken}
 use Rattle.telegram.specs.Telegram.{Telegram}
-use Rattle.telegram.specs.Reading.{before, off, start, okAt, step, readerAfter, run, status, takesData, gathered, finished}
+use Rattle.telegram.specs.Reading.{before, off, start, okAt, readerStep, readerAfter, run, status, takesData, gathered, finished}
 use Rattle.telegram.proofs.Run.{no-true, inside-complete, broken-complete, run-snoc}
 use Rattle.telegram.proofs.Framing.{framing, told}
 use Rattle.state.specs.declared.state.State.{State}
@@ -37,8 +37,8 @@ use Rattle.agreement.proofs.InnerOctetAgrees.{inner-octet}
 use Rattle.agreement.proofs.LastOctetAgrees.{completes}
 
 -- no telegram is complete with its first octet
-first-never : (b : ℕ) → status (step start b) ≡ Complete → ⊥
-unfolding step
+first-never : (b : ℕ) → status (readerStep start b) ≡ Complete → ⊥
+unfolding readerStep
 first-never b = go (okAt (start .phase) start b) (eqb b 0x10) (eqb b 0xA2) (eqb b 0xDC)
   where
     go : (c p q t : Bool) → status (cond c (cond p (before Da Sd1 0) (cond q (before Da Sd3 8) (cond t (before Da Sd4 0) (before Le Sd2 0)))) off) ≡ Complete → ⊥
@@ -64,19 +64,19 @@ module _ (s : State) (m : List ℕ) (l : Ledger) (b : ℕ) (d : Steady l) (w : R
     read = a .reading .reading ignoring
 
     -- nothing was read before a first octet
-    first : ledger.begun l ≡ false → step r b ≡ step start b
-    first n = ap (λ (x : Reader). step x b) (read ∙ ap run (closed-list xs n))
+    first : ledger.begun l ≡ false → readerStep r b ≡ readerStep start b
+    first n = ap (λ (x : Reader). readerStep x b) (read ∙ ap run (closed-list xs n))
 
     -- a beginning drops an unfinished reply
-    begins : ledger.begun l ≡ false → status (step r b) ≡ Inside → After (settle (beginning s (step r b)) m) (ledger-outcome.settle (withLine l (bus.beginning b)))
+    begins : ledger.begun l ≡ false → status (readerStep r b) ≡ Inside → After (settle (beginning s (readerStep r b)) m) (ledger-outcome.settle (withLine l (bus.beginning b)))
     begins n e =
         settle-agrees
         (reply-dropped
-        (reading-changed a (step r b) false (b ∷ [])
-        (record { ignoring = ap isIgnored e; empty = λ z. no-true z; reading = λ _. first n; stored = λ _. gathered-none (readBy s (step r b)) m })))
+        (reading-changed a (readerStep r b) false (b ∷ [])
+        (record { ignoring = ap isIgnored e; empty = λ z. no-true z; reading = λ _. first n; stored = λ _. gathered-none (readBy s (readerStep r b)) m })))
 
     -- the last octet is no data octet
-    no-data : status (step r b) ≡ Complete → takesData r ≡ false
+    no-data : status (readerStep r b) ≡ Complete → takesData r ≡ false
     no-data e = go (takesData r) refl
       where
         go : (c : Bool) → takesData r ≡ c → c ≡ false
@@ -84,7 +84,7 @@ module _ (s : State) (m : List ℕ) (l : Ledger) (b : ℕ) (d : Steady l) (w : R
         go false h = refl
 
     -- and not the first one
-    under-way : status (step r b) ≡ Complete → ledger.begun l ≡ true
+    under-way : status (readerStep r b) ≡ Complete → ledger.begun l ≡ true
     under-way e = go (ledger.begun l) refl
       where
         go : (c : Bool) → ledger.begun l ≡ c → c ≡ true
@@ -92,11 +92,11 @@ module _ (s : State) (m : List ℕ) (l : Ledger) (b : ℕ) (d : Steady l) (w : R
         go false h = absurd (first-never b (ap status (sym (first h)) ∙ e))
 
     -- it is complete, and the data octets gathered are its data
-    ends : status (step r b) ≡ Complete → After (settleAfter (completed s m (step r b))) (ledger-outcome.settle (bus.completed l (bus.telegramOn (xs ++ b ∷ []))))
+    ends : status (readerStep r b) ≡ Complete → After (settleAfter (completed s m (readerStep r b))) (ledger-outcome.settle (bus.completed l (bus.telegramOn (xs ++ b ∷ []))))
     ends e =
         let ys = xs ++ b ∷ [] in
-        let went : step (run xs) b ≡ run ys = sym (run-snoc xs b) in
-        let steps : step r b ≡ step (run xs) b = ap (λ (x : Reader). step x b) read in
+        let went : readerStep (run xs) b ≡ run ys = sym (run-snoc xs b) in
+        let steps : readerStep r b ≡ readerStep (run xs) b = ap (λ (x : Reader). readerStep x b) read in
         let whole = framing ys .whole .0 (ap status (sym went) ∙ ap status (sym steps) ∙ e) in
         let t = whole .0 in
         let fields = framing ys .fields t (whole .1) (whole .2) in

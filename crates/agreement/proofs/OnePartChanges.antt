@@ -21,7 +21,7 @@ use Rattle.state.specs.declared.state.Reply.{Reply}
 use Rattle.state.specs.declared.state.State.{State}
 use Rattle.state.specs.Layout.{outputsAt, inputsAt, diagnosisAt}
 use Rattle.ledger.specs.Lists as lists
-use Rattle.ledger.specs.Lists.{Diagnoses, exchanged, withDiagnoses}
+use Rattle.ledger.specs.Lists.{Diagnoses, exchangedDiagnoses, withDiagnoses}
 use Rattle.ledger.specs.Ledger as ledger
 use Rattle.ledger.specs.Ledger.{Line, Ledger, withLine}
 use Rattle.ledger.specs.Outcome as ledger-outcome
@@ -53,7 +53,7 @@ withDiagnosis s c w =
       reply = s .reply;
     }
 
-flipped : {g : Setup} {m : List ℕ} {l : Diagnoses} (w : Bool) → DiagnosesAgree g m w l → DiagnosesAgree g m (not w) (exchanged l)
+flipped : {g : Setup} {m : List ℕ} {l : Diagnoses} (w : Bool) → DiagnosesAgree g m w l → DiagnosesAgree g m (not w) (exchangedDiagnoses l)
 flipped true h = record { own = h .user; user = h .own }
 flipped false h = record { own = h .user; user = h .own }
 
@@ -99,7 +99,7 @@ module _ {s : State} {m : List ℕ} {l : Ledger} (a : Agrees s m l) where
   -- the two diagnosis buffers change, with that control part
   pub diagnosis-changed : (c d : Control) → c ≡ d → diagnosisLeaves s ≡ false → Agrees (diagnosisChanged s c) m (ledger-outcome.diagnosisChanged l d)
   diagnosis-changed c d e f =
-      diagnoses-changed c d e (not (s .swapped)) (exchanged (l .buffers .diagnosis)) (flipped (s .swapped) (a .diagnosis)) (λ h w. absurd (not-diagnosis s f h w))
+      diagnoses-changed c d e (not (s .swapped)) (exchangedDiagnoses (l .buffers .diagnosis)) (flipped (s .swapped) (a .diagnosis)) (λ h w. absurd (not-diagnosis s f h w))
 
   -- the control part alone
   pub control-changed : (c d : Control) → c ≡ d → Agrees (withControl s c) m (ledger.withControl l d)

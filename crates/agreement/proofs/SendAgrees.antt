@@ -128,8 +128,8 @@ module _ (s : State) (m : List ℕ) (l : Ledger) (d : Steady l) (a : Agrees s m 
       go true h = sym (ap bus.sendTold (sends-first (a .reply .1) h))
       go false h = sym (ap bus.sendTold (sym (a .reply .1 .unsent) ∙ none (s .reply .sender) (a .reply .0) h))
 
-  pub send-agrees : After (sendLeft s m) (bus.sent l)
-  unfolding sendLeft bus.sent
+  pub send-agrees : After (sendLeft s m) (bus.afterSend l)
+  unfolding sendLeft bus.afterSend
   send-agrees =
       by-test (λ (x : Stepped). After x (ledger.settle (withLine l (bus.sendLeft (l .line) (l .line .reply))))) (left (s .reply .sender))
       (settle (withReply s (sentBy (s .reply) next)) m) (unchanged s m) goes-on (λ h. over (sym (a .reply .1 .unsent) ∙ none (s .reply .sender) (a .reply .0) h))

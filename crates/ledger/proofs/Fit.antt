@@ -29,10 +29,10 @@ use Rattle.rules.specs.Control.{bit}
 use Rattle.rules.specs.Requests.{masterOf, toStation, toAll, acts, serviceOf}
 use Rattle.rules.specs.Diagnosis.{delayed, diagnosed, delaying, caughtUp}
 use Rattle.rules.specs.Line.{ticked}
-use Rattle.ledger.specs.Lists.{some, Outputs, takenOutputs, Inputs, handedOver, writtenInput, Sets, Diagnoses, exchanged, writtenDiagnosis, Buffers, withOutputs, withInputs, withDiagnoses}
+use Rattle.ledger.specs.Lists.{some, Outputs, takenOutputs, Inputs, handedOver, writtenInput, Sets, Diagnoses, exchangedDiagnoses, writtenDiagnosis, Buffers, withOutputs, withInputs, withDiagnoses}
 use Rattle.ledger.specs.Ledger.{Line, Ledger, withLine, begun, busy, diagnosisLeaves, openSets, fresh}
 use Rattle.ledger.specs.Outcome.{onOutputs, onInputs, onSets, onBuffers, carried, diagnosisChanged, afterReply, settle}
-use Rattle.ledger.specs.Bus.{telegramOn, requestBy, dataBy, outcomeOf, answered, completed, brokenOff, lengthened, beginning, sendLeft, silenced, heardAs, heard, paused, sent, elapsed}
+use Rattle.ledger.specs.Bus.{telegramOn, requestBy, dataBy, outcomeOf, answered, completed, brokenOff, lengthened, beginning, sendLeft, silenced, heardAs, heard, paused, afterSend, elapsed}
 use Rattle.ledger.specs.User.{handOver, acknowledgeEvents, leaveMaster, writtenOctet}
 use Rattle.rules.specs.Call.{Call, octet, gap, send, tick, take, read, write, hand-over, new-diagnosis, judge-parameters, judge-configuration, events, acknowledge, pending, leave}
 use Rattle.ledger.specs.Calls.{step, after}
@@ -136,8 +136,8 @@ module _ {l : Ledger} (f : Fit l) where
   -- the two diagnosis lists change
   changed-fit : (c : Control) → CountsFit (l .setup) (c .diagnosis) → Fit (diagnosisChanged l c)
   changed-fit c w =
-      on-lists (withDiagnoses (l .buffers) (exchanged (l .buffers .diagnosis))) c
-      (on-diagnoses (exchanged (l .buffers .diagnosis)) (record { own = f .lists .diagnosis .user; user = f .lists .diagnosis .own })) w
+      on-lists (withDiagnoses (l .buffers) (exchangedDiagnoses (l .buffers .diagnosis))) c
+      (on-diagnoses (exchangedDiagnoses (l .buffers .diagnosis)) (record { own = f .lists .diagnosis .user; user = f .lists .diagnosis .own })) w
 
   reply-fit : Fit (afterReply l)
   unfolding afterReply diagnosed
@@ -240,7 +240,7 @@ flags-in : (n m flags : ℕ) → within 6 n m && leb flags 7 ≡ true → flags 
 flags-in n m flags e = leb-true flags 7 (and-right (within 6 n m) (leb flags 7) e)
 
 pub step-fit : (l : Ledger) (c : Call) → Fit l → Fit (step l c .ledger)
-unfolding heard paused sent elapsed handOver acknowledgeEvents leaveMaster diagnosed delaying
+unfolding heard paused afterSend elapsed handOver acknowledgeEvents leaveMaster diagnosed delaying
 step-fit l (octet b bad) f = go (l .line .ignored)
   where
     s : Status

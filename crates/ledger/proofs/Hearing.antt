@@ -9,13 +9,13 @@ use Rattle.state.specs.declared.answer.Answer.the-variants.{Value}
 use Rattle.telegram.specs.declared.reader.Status.{Status}
 use Rattle.telegram.specs.declared.reader.Status.the-variants.{Fresh, Inside, Complete, Broken}
 use Rattle.telegram.specs.Telegram.{Telegram, sd1, sd2, sd3, sd4, kindOf, octetsOf, Valid, IsTelegram}
-use Rattle.telegram.specs.Reading.{run, readerAfter, status, step as reads}
+use Rattle.telegram.specs.Reading.{run, readerAfter, status, readerStep as reads}
 use Rattle.telegram.specs.Sending.{startOctet}
 use Rattle.telegram.proofs.Run.{broken-complete, run-snoc}
 use Rattle.telegram.proofs.Framing.{framing, told}
 use Rattle.ledger.specs.Ledger.{Line, Ledger, withLine}
 use Rattle.ledger.specs.Outcome.{settle}
-use Rattle.ledger.specs.Bus.{telegramOn, answered, completed, lengthened, beginning, heard, sendTold, sendLeft, sent}
+use Rattle.ledger.specs.Bus.{telegramOn, answered, completed, lengthened, beginning, heard, sendTold, sendLeft, afterSend}
 use Rattle.rules.specs.Call.{send}
 use Rattle.ledger.specs.Calls.{answers, after}
 use Rattle.ledger.specs.Hearing.{hear, begunBy, Hears, sendsOf, values, replyTo, Dialogue}
@@ -101,15 +101,15 @@ hears l t = record {
 -- The reply sent.
 
 -- a send takes the first octet left
-sent-reply : (l : Ledger) (x : ℕ) (xs : List ℕ) → l .line .reply ≡ x ∷ xs → sent l .line .reply ≡ xs
-unfolding sent
+sent-reply : (l : Ledger) (x : ℕ) (xs : List ℕ) → l .line .reply ≡ x ∷ xs → afterSend l .line .reply ≡ xs
+unfolding afterSend
 sent-reply l x xs e = ap (λ (n : Line). n .reply) (settle-line (withLine l (sendLeft (l .line) (l .line .reply)))) ∙ rw e
 
 pub sends-all : (l : Ledger) (xs ys : List ℕ) → l .line .reply ≡ xs ++ ys
     → (answers l (sendsOf xs) ≡ values xs) × (after l (sendsOf xs) .line .reply ≡ ys)
 sends-all l [] ys e = (refl, e)
 sends-all l (x ∷ xs) ys e =
-    let w = sends-all (sent l) xs ys (sent-reply l x (xs ++ ys) e) in
+    let w = sends-all (afterSend l) xs ys (sent-reply l x (xs ++ ys) e) in
     (λ i. Value (sendTold (e i)) ∷ w .0 i, w .1)
 
 pub dialogue : (l : Ledger) (t : Telegram) → Dialogue l t

@@ -19,7 +19,7 @@ use Rattle.rules.specs.Line.{clearOn, clearNoted, ticked}
 use Rattle.rules.specs.User.{judgedParameters, judgedConfiguration}
 use Rattle.ledger.specs.Ledger.{Ledger, withLine, begun, busy, fresh}
 use Rattle.ledger.specs.Outcome.{onOutputs, carried, settle}
-use Rattle.ledger.specs.Bus.{telegramOn, requestBy, outcomeOf, answered, completed, brokenOff, lengthened, beginning, sendLeft, silenced, heardAs, heard, paused, sent, elapsed}
+use Rattle.ledger.specs.Bus.{telegramOn, requestBy, outcomeOf, answered, completed, brokenOff, lengthened, beginning, sendLeft, silenced, heardAs, heard, paused, afterSend, elapsed}
 use Rattle.ledger.specs.User.{readOctet, handOver, acknowledgeEvents, leaveMaster}
 use Rattle.rules.specs.Call.{Call, octet, gap, send, tick, take, read, write, hand-over, new-diagnosis, judge-parameters, judge-configuration, events, acknowledge, pending, leave}
 use Rattle.ledger.specs.Calls.{step, after}
@@ -113,7 +113,7 @@ heard-made l b Complete =
 heard-made l b Broken = settles-one (withLine l (brokenOff (l .line)))
 
 step-made : (l : Ledger) (c : Call) → Made l (deedsOf l c) (step l c .ledger)
-unfolding Made heard paused sent elapsed handOver acknowledgeEvents leaveMaster
+unfolding Made heard paused afterSend elapsed handOver acknowledgeEvents leaveMaster
 step-made l (octet b bad) = go (l .line .ignored)
   where
     s : Status

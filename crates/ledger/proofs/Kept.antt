@@ -9,7 +9,7 @@ use Rattle.telegram.specs.Reading.{run, readerAfter, status}
 use Rattle.rules.specs.Line.{ticked}
 use Rattle.ledger.specs.Ledger.{Ledger, withLine, begun, busy}
 use Rattle.ledger.specs.Outcome.{carried, settle}
-use Rattle.ledger.specs.Bus.{telegramOn, answered, completed, brokenOff, lengthened, beginning, sendLeft, silenced, heardAs, heard, paused, sent, elapsed}
+use Rattle.ledger.specs.Bus.{telegramOn, answered, completed, brokenOff, lengthened, beginning, sendLeft, silenced, heardAs, heard, paused, afterSend, elapsed}
 use Rattle.ledger.specs.User.{handOver, acknowledgeEvents, leaveMaster}
 use Rattle.rules.specs.Call.{Call, octet, gap, send, tick, take, read, write, hand-over, new-diagnosis, judge-parameters, judge-configuration, events, acknowledge, pending, leave}
 use Rattle.ledger.specs.Calls.{step, after}
@@ -35,7 +35,7 @@ heard-kept l b Complete =
 heard-kept l b Broken = settled-kept l (withLine l (brokenOff (l .line))) (refl, refl)
 
 pub step-kept : (l : Ledger) (c : Call) → Kept l (step l c .ledger)
-unfolding heard paused sent elapsed handOver acknowledgeEvents leaveMaster
+unfolding heard paused afterSend elapsed handOver acknowledgeEvents leaveMaster
 step-kept l (octet b bad) = go (l .line .ignored)
   where
     s : Status

@@ -101,8 +101,8 @@ sendLeft n [] = n
 sendLeft n (x ∷ xs) = record { ignored = n .ignored; telegram = n .telegram; reply = xs; diagnosing = n .diagnosing }
 
 -- the ledger after a send
-unfoldable pub sent : Ledger → Ledger
-sent l = settle (withLine l (sendLeft (l .line) (l .line .reply)))
+unfoldable pub afterSend : Ledger → Ledger
+afterSend l = settle (withLine l (sendLeft (l .line) (l .line .reply)))
 
 -- the next Tick after a clear was noted drops telegram or reply, so that it is carried out, counting nothing
 abbrev pub silenced : Ledger → Line

@@ -3,14 +3,14 @@ use mathlib.Core.List.{List, [], _∷_}
 use Rattle.state.specs.declared.answer.Answer.{Answer}
 use Rattle.rules.specs.Call.{Call, octet, gap, send, tick, take, read, write, hand-over, new-diagnosis, judge-parameters, judge-configuration, events, acknowledge, pending, leave}
 use Rattle.ledger.specs.Ledger.{Ledger}
-use Rattle.ledger.specs.Bus.{heard, paused, sendTold, sent, elapsed}
+use Rattle.ledger.specs.Bus.{heard, paused, sendTold, afterSend, elapsed}
 use Rattle.ledger.specs.User.{Told, told, takeOutputs, readOctet, writeOctet, handOver, newDiagnosis, judgeParameters, judgeConfiguration, eventWord, acknowledgeEvents, pendingEvent, leaveMaster}
 
 -- calls with no answer named answer 0
 abbrev pub step : Ledger → Call → Told
 step l (octet b bad) = told 0 (heard l b bad)
 step l gap = told 0 (paused l)
-step l send = told (sendTold (l .line .reply)) (sent l)
+step l send = told (sendTold (l .line .reply)) (afterSend l)
 step l tick = told 0 (elapsed l)
 step l take = takeOutputs l
 step l (read kind index) = readOctet l kind index

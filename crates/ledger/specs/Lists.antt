@@ -70,8 +70,8 @@ pub record Diagnoses : Type 0 where
   pub user : List ℕ
 
 -- the two buffers change
-abbrev pub exchanged : Diagnoses → Diagnoses
-exchanged d = record { own = d .user; user = d .own }
+abbrev pub exchangedDiagnoses : Diagnoses → Diagnoses
+exchangedDiagnoses d = record { own = d .user; user = d .own }
 
 -- octet n of the user's is written
 abbrev pub writtenDiagnosis : Diagnoses → ℕ → ℕ → Diagnoses

@@ -11,7 +11,7 @@ use Rattle.rules.specs.declared.outcome.SetDeed.the-variants as set-deed
 use Rattle.rules.specs.declared.outcome.Outcome.{Outcome}
 use Rattle.rules.specs.Line.{clearNoted}
 use Rattle.rules.specs.Diagnosis.{delayed, caughtUp}
-use Rattle.ledger.specs.Lists.{Outputs, Inputs, Sets, Buffers, published, publishedZeros, brought, receivedSet, advanced, noSets, exchanged, withDiagnoses}
+use Rattle.ledger.specs.Lists.{Outputs, Inputs, Sets, Buffers, published, publishedZeros, brought, receivedSet, advanced, noSets, exchangedDiagnoses, withDiagnoses}
 use Rattle.ledger.specs.Ledger.{Ledger, busy, diagnosisLeaves}
 
 -- what becomes of the outputs; ds is the data received
@@ -62,7 +62,7 @@ diagnosisChanged l c =
       setup = l .setup;
       slice = l .slice;
       control = c;
-      buffers = withDiagnoses (l .buffers) (exchanged (l .buffers .diagnosis));
+      buffers = withDiagnoses (l .buffers) (exchangedDiagnoses (l .buffers .diagnosis));
       line = l .line;
     }
 

@@ -11,13 +11,13 @@ use lib.Seq.{drop-cons, drop-length}
 use Rattle.state.specs.declared.state.State.{State}
 use Rattle.steps.specs.Safe.{Safe}
 use Rattle.steps.specs.Stepped.{Stepped, Steps}
-use Rattle.lent.specs.Run.{Beat, octet, tick, beat, run, wellReceived, ticks}
+use Rattle.lent.specs.Run.{Beat, octet, tick, beat, runBeats, wellReceived, ticks}
 use Rattle.lent.proofs.Same.{safe-beat, beat-length}
 
 pub record Partly (h : State) (ys : List ℕ) (all : List Beat) (t : State) (zs : List ℕ) (rest : List Beat) : Type 0 where
   pub long : length zs ≡ length ys
   pub safe : Safe t zs
-  pub comes : run t zs rest ≡ run h ys all
+  pub comes : runBeats t zs rest ≡ runBeats h ys all
 
 pub partly-none : (h : State) (ys : List ℕ) (all : List Beat) → Safe h ys → Partly h ys all h ys all
 partly-none h ys all s = record { long = refl; safe = s; comes = refl }
@@ -26,7 +26,7 @@ module _ {h : State} {ys : List ℕ} {all : List Beat} (t : State) (zs : List �
   pub partly-more : (b : Beat) (rest : List Beat) → Partly h ys all t zs (b ∷ rest) → Partly h ys all (beat t zs b .state) (beat t zs b .memory) rest
   partly-more b rest p = record { long = beat-length t zs (p .safe) b ∙ p .long; safe = safe-beat t zs (p .safe) b; comes = p .comes }
 
-  pub partly-all : Partly h ys all t zs [] → Steps (run h ys all) t zs
+  pub partly-all : Partly h ys all t zs [] → Steps (runBeats h ys all) t zs
   partly-all p = record { states = ap (λ (r : Stepped). r .state) (p .comes); leaves = ap (λ (r : Stepped). r .memory) (p .comes) }
 
 -- ---- octets from i on
@@ -53,6 +53,6 @@ no-tick n i h = let e : n - i ≡ 0 = omega arith in ap ticks e
 
 -- ---- runs in parts
 
-pub run-append : (xs ys : List Beat) (s : State) (m : List ℕ) → run s m (xs ++ ys) ≡ run (run s m xs .state) (run s m xs .memory) ys
+pub run-append : (xs ys : List Beat) (s : State) (m : List ℕ) → runBeats s m (xs ++ ys) ≡ runBeats (runBeats s m xs .state) (runBeats s m xs .memory) ys
 run-append [] ys s m = refl
 run-append (x ∷ xs) ys s m = run-append xs ys (beat s m x .state) (beat s m x .memory)

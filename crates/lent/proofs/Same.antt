@@ -34,7 +34,7 @@ use Rattle.steps.proofs.Holding.{holds-safe, step-whole}
 use Rattle.state.proofs.Damage.{fronted-same}
 use Rattle.steps.proofs.Guarded.{LengthIn, holds-well, called-steps}
 use Rattle.agreement.proofs.Agreement.{Ready, does, calls-of, ready-again, begins-ready, agreement}
-use Rattle.lent.specs.Run.{Beat, octet, gap, tick, beat, run, callOf, calls, memoryAfter, Same, CarriesOver}
+use Rattle.lent.specs.Run.{Beat, octet, gap, tick, beat, runBeats, callOf, calls, memoryAfter, Same, CarriesOver}
 use Rattle.lent.proofs.Behind.{behind, alike-beat}
 use Rattle.lent.proofs.Keeps.{sound-beat}
 
@@ -46,7 +46,7 @@ safe-beat s m h gap = safe-paused s m h
 safe-beat s m h tick = safe-elapsed s m h
 
 -- what is needed of a run's state and memory holds after it
-pub safe-run : (bs : List Beat) (s : State) (m : List ℕ) → Safe s m → Safe (run s m bs .state) (run s m bs .memory)
+pub safe-run : (bs : List Beat) (s : State) (m : List ℕ) → Safe s m → Safe (runBeats s m bs .state) (runBeats s m bs .memory)
 safe-run [] s m h = h
 safe-run (b ∷ bs) s m h = safe-run bs (beat s m b .state) (beat s m b .memory) (safe-beat s m h b)
 
@@ -98,9 +98,9 @@ packs : (p : List ℕ) (s : State) (m : List ℕ) → Beside p s m → kept s m 
 packs p s m b = ap (λ (l : List ℕ). image s ++ l) (sym (b .bodies)) ∙ sym (fronted-same p s (b .holds))
 
 record Ends (p : List ℕ) (s : State) (m : List ℕ) (bs : List Beat) : Type 0 where
-  image-is : kept (run s m bs .state) (run s m bs .memory) ≡ memoryAfter p (calls bs)
+  image-is : kept (runBeats s m bs .state) (runBeats s m bs .memory) ≡ memoryAfter p (calls bs)
   answers-are : answers p (calls bs) ≡ replicate (length bs) (Value 0)
-  holds-still : Holds (kept (run s m bs .state) (run s m bs .memory)) (run s m bs .state)
+  holds-still : Holds (kept (runBeats s m bs .state) (runBeats s m bs .memory)) (runBeats s m bs .state)
 
 ends : (bs : List Beat) (p : List ℕ) (s : State) (m : List ℕ) → Beside p s m → Ends p s m bs
 ends [] p s m b = record {
@@ -127,7 +127,7 @@ lent-same m s n h bs =
     record { image-is = r .image-is; answers-are = r .answers-are; holds-still = r .holds-still }
 
 -- and with that state named
-pub lent-image : (m : List ℕ) (s : State) → LengthIn (length m) → Holds m s → (bs : List Beat) → kept (run s m bs .state) (run s m bs .memory) ≡ memoryAfter m (calls bs)
+pub lent-image : (m : List ℕ) (s : State) → LengthIn (length m) → Holds m s → (bs : List Beat) → kept (runBeats s m bs .state) (runBeats s m bs .memory) ≡ memoryAfter m (calls bs)
 lent-image m s n h bs = ends bs m s m (record { length-in = n; holds = h; safe = holds-safe m s h; bodies = refl }) .image-is
 
 -- ---- from a freshly started station

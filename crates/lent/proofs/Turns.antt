@@ -15,23 +15,23 @@ use Rattle.steps.specs.Stepped.{Stepped, Steps}
 use Rattle.steps.specs.Bus.{paused}
 use Rattle.steps.proofs.KeepsSafe.{safe-steps}
 use Rattle.steps.proofs.Guarded.{LengthIn, called-damaged}
-use Rattle.lent.specs.Run.{Beat, gap, run, calls, memoryAfter}
+use Rattle.lent.specs.Run.{Beat, gap, runBeats, calls, memoryAfter}
 use Rattle.lent.proofs.Partly.{run-append}
 use Rattle.lent.proofs.Same.{safe-run, lent-image}
 
 -- what is needed of a state and a memory holds after a run
-pub safe-after : (s : State) (m : List ℕ) (bs : List Beat) (t : State) (zs : List ℕ) → Safe s m → Steps (run s m bs) t zs → Safe t zs
-safe-after s m bs t zs h e = safe-steps (run s m bs) t zs e (safe-run bs s m h)
+pub safe-after : (s : State) (m : List ℕ) (bs : List Beat) (t : State) (zs : List ℕ) → Safe s m → Steps (runBeats s m bs) t zs → Safe t zs
+safe-after s m bs t zs h e = safe-steps (runBeats s m bs) t zs e (safe-run bs s m h)
 
 -- one run after another
 pub in-turn : (s : State) (m : List ℕ) (xs ys : List Beat) (t : State) (zs : List ℕ) (r : State) (ws : List ℕ)
-    → Steps (run s m xs) t zs → Steps (run t zs ys) r ws → Steps (run s m (xs ++ ys)) r ws
+    → Steps (runBeats s m xs) t zs → Steps (runBeats t zs ys) r ws → Steps (runBeats s m (xs ++ ys)) r ws
 in-turn s m xs ys t zs r ws e f =
-    let p : run t zs ys ≡ run s m (xs ++ ys) = (λ i. run (e .states i) (e .leaves i) ys) ∙ sym (run-append xs ys s m) in
+    let p : runBeats t zs ys ≡ runBeats s m (xs ++ ys) = (λ i. runBeats (e .states i) (e .leaves i) ys) ∙ sym (run-append xs ys s m) in
     record { states = f .states ∙ ap (λ (q : Stepped). q .state) p; leaves = f .leaves ∙ ap (λ (q : Stepped). q .memory) p }
 
 -- packed where it ends
-pub packed-again : (m : List ℕ) (s : State) (bs : List Beat) (t : State) (zs out : List ℕ) → LengthIn (length m) → Holds m s → Steps (run s m bs) t zs → out ≡ kept t zs
+pub packed-again : (m : List ℕ) (s : State) (bs : List Beat) (t : State) (zs out : List ℕ) → LengthIn (length m) → Holds m s → Steps (runBeats s m bs) t zs → out ≡ kept t zs
     → out ≡ memoryAfter m (calls bs)
 packed-again m s bs t zs out n h e k = k ∙ (λ i. kept (e .states i) (e .leaves i)) ∙ lent-image m s n h bs
 
@@ -49,5 +49,5 @@ pub one-found : (m : List ℕ) (r : Bool) → r ≡ wellMemory m → not r ≡ f
 one-found m r tells e = sym (not-false r e) ∙ tells
 
 -- a gap, as a run of its own
-pub gap-run : (s : State) (m : List ℕ) (t : State) (zs : List ℕ) → Steps (paused s m) t zs → Steps (run s m (gap ∷ [])) t zs
+pub gap-run : (s : State) (m : List ℕ) (t : State) (zs : List ℕ) → Steps (paused s m) t zs → Steps (runBeats s m (gap ∷ [])) t zs
 gap-run s m t zs e = record { states = e .states; leaves = e .leaves }

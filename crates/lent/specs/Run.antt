@@ -33,9 +33,9 @@ beat s m gap = paused s m
 beat s m tick = elapsed s m
 
 -- one after the other, nothing packed in between
-abbrev pub run : State → List ℕ → List Beat → Stepped
-run s m [] = unchanged s m
-run s m (b ∷ bs) = run (beat s m b .state) (beat s m b .memory) bs
+abbrev pub runBeats : State → List ℕ → List Beat → Stepped
+runBeats s m [] = unchanged s m
+runBeats s m (b ∷ bs) = runBeats (beat s m b .state) (beat s m b .memory) bs
 
 -- octets that were well received
 abbrev pub wellReceived : List ℕ → List Beat
@@ -68,13 +68,13 @@ memoryAfter m (c ∷ cs) = memoryAfter (called m c .memory) cs
 
 -- the unpacked run from the state in the memory m, packed at its end
 abbrev pub packedRun : List ℕ → List Beat → List ℕ
-packedRun m bs = kept (run (unpacked m) m bs .state) (run (unpacked m) m bs .memory)
+packedRun m bs = kept (runBeats (unpacked m) m bs .state) (runBeats (unpacked m) m bs .memory)
 
 -- it leaves the memory that the exported calls leave, and each of these answers 0
 pub record Same (m : List ℕ) (bs : List Beat) : Type 0 where
   pub image-is : packedRun m bs ≡ memoryAfter m (calls bs)
   pub answers-are : answers m (calls bs) ≡ replicate (length bs) (Value 0)
-  pub holds-still : Holds (packedRun m bs) (run (unpacked m) m bs .state)
+  pub holds-still : Holds (packedRun m bs) (runBeats (unpacked m) m bs .state)
 
 -- demand 3 carries over: after Start and any calls the state is unpacked, lent for any octets, gaps and Ticks and packed
 -- again, and every call from then on answers as the ledger does

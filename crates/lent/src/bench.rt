@@ -12,12 +12,12 @@ ghost use mathlib.Core.List.{_++_};
 ghost use Rattle.steps.specs.Calls.{wellMemory};
 ghost use Rattle.steps.specs.Safe.{Safe};
 ghost use Rattle.steps.specs.Stepped.{Steps};
-ghost use Rattle.lent.specs.Run.{run, wellReceived, ticks, turn, calls, memoryAfter};
+ghost use Rattle.lent.specs.Run.{runBeats, wellReceived, ticks, turn, calls, memoryAfter};
 
 // Octets.
 pub fn listen(state: State, memory: &mut [u8], octets: &[u8]) -> State
     requires { ⌜ Safe state (now memory) ⌝ }
-    ensures { λ r. ⌜ Steps (run state (now (memory .entry)) (wellReceived (now (octets .entry)))) r (now (memory .exit)) ⌝ }
+    ensures { λ r. ⌜ Steps (runBeats state (now (memory .entry)) (wellReceived (now (octets .entry)))) r (now (memory .exit)) ⌝ }
 {
     let mut held = state;
     let mut i: usize = 0;
@@ -31,7 +31,7 @@ pub fn listen(state: State, memory: &mut [u8], octets: &[u8]) -> State
 // Ticks.
 pub fn wait(state: State, memory: &mut [u8], count: usize) -> State
     requires { ⌜ Safe state (now memory) ⌝ }
-    ensures { λ r. ⌜ Steps (run state (now (memory .entry)) (ticks count)) r (now (memory .exit)) ⌝ }
+    ensures { λ r. ⌜ Steps (runBeats state (now (memory .entry)) (ticks count)) r (now (memory .exit)) ⌝ }
 {
     let mut held = state;
     let mut i: usize = 0;
@@ -45,7 +45,7 @@ pub fn wait(state: State, memory: &mut [u8], count: usize) -> State
 // A telegram after a gap, then Ticks.
 pub fn take_turn(state: State, memory: &mut [u8], telegram: &[u8], count: usize) -> State
     requires { ⌜ Safe state (now memory) ⌝ }
-    ensures { λ r. ⌜ Steps (run state (now (memory .entry)) (turn (now (telegram .entry)) count)) r (now (memory .exit)) ⌝ }
+    ensures { λ r. ⌜ Steps (runBeats state (now (memory .entry)) (turn (now (telegram .entry)) count)) r (now (memory .exit)) ⌝ }
 {
     let paused = pause(state, memory);
     let listened = listen(paused, memory, telegram);

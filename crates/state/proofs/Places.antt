@@ -10,7 +10,7 @@ use lib.Dec.{ltb}
 use borrow.Author.Tests.{ltb-true, ltb-false}
 use Rattle.octets.proofs.Parts.{places-apart}
 use Rattle.state.specs.declared.setup.Setup.{Setup}
-use Rattle.state.specs.Layout.{stateLength, roundedUp, counts, countOf, lengthOf, getCfg, baseOf, startOf, getCfgAt, endOf}
+use Rattle.state.specs.Layout.{stateLength, roundedUp, bufferCounts, countOf, lengthOf, getCfg, baseOf, startOf, getCfgAt, endOf}
 
 -- a length is at most what it is rounded up to
 pub rounded-le : (n : ℕ) → n ≤ roundedUp n
@@ -36,14 +36,14 @@ ends s a i n h g =
     omega arith
 
 -- a kind that has buffers is one of those in the order
-known : (a i : ℕ) → i < countOf a → a < length counts
-known a i h = go (ltb a (length counts)) refl
+known : (a i : ℕ) → i < countOf a → a < length bufferCounts
+known a i h = go (ltb a (length bufferCounts)) refl
   where
-    go : (t : Bool) → ltb a (length counts) ≡ t → a < length counts
-    go true e = ltb-true a (length counts) e
+    go : (t : Bool) → ltb a (length bufferCounts) ≡ t → a < length bufferCounts
+    go true e = ltb-true a (length bufferCounts) e
     go false e =
-        let u : length counts ≤ a = ltb-false a (length counts) e in
-        let z = List·getD-eq-default counts 0 u in
+        let u : length bufferCounts ≤ a = ltb-false a (length bufferCounts) e in
+        let z = List·getD-eq-default bufferCounts 0 u in
         omega arith
 
 -- the first buffer begins behind the state
@@ -70,7 +70,7 @@ pub inside : (s : Setup) (a i n : ℕ) → i < countOf a → n ≤ lengthOf s a 
 unfolding startOf
 inside s a i n h g =
     let u = behind s a in
-    (omega arith, in-front s a (length counts) i n (known a i h) h g)
+    (omega arith, in-front s a (length bufferCounts) i n (known a i h) h g)
 
 -- the one for Get_Cfg
 pub get-cfg-inside : (s : Setup) (n : ℕ) → n ≤ s .«get_cfg_len» → (stateLength ≤ getCfgAt s) × (getCfgAt s + n ≤ endOf s)
@@ -127,9 +127,9 @@ unfolding roundedUp
 rounded-small n h = omega arith
 
 -- every kind begins far below what a number of the code can hold
-pub base-small : (s : Setup) (a : ℕ) → Octets s → a ≤ length counts → baseOf s a ≤ 65536
+pub base-small : (s : Setup) (a : ℕ) → Octets s → a ≤ length bufferCounts → baseOf s a ≤ 65536
 unfolding baseOf startOf
-base-small s a o h = go (ltb a (length counts)) refl
+base-small s a o h = go (ltb a (length bufferCounts)) refl
   where
     whole : endOf s ≤ 65536
     whole =
@@ -141,11 +141,11 @@ base-small s a o h = go (ltb a (length counts)) refl
         let u₅ = rounded-small _ (o .get-cfg-octet) in
         omega arith
 
-    go : (t : Bool) → ltb a (length counts) ≡ t → baseOf s a ≤ 65536
-    go true e = let u = before s a (length counts) (ltb-true a (length counts) e) in let w = whole in omega arith
+    go : (t : Bool) → ltb a (length bufferCounts) ≡ t → baseOf s a ≤ 65536
+    go true e = let u = before s a (length bufferCounts) (ltb-true a (length bufferCounts) e) in let w = whole in omega arith
     go false e =
-        let u : length counts ≤ a = ltb-false a (length counts) e in
-        let v : a ≡ length counts = omega arith in
+        let u : length bufferCounts ≤ a = ltb-false a (length bufferCounts) e in
+        let v : a ≡ length bufferCounts = omega arith in
         rw v whole
 
 -- ---- the three sums

@@ -212,8 +212,8 @@ module _ (s : State) (h : Sound s) (r : List ℕ) where
   image-well = λ i. all (setup-well i ∷ cases-well i ∷ roles-well i ∷ sets-well i ∷ diagnosis-well i ∷ true ∷ [])
 
 -- a memory whose first octets are the image of a sound state passes the tests
-pub taken-well : (m : List ℕ) (s : State) → Sound s → image s ≡ take stateLength m → wellImage m ≡ true
-taken-well m s h e =
+pub front-well : (m : List ℕ) (s : State) → Sound s → image s ≡ take stateLength m → wellImage m ≡ true
+front-well m s h e =
     let rest = drop stateLength m in
     subst (λ (l : List ℕ). wellImage l ≡ true) (ap (λ (l : List ℕ). l ++ rest) e ∙ take-append-drop stateLength m) (image-well s h rest)
 

@@ -32,12 +32,12 @@ abbrev pub getCfg : ℕ
 getCfg = 5
 
 -- "three output buffers, three input, three parameter, three configuration, two diagnosis, one Get_Cfg"
-abbrev pub counts : List ℕ
-counts = 3 ∷ 3 ∷ 3 ∷ 3 ∷ 2 ∷ 1 ∷ []
+abbrev pub bufferCounts : List ℕ
+bufferCounts = 3 ∷ 3 ∷ 3 ∷ 3 ∷ 2 ∷ 1 ∷ []
 
 -- how many buffers there are of a kind
 abbrev pub countOf : ℕ → ℕ
-countOf kind = getD counts kind 0
+countOf kind = getD bufferCounts kind 0
 
 -- how long a buffer of a kind is
 abbrev pub lengthOf : Setup → ℕ → ℕ
@@ -80,4 +80,4 @@ getCfgAt s = baseOf s getCfg
 
 -- where the last one ends
 abbrev pub endOf : Setup → ℕ
-endOf s = baseOf s (length counts)
+endOf s = baseOf s (length bufferCounts)

@@ -14,7 +14,7 @@ use Rattle.telegram.specs.declared.Datum.the-variants.{Number, Nothing}
 use Rattle.telegram.specs.declared.reader.Reader.{Reader}
 use Rattle.telegram.specs.declared.reader.Status.{Status}
 use Rattle.telegram.specs.declared.reader.Status.the-variants.{Fresh, Inside, Complete, Broken}
-use Rattle.telegram.specs.Reading.{step, readerAfter, status, takesData, datumOf}
+use Rattle.telegram.specs.Reading.{readerStep, readerAfter, status, takesData, datumOf}
 use Rattle.telegram.proofs.Run.{no-true}
 use Rattle.state.specs.declared.state.Incoming.{Incoming}
 use Rattle.state.specs.declared.state.State.{State}
@@ -56,10 +56,10 @@ module _ (s : State) (m : List ℕ) (b : ℕ) where
       ∙ (λ i. cond (isInside (e i)) (storedAs (datumOf old) s m next b) (settle (beginning s next) m))
 
   -- data
-  heard-data : takesData old ≡ true → heard s m b false ≡ storedAs (Number (old .at)) s m (step old b) b
+  heard-data : takesData old ≡ true → heard s m b false ≡ storedAs (Number (old .at)) s m (readerStep old b) b
   heard-data e =
       heard-inner false (data-inside old b e) (data-goes-on old b e)
-      ∙ (λ i. storedAs (cond (e i) (Number (old .at)) Nothing) s m (step old b) b)
+      ∙ (λ i. storedAs (cond (e i) (Number (old .at)) Nothing) s m (readerStep old b) b)
 
   -- no data
   heard-plain : (bad : Bool) → isPlain old (readerAfter old b bad) ≡ true
@@ -140,7 +140,7 @@ module _ (m : List ℕ) (s : State) (h : Holds m s) where
       → let r = s .incoming .reader in
       let n = storedData s m (r .at) b in
       kept
-      (withData (unpacked n) (step r b .at) (step r b .sum) (cond (eqb (r .at) 0) b (s .incoming .first))
+      (withData (unpacked n) (readerStep r b .at) (readerStep r b .sum) (cond (eqb (r .at) 0) b (s .incoming .first))
       (cond (eqb (r .at) 1) b (s .incoming .second)))
       n
       ≡ packedAfter (heard s m b false)
@@ -149,7 +149,7 @@ module _ (m : List ℕ) (s : State) (h : Holds m s) where
       let n = storedData s m (r .at) b in
       let first = cond (eqb (r .at) 0) b (s .incoming .first) in
       let second = cond (eqb (r .at) 1) b (s .incoming .second) in
-      ap (λ (x : State). kept (withData x (step r b .at) (step r b .sum) first second) n)
+      ap (λ (x : State). kept (withData x (readerStep r b .at) (readerStep r b .sum) first second) n)
       (holds-unpacked n s (storing-holds (r .at) b))
       ∙ (λ i. kept (withIncoming s (record { reader = data-changes r b e i; first = first; second = second })) n)
       ∙ sym (ap packedAfter (heard-data s m b e))
@@ -165,13 +165,13 @@ module _ (m : List ℕ) (s : State) (h : Holds m s) where
 
   module _ (b : ℕ) (i : Incoming) (same : i ≡ s .incoming) where
     pub leaves-data : takesData (s .incoming .reader) ≡ true → (n : List ℕ) (x : Reader) (j : Incoming) (out : List ℕ)
-        → n ≡ storedData s m (i .reader .at) b → x ≡ step (i .reader) b → j ≡ keptOctets i x (i .reader .at) b
+        → n ≡ storedData s m (i .reader .at) b → x ≡ readerStep (i .reader) b → j ≡ keptOctets i x (i .reader .at) b
         → out ≡ kept (withData (unpacked n) (j .reader .at) (j .reader .sum) (j .first) (j .second)) n
         → out ≡ packedAfter (heard s m b false)
     leaves-data e n x j out en ex ej k =
         let stored : n ≡ storedData s m (s .incoming .reader .at) b = en ∙ (λ t. storedData s m (same t .reader .at) b) in
-        let read : x ≡ step (s .incoming .reader) b = ex ∙ (λ t. step (same t .reader) b) in
-        let put : j ≡ keptOctets (s .incoming) (step (s .incoming .reader) b) (s .incoming .reader .at) b =
+        let read : x ≡ readerStep (s .incoming .reader) b = ex ∙ (λ t. readerStep (same t .reader) b) in
+        let put : j ≡ keptOctets (s .incoming) (readerStep (s .incoming .reader) b) (s .incoming .reader .at) b =
         ej ∙ (λ t. keptOctets (same t) (read t) (same t .reader .at) b)
         in
         k

@@ -11,7 +11,7 @@ use Rattle.telegram.specs.declared.reader.Phase.the-variants.{Start, Le,
 use Rattle.telegram.specs.declared.reader.Reader.{Reader}
 use Rattle.telegram.specs.declared.reader.Status.{Status}
 use Rattle.telegram.specs.declared.reader.Status.the-variants.{Fresh, Inside, Complete, Broken}
-use Rattle.telegram.specs.Reading.{rd, before, moved, off, okAt, nextAt, afterSa, step, runFrom, run, status, statusAt}
+use Rattle.telegram.specs.Reading.{rd, before, moved, off, okAt, nextAt, afterSa, readerStep, runFrom, run, status, statusAt}
 use Rattle.telegram.proofs.Run.{no-true}
 
 abbrev isFresh : Status → Bool
@@ -57,8 +57,8 @@ next-on End r b = refl
 next-on Done r b = refl
 next-on Off r b = refl
 
-step-on : (r : Reader) (b : ℕ) → isFresh (status (step r b)) ≡ false
-unfolding step
+step-on : (r : Reader) (b : ℕ) → isFresh (status (readerStep r b)) ≡ false
+unfolding readerStep
 step-on r b = go (okAt (r .phase) r b)
   where
     go : (c : Bool) → isFresh (status (cond c (nextAt (r .phase) r b) off)) ≡ false
@@ -67,7 +67,7 @@ step-on r b = go (okAt (r .phase) r b)
 
 run-on : (r : Reader) (x : ℕ) (xs : List ℕ) → isFresh (status (runFrom r (x ∷ xs))) ≡ false
 run-on r x [] = step-on r x
-run-on r x (y ∷ ys) = run-on (step r x) y ys
+run-on r x (y ∷ ys) = run-on (readerStep r x) y ys
 
 pub begun : (xs : List ℕ) → status (run xs) ≡ Fresh → xs ≡ []
 begun [] e = refl

@@ -14,7 +14,7 @@ use Rattle.telegram.specs.declared.reader.Reader.{Reader}
 use Rattle.telegram.specs.declared.reader.Status.{Status}
 use Rattle.telegram.specs.declared.reader.Status.the-variants.{Fresh, Inside, Complete, Broken}
 use Rattle.telegram.specs.Telegram.{Octets}
-use Rattle.telegram.specs.Reading.{rd, before, moved, off, okAt, nextAt, afterSa, counted, step, runFrom, status, statusAt}
+use Rattle.telegram.specs.Reading.{rd, before, moved, off, okAt, nextAt, afterSa, counted, readerStep, runFrom, status, statusAt}
 use Rattle.telegram.proofs.Run.{no-true, on, goes}
 
 -- what a reader never leaves: its length octet and its check octet are octets
@@ -158,8 +158,8 @@ small-next End r b m e = omega arith
 small-next Done r b m e = omega arith
 small-next Off r b m e = omega arith
 
-small-step : (r : Reader) (b : ℕ) → Small r → Small (step r b)
-unfolding step
+small-step : (r : Reader) (b : ℕ) → Small r → Small (readerStep r b)
+unfolding readerStep
 small-step r b m = go (okAt (r .phase) r b) refl
   where
     go : (c : Bool) → okAt (r .phase) r b ≡ c → Small (cond c (nextAt (r .phase) r b) off)
@@ -168,4 +168,4 @@ small-step r b m = go (okAt (r .phase) r b) refl
 
 pub small-run : (r : Reader) (xs : List ℕ) → Small r → Small (runFrom r xs)
 small-run r [] m = m
-small-run r (x ∷ xs) m = small-run (step r x) xs (small-step r x m)
+small-run r (x ∷ xs) m = small-run (readerStep r x) xs (small-step r x m)

@@ -14,7 +14,7 @@ use Rattle.telegram.specs.declared.reader.Reader.{Reader}
 use Rattle.telegram.specs.declared.reader.Status.{Status}
 use Rattle.telegram.specs.declared.reader.Status.the-variants.{Fresh, Inside, Complete, Broken}
 use Rattle.telegram.specs.Telegram.{Telegram, sd1, sd2, sd3, sd4, octetsOf, payloadOf, Addresses, Valid, IsTelegram, Octets}
-use Rattle.telegram.specs.Reading.{off, start, okAt, step, runFrom, run, status, statusAt, gathered, finished, telegramOf}
+use Rattle.telegram.specs.Reading.{off, start, okAt, readerStep, runFrom, run, status, statusAt, gathered, finished, telegramOf}
 use Rattle.telegram.specs.Framing.{Continues, Framing}
 use Rattle.telegram.proofs.Run.{no-true, broken-complete, on, off-stays, run-append}
 use Rattle.telegram.proofs.Accepts.{accepted}
@@ -39,8 +39,8 @@ no-more End r b h = no-true (sym h)
 no-more Done r b h = refl
 no-more Off r b h = refl
 
-pub shut : (r : Reader) (b : ℕ) → goesOn (status r) ≡ false → step r b ≡ off
-unfolding step
+pub shut : (r : Reader) (b : ℕ) → goesOn (status r) ≡ false → readerStep r b ≡ off
+unfolding readerStep
 shut r b h = rw (no-more (r .phase) r b h)
 
 finished-complete : (t : Telegram) → status (finished t) ≡ Complete

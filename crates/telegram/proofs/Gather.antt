@@ -13,17 +13,17 @@ use Rattle.telegram.specs.declared.reader.Phase.{Phase}
 use Rattle.telegram.specs.declared.reader.Phase.the-variants.{Start, Le, LeAgain, SdAgain, Da, Sa, Fc, Dsap, Ssap, Body, End, Done, Off}
 use Rattle.telegram.specs.declared.reader.Reader.{Reader}
 use Rattle.telegram.specs.declared.reader.Status.the-variants.{Inside, Broken}
-use Rattle.telegram.specs.Reading.{rd, before, moved, off, start, okAt, nextAt, step, runFrom, run, status, statusAt, inBody, takesData, gathered}
+use Rattle.telegram.specs.Reading.{rd, before, moved, off, start, okAt, nextAt, readerStep, runFrom, run, status, statusAt, inBody, takesData, gathered}
 use Rattle.telegram.proofs.Run.{no-true, off-stays}
 use Rattle.telegram.proofs.Continues.{small-run}
 
 pub gather-append : (r : Reader) (xs ys : List ℕ) → gathered r (xs ++ ys) ≡ gathered r xs ++ gathered (runFrom r xs) ys
 gather-append r [] ys = refl
-gather-append r (x ∷ xs) ys = go (takesData r) (gather-append (step r x) xs ys)
+gather-append r (x ∷ xs) ys = go (takesData r) (gather-append (readerStep r x) xs ys)
   where
-    go : (c : Bool) → gathered (step r x) (xs ++ ys) ≡ gathered (step r x) xs ++ gathered (runFrom (step r x) xs) ys
-        → cond c (x ∷ gathered (step r x) (xs ++ ys)) (gathered (step r x) (xs ++ ys))
-        ≡ cond c (x ∷ gathered (step r x) xs) (gathered (step r x) xs) ++ gathered (runFrom (step r x) xs) ys
+    go : (c : Bool) → gathered (readerStep r x) (xs ++ ys) ≡ gathered (readerStep r x) xs ++ gathered (runFrom (readerStep r x) xs) ys
+        → cond c (x ∷ gathered (readerStep r x) (xs ++ ys)) (gathered (readerStep r x) (xs ++ ys))
+        ≡ cond c (x ∷ gathered (readerStep r x) xs) (gathered (readerStep r x) xs) ++ gathered (runFrom (readerStep r x) xs) ys
     go true e = ap (λ (l : List ℕ). x ∷ l) e
     go false e = e
 
@@ -108,9 +108,9 @@ length-cond false x l = omega arith
 
 counts-from : (r : Reader) (xs : List ℕ) → None r → ¬ (status (runFrom r xs) ≡ Broken)
     → (runFrom r xs) .at ≡ r .at + length (gathered r xs)
-unfolding step
+unfolding readerStep
 counts-from r [] f n = sym (add-zero (r .at))
-counts-from r (x ∷ xs) f n = go (okAt (r .phase) r x) refl n (counts-from (step r x) xs)
+counts-from r (x ∷ xs) f n = go (okAt (r .phase) r x) refl n (counts-from (readerStep r x) xs)
   where
     go : (c : Bool) → okAt (r .phase) r x ≡ c
         → ¬ (status (runFrom (cond c (nextAt (r .phase) r x) off) xs) ≡ Broken)

@@ -8,7 +8,7 @@ use Rattle.telegram.specs.declared.reader.Phase.{Phase}
 use Rattle.telegram.specs.declared.reader.Phase.the-variants.{Start, Le, LeAgain, SdAgain, Da, Sa, Fc, Dsap, Ssap, Body, End, Done, Off}
 use Rattle.telegram.specs.declared.reader.Reader.{Reader}
 use Rattle.telegram.specs.declared.reader.Status.the-variants.{Inside, Broken}
-use Rattle.telegram.specs.Reading.{rd, moved, off, start, okAt, nextAt, step, runFrom, run, statusAt, status, inBody, takesData, gathered}
+use Rattle.telegram.specs.Reading.{rd, moved, off, start, okAt, nextAt, readerStep, runFrom, run, statusAt, status, inBody, takesData, gathered}
 use Rattle.telegram.proofs.Run.{no-true}
 
 -- before the data
@@ -54,8 +54,8 @@ next-onward Done r b h o = no-true o
 next-onward Off r b h o = no-true o
 
 -- a step from behind the header, unless it breaks off
-pub step-onward : (r : Reader) (b : ℕ) → inHead (r .phase) ≡ false → ¬ (status (step r b) ≡ Broken) → Onward r (step r b)
-unfolding step
+pub step-onward : (r : Reader) (b : ℕ) → inHead (r .phase) ≡ false → ¬ (status (readerStep r b) ≡ Broken) → Onward r (readerStep r b)
+unfolding readerStep
 step-onward r b h = go (okAt (r .phase) r b) refl
   where
     go : (c : Bool) → okAt (r .phase) r b ≡ c → ¬ (status (cond c (nextAt (r .phase) r b) off) ≡ Broken)
@@ -64,8 +64,8 @@ step-onward r b h = go (okAt (r .phase) r b) refl
     go false e n = absurd (n refl)
 
 -- behind the header no step leads back
-never-back : (r : Reader) (b : ℕ) → inHead (r .phase) ≡ false → inHead ((step r b) .phase) ≡ false
-unfolding step
+never-back : (r : Reader) (b : ℕ) → inHead (r .phase) ≡ false → inHead ((readerStep r b) .phase) ≡ false
+unfolding readerStep
 never-back r b h = go (okAt (r .phase) r b) refl
   where
     go : (c : Bool) → okAt (r .phase) r b ≡ c → inHead ((cond c (nextAt (r .phase) r b) off) .phase) ≡ false
@@ -74,7 +74,7 @@ never-back r b h = go (okAt (r .phase) r b) refl
 
 stays-behind : (r : Reader) (xs : List ℕ) → inHead (r .phase) ≡ false → inHead ((runFrom r xs) .phase) ≡ false
 stays-behind r [] h = h
-stays-behind r (x ∷ xs) h = stays-behind (step r x) xs (never-back r x h)
+stays-behind r (x ∷ xs) h = stays-behind (readerStep r x) xs (never-back r x h)
 
 -- in the header no data comes
 head-takes : (p : Phase) (c : Bool) → inHead p ≡ true → inBody p && c ≡ false
@@ -95,11 +95,11 @@ head-takes Off c h = no-true h
 -- and nothing was gathered
 none-from : (r : Reader) (xs : List ℕ) → inHead ((runFrom r xs) .phase) ≡ true → gathered r xs ≡ []
 none-from r [] h = refl
-none-from r (x ∷ xs) h = go (inHead (r .phase)) refl (none-from (step r x) xs h)
+none-from r (x ∷ xs) h = go (inHead (r .phase)) refl (none-from (readerStep r x) xs h)
   where
-    go : (c : Bool) → inHead (r .phase) ≡ c → gathered (step r x) xs ≡ [] → gathered r (x ∷ xs) ≡ []
+    go : (c : Bool) → inHead (r .phase) ≡ c → gathered (readerStep r x) xs ≡ [] → gathered r (x ∷ xs) ≡ []
     go true e ih = rw (head-takes (r .phase) (ltb (r .at) (r .count)) e) ih
-    go false e ih = no-true (sym (stays-behind (step r x) xs (never-back r x e)) ∙ h)
+    go false e ih = no-true (sym (stays-behind (readerStep r x) xs (never-back r x e)) ∙ h)
 
 pub none-gathered : (xs : List ℕ) → inHead ((run xs) .phase) ≡ true → gathered start xs ≡ []
 none-gathered xs h = none-from start xs h
@@ -131,8 +131,8 @@ module _ (r : Reader) (b : ℕ) (e : takesData r ≡ true) where
       go Done c e = no-true e
       go Off c e = no-true e
 
-  pub data-goes-on : status (step r b) ≡ Inside
-  unfolding step
+  pub data-goes-on : status (readerStep r b) ≡ Inside
+  unfolding readerStep
   data-goes-on = go (r .phase) (ltb (r .at) (r .count)) refl e
     where
       go : (p : Phase) (c : Bool) → ltb (r .at) (r .count) ≡ c → inBody p && c ≡ true → status (cond (okAt p r b) (nextAt p r b) off) ≡ Inside
@@ -152,8 +152,8 @@ module _ (r : Reader) (b : ℕ) (e : takesData r ≡ true) where
       go Off c f e = no-true e
 
   -- it changes how many were read and the checksum, and nothing else of the reader
-  pub data-changes : rd (r .phase) (r .kind) (r .count) (step r b .at) (r .da) (r .sa) (r .fc) (r .dsap) (r .ssap) (step r b .sum) ≡ step r b
-  unfolding step
+  pub data-changes : rd (r .phase) (r .kind) (r .count) (readerStep r b .at) (r .da) (r .sa) (r .fc) (r .dsap) (r .ssap) (readerStep r b .sum) ≡ readerStep r b
+  unfolding readerStep
   data-changes = go (r .phase) (ltb (r .at) (r .count)) refl e
     where
       after : Phase → Reader

@@ -16,67 +16,67 @@ use Rattle.telegram.specs.declared.reader.Phase.the-variants.{Le, LeAgai
 use Rattle.telegram.specs.declared.reader.Reader.{Reader}
 use Rattle.telegram.specs.Checksum.{total, checksum}
 use Rattle.telegram.specs.Telegram.{Telegram, sd1, sd2, sd3, sd4, octetsOf, payloadOf, Addresses, Valid}
-use Rattle.telegram.specs.Reading.{rd, before, start, afterSa, counted, step, runFrom, run, takesData, gathered, finished}
+use Rattle.telegram.specs.Reading.{rd, before, start, afterSa, counted, readerStep, runFrom, run, takesData, gathered, finished}
 use Rattle.telegram.proofs.Run.{on, run-append}
 
 -- ---------------------------------------------------------------------------------------------------
 -- A step at each phase of a telegram.
 
-pub step-start : (step start 0x10 ≡ before Da Sd1 0) × (step start 0xA2 ≡ before Da Sd3 8)
-    × (step start 0xDC ≡ before Da Sd4 0) × (step start 0x68 ≡ before Le Sd2 0)
-unfolding step
+pub step-start : (readerStep start 0x10 ≡ before Da Sd1 0) × (readerStep start 0xA2 ≡ before Da Sd3 8)
+    × (readerStep start 0xDC ≡ before Da Sd4 0) × (readerStep start 0x68 ≡ before Le Sd2 0)
+unfolding readerStep
 step-start = (refl, refl, refl, refl)
 
-step-le : (n : ℕ) → 4 ≤ n + 3 → n + 3 ≤ 249 → step (before Le Sd2 0) (n + 3) ≡ before LeAgain Sd2 n
-unfolding step
+step-le : (n : ℕ) → 4 ≤ n + 3 → n + 3 ≤ 249 → readerStep (before Le Sd2 0) (n + 3) ≡ before LeAgain Sd2 n
+unfolding readerStep
 step-le n l u =
     let e : n + 3 - 3 ≡ n = omega arith in
     rw (le-leb 4 (n + 3) l, le-leb (n + 3) 249 u, e)
 
-step-again : (n : ℕ) → step (before LeAgain Sd2 n) (n + 3) ≡ before SdAgain Sd2 n
-unfolding step
+step-again : (n : ℕ) → readerStep (before LeAgain Sd2 n) (n + 3) ≡ before SdAgain Sd2 n
+unfolding readerStep
 step-again n = rw (eq-eqb (n + 3) (n + 3) refl)
 
-step-sd : (n : ℕ) → step (before SdAgain Sd2 n) 0x68 ≡ before Da Sd2 n
-unfolding step
+step-sd : (n : ℕ) → readerStep (before SdAgain Sd2 n) 0x68 ≡ before Da Sd2 n
+unfolding readerStep
 step-sd n = refl
 
 module _ (k : Kind) where
-  pub step-da : (n da sa : ℕ) → Addresses n da sa → step (before Da k n) da ≡ rd Sa k (counted da n) 0 da 0 0 0 0 ((0 + da) % 256)
-  unfolding step
+  pub step-da : (n da sa : ℕ) → Addresses n da sa → readerStep (before Da k n) da ≡ rd Sa k (counted da n) 0 da 0 0 0 0 ((0 + da) % 256)
+  unfolding readerStep
   step-da n da sa (inl a) = rw (lt-leb 128 da (a .0))
   step-da n da sa (inr a) = rw (le-leb 128 da (a .0), le-leb 2 n (a .2))
 
   pub step-sa : (n m da sa s : ℕ) → Addresses n da sa
-      → step (rd Sa k m 0 da 0 0 0 0 s) sa ≡ rd (afterSa k) k m 0 da sa 0 0 0 ((s + sa) % 256)
-  unfolding step
+      → readerStep (rd Sa k m 0 da 0 0 0 0 s) sa ≡ rd (afterSa k) k m 0 da sa 0 0 0 ((s + sa) % 256)
+  unfolding readerStep
   step-sa n m da sa s (inl a) = rw (lt-leb 128 da (a .0), lt-leb 128 sa (a .1))
   step-sa n m da sa s (inr a) = rw (le-leb 128 da (a .0), le-leb 128 sa (a .1))
 
   step-fc : (n da sa s b : ℕ) (c : Bool) → leb 128 da ≡ c
-      → step (rd Fc k n 0 da sa 0 0 0 s) b ≡ rd (cond c Dsap Body) k n 0 da sa b 0 0 ((s + b) % 256)
-  unfolding step
+      → readerStep (rd Fc k n 0 da sa 0 0 0 s) b ≡ rd (cond c Dsap Body) k n 0 da sa b 0 0 ((s + b) % 256)
+  unfolding readerStep
   step-fc n da sa s b c e = rw e
 
-  pub step-dsap : (n da sa fc s b : ℕ) → step (rd Dsap k n 0 da sa fc 0 0 s) b ≡ rd Ssap k n 0 da sa fc b 0 ((s + b) % 256)
-  unfolding step
+  pub step-dsap : (n da sa fc s b : ℕ) → readerStep (rd Dsap k n 0 da sa fc 0 0 s) b ≡ rd Ssap k n 0 da sa fc b 0 ((s + b) % 256)
+  unfolding readerStep
   step-dsap n da sa fc s b = refl
 
-  step-ssap : (n da sa fc dp s b : ℕ) → step (rd Ssap k n 0 da sa fc dp 0 s) b ≡ rd Body k n 0 da sa fc dp b ((s + b) % 256)
-  unfolding step
+  step-ssap : (n da sa fc dp s b : ℕ) → readerStep (rd Ssap k n 0 da sa fc dp 0 s) b ≡ rd Body k n 0 da sa fc dp b ((s + b) % 256)
+  unfolding readerStep
   step-ssap n da sa fc dp s b = refl
 
   step-data : (n i da sa fc dp sp s b : ℕ) → i < n
-      → step (rd Body k n i da sa fc dp sp s) b ≡ rd Body k n (i + 1) da sa fc dp sp ((s + b) % 256)
-  unfolding step
+      → readerStep (rd Body k n i da sa fc dp sp s) b ≡ rd Body k n (i + 1) da sa fc dp sp ((s + b) % 256)
+  unfolding readerStep
   step-data n i da sa fc dp sp s b h = rw (lt-ltb i n h)
 
-  step-check : (n i da sa fc dp sp s : ℕ) → n ≤ i → step (rd Body k n i da sa fc dp sp s) s ≡ rd End k n i da sa fc dp sp s
-  unfolding step
+  step-check : (n i da sa fc dp sp s : ℕ) → n ≤ i → readerStep (rd Body k n i da sa fc dp sp s) s ≡ rd End k n i da sa fc dp sp s
+  unfolding readerStep
   step-check n i da sa fc dp sp s h = rw (le-ltb i n h, eq-eqb s s refl)
 
-  step-end : (n i da sa fc dp sp s : ℕ) → step (rd End k n i da sa fc dp sp s) 0x16 ≡ rd Done k n i da sa fc dp sp s
-  unfolding step
+  step-end : (n i da sa fc dp sp s : ℕ) → readerStep (rd End k n i da sa fc dp sp s) 0x16 ≡ rd Done k n i da sa fc dp sp s
+  unfolding readerStep
   step-end n i da sa fc dp sp s = refl
 
 -- ---------------------------------------------------------------------------------------------------
@@ -123,8 +123,8 @@ sum5 : (t x y : ℕ) → ((t % 256 + x) % 256 + y) % 256 ≡ (t + x + y) % 256
 sum5 t x y = rw (mod-add-mod t 256 x, mod-add-mod (t + x) 256 y)
 
 module _ {A : Type 0} (F : Reader → List ℕ → A)
-    (skip : (r : Reader) (b : ℕ) (ys : List ℕ) → takesData r ≡ false → F r (b ∷ ys) ≡ F (step r b) ys) where
-  via : (r q : Reader) (b : ℕ) (ys : List ℕ) → takesData r ≡ false → step r b ≡ q → F r (b ∷ ys) ≡ F q ys
+    (skip : (r : Reader) (b : ℕ) (ys : List ℕ) → takesData r ≡ false → F r (b ∷ ys) ≡ F (readerStep r b) ys) where
+  via : (r q : Reader) (b : ℕ) (ys : List ℕ) → takesData r ≡ false → readerStep r b ≡ q → F r (b ∷ ys) ≡ F q ys
   via r q b ys t e = skip r b ys t ∙ ap (λ (x : Reader). F x ys) e
 
   pub head2 : (n : ℕ) (ys : List ℕ) → 4 ≤ n + 3 → n + 3 ≤ 249
@@ -149,10 +149,10 @@ module _ {A : Type 0} (F : Reader → List ℕ → A)
       via _ _ x _ refl (step-dsap k n da sa fc (t % 256) x)
       ∙ via _ _ y _ refl (step-ssap k n da sa fc x ((t % 256 + x) % 256) y ∙ ap (λ (s : ℕ). rd Body k n 0 da sa fc x y s) (sum5 t x y))
 
-pub run-skip : (r : Reader) (b : ℕ) (ys : List ℕ) → takesData r ≡ false → runFrom r (b ∷ ys) ≡ runFrom (step r b) ys
+pub run-skip : (r : Reader) (b : ℕ) (ys : List ℕ) → takesData r ≡ false → runFrom r (b ∷ ys) ≡ runFrom (readerStep r b) ys
 run-skip r b ys t = refl
 
-gather-skip : (r : Reader) (b : ℕ) (ys : List ℕ) → takesData r ≡ false → gathered r (b ∷ ys) ≡ gathered (step r b) ys
+gather-skip : (r : Reader) (b : ℕ) (ys : List ℕ) → takesData r ≡ false → gathered r (b ∷ ys) ≡ gathered (readerStep r b) ys
 gather-skip r b ys t = rw t
 
 -- ---------------------------------------------------------------------------------------------------

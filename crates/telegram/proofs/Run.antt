@@ -6,7 +6,7 @@ use mathlib.Core.List.{List, [], _∷_, _++_}
 use mathlib.Core.Bool.{Bool, true, false, cond}
 use Rattle.telegram.specs.declared.reader.Reader.{Reader}
 use Rattle.telegram.specs.declared.reader.Status.the-variants.{Fresh, Inside, Complete, Broken}
-use Rattle.telegram.specs.Reading.{start, off, okAt, nextAt, step, runFrom, run, status}
+use Rattle.telegram.specs.Reading.{start, off, okAt, nextAt, readerStep, runFrom, run, status}
 
 -- a test that failed did not pass
 pub no-true : {A : Type 0} → false ≡ true → A
@@ -28,15 +28,15 @@ on ys e = ap (λ (r : Reader). runFrom r ys) e
 
 pub run-append : (r : Reader) (xs ys : List ℕ) → runFrom r (xs ++ ys) ≡ runFrom (runFrom r xs) ys
 run-append r [] ys = refl
-run-append r (x ∷ xs) ys = run-append (step r x) xs ys
+run-append r (x ∷ xs) ys = run-append (readerStep r x) xs ys
 
 -- one octet more
-pub run-snoc : (xs : List ℕ) (b : ℕ) → run (xs ++ b ∷ []) ≡ step (run xs) b
+pub run-snoc : (xs : List ℕ) (b : ℕ) → run (xs ++ b ∷ []) ≡ readerStep (run xs) b
 run-snoc xs b = run-append start xs (b ∷ [])
 
 -- broken off stays so
-step-off : (b : ℕ) → step off b ≡ off
-unfolding step
+step-off : (b : ℕ) → readerStep off b ≡ off
+unfolding readerStep
 step-off b = refl
 
 pub off-stays : (ys : List ℕ) → runFrom off ys ≡ off
@@ -44,14 +44,14 @@ off-stays [] = refl
 off-stays (y ∷ ys) = rw (step-off y) (off-stays ys)
 
 -- the octet may come: the step leads on
-pub goes : (r : Reader) (b : ℕ) → okAt (r .phase) r b ≡ true → step r b ≡ nextAt (r .phase) r b
-unfolding step
+pub goes : (r : Reader) (b : ℕ) → okAt (r .phase) r b ≡ true → readerStep r b ≡ nextAt (r .phase) r b
+unfolding readerStep
 goes r b h = rw h
 
 -- after an octet a reader completes only if the octet may come, from where the octet leads
-pub passed : (r : Reader) (b : ℕ) (ys : List ℕ) → status (runFrom (step r b) ys) ≡ Complete
+pub passed : (r : Reader) (b : ℕ) (ys : List ℕ) → status (runFrom (readerStep r b) ys) ≡ Complete
     → (okAt (r .phase) r b ≡ true) × (status (runFrom (nextAt (r .phase) r b) ys) ≡ Complete)
-unfolding step
+unfolding readerStep
 passed r b ys = go (okAt (r .phase) r b)
   where
     go : (t : Bool) → status (runFrom (cond t (nextAt (r .phase) r b) off) ys) ≡ Complete

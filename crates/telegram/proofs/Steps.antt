@@ -10,7 +10,7 @@ use Rattle.telegram.specs.declared.Datum.the-variants.{Number, Nothing}
 use Rattle.telegram.specs.declared.reader.Phase.{Phase}
 use Rattle.telegram.specs.declared.reader.Phase.the-variants.{Start, Le, LeAgain, SdAgain, Da, Sa, Fc, Dsap, Ssap, Body, End, Done, Off}
 use Rattle.telegram.specs.declared.reader.Reader.{Reader}
-use Rattle.telegram.specs.Reading.{rd, before, moved, off, nextAt, afterFc, stepAt, step, inBody, takesData, datumOf}
+use Rattle.telegram.specs.Reading.{rd, before, moved, off, nextAt, afterFc, stepAt, readerStep, inBody, takesData, datumOf}
 use Rattle.telegram.proofs.Run.{no-true}
 
 module _ (r : Reader) (b : ℕ) where
@@ -136,8 +136,8 @@ module _ (r : Reader) (b : ℕ) where
   off-off = refl
 
   -- a step is that of the reader's phase
-  pub at-phase : (p : Phase) → r .phase ≡ p → stepAt p r b ≡ step r b
-  unfolding step
+  pub at-phase : (p : Phase) → r .phase ≡ p → stepAt p r b ≡ readerStep r b
+  unfolding readerStep
   at-phase p e = rw e
 
 pub fc-plain : (da : ℕ) → da < 128 → Body ≡ afterFc da
@@ -174,6 +174,6 @@ module _ (r : Reader) (e : takesData r ≡ true) where
   pub data-room : r .at < r .count
   data-room = ltb-true (r .at) (r .count) (in-body (r .phase) (ltb (r .at) (r .count)) e .1)
 
-  pub data-step : (b : ℕ) → rd Body (r .kind) (r .count) (r .at + 1) (r .da) (r .sa) (r .fc) (r .dsap) (r .ssap) ((r .sum + b) % 256) ≡ step r b
-  unfolding step
+  pub data-step : (b : ℕ) → rd Body (r .kind) (r .count) (r .at + 1) (r .da) (r .sa) (r .fc) (r .dsap) (r .ssap) ((r .sum + b) % 256) ≡ readerStep r b
+  unfolding readerStep
   data-step b = body-data r b data-room ∙ ap (λ (p : Phase). stepAt p r b) (sym (in-body (r .phase) (ltb (r .at) (r .count)) e .0))

@@ -105,18 +105,18 @@ unfoldable pub stepAt : Phase → Reader → ℕ → Reader
 stepAt p r b = cond (okAt p r b) (nextAt p r b) off
 
 -- the reader after an octet
-unfoldable pub step : Reader → ℕ → Reader
+unfoldable pub readerStep : Reader → ℕ → Reader
 unfolding stepAt
-step r b = stepAt (r .phase) r b
+readerStep r b = stepAt (r .phase) r b
 
 -- and after one that may be flagged bad: then it breaks off
 abbrev pub readerAfter : Reader → ℕ → Bool → Reader
-readerAfter r b bad = cond bad off (step r b)
+readerAfter r b bad = cond bad off (readerStep r b)
 
 -- over a list of octets
 abbrev pub runFrom : Reader → List ℕ → Reader
 runFrom r [] = r
-runFrom r (b ∷ bs) = runFrom (step r b) bs
+runFrom r (b ∷ bs) = runFrom (readerStep r b) bs
 
 -- the reader that took these octets since a gap
 abbrev pub run : List ℕ → Reader
@@ -169,7 +169,7 @@ datumOf r = cond (takesData r) (Number (r .at)) Nothing
 -- the data octets among those that come, in order, DSAP and SSAP left out
 abbrev pub gathered : Reader → List ℕ → List ℕ
 gathered r [] = []
-gathered r (b ∷ bs) = let ds = gathered (step r b) bs in cond (takesData r) (b ∷ ds) ds
+gathered r (b ∷ bs) = let ds = gathered (readerStep r b) bs in cond (takesData r) (b ∷ ds) ds
 
 -- the reader that has read a telegram: its fields, and how many data octets came behind DSAP and SSAP
 abbrev pub finished : Telegram → Reader

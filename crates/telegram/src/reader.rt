@@ -3,7 +3,7 @@ use crate::Datum;
 use crate::Kind;
 ghost use mathlib.Core.Path.{_≡_};
 ghost use mathlib.Core.Bool.{true};
-ghost use Rattle.telegram.specs.Reading.{start, off, before, moved, summed, afterSa, afterFc, nextAt, stepAt, step, readerAfter, status, inBody, takesData, datumOf};
+ghost use Rattle.telegram.specs.Reading.{start, off, before, moved, summed, afterSa, afterFc, nextAt, stepAt, readerStep, readerAfter, status, inBody, takesData, datumOf};
 
 // What the next octet is.
 pub enum Phase {
@@ -122,14 +122,14 @@ impl Reader {
     // The step at a data octet, which most octets are.
     pub fn take_data(mut self, b: u8) -> Reader
         requires { ⌜ takesData self ≡ true ⌝ }
-        ensures { λ r. ⌜ r ≡ step self b ⌝ }
+        ensures { λ r. ⌜ r ≡ readerStep self b ⌝ }
     {
         self.at = self.at + 1;
         self.summed(b, Phase::Body)
     }
 
     pub fn step(self, b: u8) -> Reader
-        ensures { λ r. ⌜ r ≡ step self b ⌝ }
+        ensures { λ r. ⌜ r ≡ readerStep self b ⌝ }
     {
         let phase = self.phase;
         match phase {

@@ -52,7 +52,7 @@ use Rattle.state.proofs.state.State.Laws as T′
 use Rattle.steps.specs.Safe.{Safe}
 use Rattle.steps.specs.Stepped.{Steps}
 use Rattle.steps.specs.Reading as reading
-use Rattle.lent.specs.Run.{octet, run, wellReceived}
+use Rattle.lent.specs.Run.{octet, runBeats, wellReceived}
 use Rattle.lent.proofs.Value.{R, value, values, value-tells, head, typed, over}
 use Rattle.lent.proofs.Loops.{byte, word, refT, refB, sliceM, sliceE, fits-unit, by-bool, next-fits, nearer, reached}
 use Rattle.lent.proofs.OnLocal as on
@@ -129,7 +129,7 @@ module _ {M : Type 1} (𝓤 : URA M) (H : Heap 𝓤) (A : Atoms 𝓤) (W : Given
   abbrev Post : Val → SProp 𝓤
   Post = walkOf 𝓤 H A listen.ended stayed (listen.clauses 𝓤 H A at-mem run′) .post (((κ, (κ′, tt)), (q, (q′, tt)), bounds, a, vals), tt)
 
-  exits : (t : State) (zs : List ℕ) → Steps (run h ys (wellReceived sc)) t zs → length zs ≡ length ys → ent 𝓤 (⋆ 𝓤 H A (‵ (R .own t (values t)) ∷ Mem zs ∷ Scr ∷ ‵ (flft κ′ q′) ∷ [])) (Post (value t))
+  exits : (t : State) (zs : List ℕ) → Steps (runBeats h ys (wellReceived sc)) t zs → length zs ≡ length ys → ent 𝓤 (⋆ 𝓤 H A (‵ (R .own t (values t)) ∷ Mem zs ∷ Scr ∷ ‵ (flft κ′ q′) ∷ [])) (Post (value t))
   exits t zs e len =
       qed W (‵ (R .own t (values t)) ∷ Mem zs ∷ Scr ∷ ‵ (flft κ′ q′) ∷ []) ∵
       suffices ! _ (ends-at 𝓤 H A listen.ended stayed (listen.clauses 𝓤 H A at-mem run′) W (((κ, (κ′, tt)), (q, (q′, tt)), bounds, a, vals), tt) (value t) t (tt, (zs, (tt, tt))) (tt, (len, (tt, tt)))) $ says ! e $

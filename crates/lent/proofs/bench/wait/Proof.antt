@@ -50,7 +50,7 @@ use Rattle.state.proofs.state.State.Laws as T′
 use Rattle.steps.specs.Safe.{Safe}
 use Rattle.steps.specs.Stepped.{Steps}
 use Rattle.steps.specs.Bus.{elapsed}
-use Rattle.lent.specs.Run.{tick, run, ticks}
+use Rattle.lent.specs.Run.{tick, runBeats, ticks}
 use Rattle.lent.proofs.Value.{R, value, values, value-tells, head, typed, over}
 use Rattle.lent.proofs.Loops.{word, refT, refB, sliceM, sliceE, fits-unit, by-bool, next-fits, nearer, reached}
 use Rattle.lent.proofs.OnLocal as on
@@ -115,7 +115,7 @@ module _ {M : Type 1} (𝓤 : URA M) (H : Heap 𝓤) (A : Atoms 𝓤) (W : Given
   abbrev Post : Val → SProp 𝓤
   Post = walkOf 𝓤 H A wait.ended stayed (wait.clauses 𝓤 H A at-mem run′) .post (((κ, tt), (q, tt), tt, a, vals), tt)
 
-  exits : (t : State) (zs : List ℕ) → Steps (run h ys (ticks n)) t zs → length zs ≡ length ys → ent 𝓤 (⋆ 𝓤 H A (‵ (R .own t (values t)) ∷ Mem zs ∷ [])) (Post (value t))
+  exits : (t : State) (zs : List ℕ) → Steps (runBeats h ys (ticks n)) t zs → length zs ≡ length ys → ent 𝓤 (⋆ 𝓤 H A (‵ (R .own t (values t)) ∷ Mem zs ∷ [])) (Post (value t))
   exits t zs e len =
       qed W (‵ (R .own t (values t)) ∷ Mem zs ∷ []) ∵
       suffices ! _ (ends-at 𝓤 H A wait.ended stayed (wait.clauses 𝓤 H A at-mem run′) W (((κ, tt), (q, tt), tt, a, vals), tt) (value t) t (tt, (zs, (tt, tt))) (tt, (len, (tt, tt)))) $ says ! e $
