@@ -119,14 +119,14 @@ module _ (m : List ℕ) (s : Setup) (slice : List ℕ) (long : s .«get_cfg_len�
   begins : Begins m s
   begins = started-begins m s slice zero
 
-  left-is : memoryOf m s slice ≡ laidOut m s slice
-  left-is = ap (λ (c : Called). c .memory) (begins-started m s slice begins)
+  memory-is : memoryOf m s slice ≡ laidOut m s slice
+  memory-is = ap (λ (c : Called). c .memory) (begins-started m s slice begins)
 
   -- a freshly started station
   pub begins-ready : Ready (memoryOf m s slice) (initialState s) (fresh s slice)
   begins-ready =
       let b = begins in
-      subst (λ (x : List ℕ). Ready x (initialState s) (fresh s slice)) (sym left-is)
+      subst (λ (x : List ℕ). Ready x (initialState s) (fresh s slice)) (sym memory-is)
       (record {
         length-in = rw (laid-length m s slice long (b .room)) (b .length-in);
         on = record {

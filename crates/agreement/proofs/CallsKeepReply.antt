@@ -36,7 +36,7 @@ use Rattle.steps.specs.User.{Told, told, refusing, absent, kindAt, takeOutputs,
 use Rattle.steps.specs.Step.{step}
 use Rattle.agreement.proofs.Steady.{Allows, ReplySteady, Related}
 use Rattle.state.proofs.Choice.{by-test}
-use Rattle.rules.proofs.Served.{Publishes, Quiet, clear-quiet, settled-quiet, ticked-quiet, parameters-quiet, configuration-quiet, isOutputs}
+use Rattle.rules.proofs.Served.{Publishes, Quiet, clear-quiet, clear-noted-quiet, ticked-quiet, parameters-quiet, configuration-quiet, isOutputs}
 use Rattle.agreement.proofs.OutcomeCarried.{Spared}
 use Rattle.agreement.proofs.SettleAgrees.{idle-spared, after-reply-keeps}
 use Rattle.agreement.proofs.UserCallsAgree.{parameters-spared, configuration-spared}
@@ -72,7 +72,7 @@ module _ (s : State) (g : ReplySteady s) where
   unfolding settle carried
   settle-keeps m =
       subst (Allows (clearNoted (busy s) (afterReply s .control) .control)) (sym (after-reply-keeps s))
-      (quiet-allows (s .reply) (settled-quiet (s .setup) (afterReply s .control) (busy s) (idle-spared s)) after-reply-steady)
+      (quiet-allows (s .reply) (clear-noted-quiet (s .setup) (afterReply s .control) (busy s) (idle-spared s)) after-reply-steady)
 
 -- ---- the bus
 

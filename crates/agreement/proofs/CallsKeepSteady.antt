@@ -29,7 +29,7 @@ use Rattle.ledger.specs.Lists.{some, Buffers, takenOutputs, handedOver, withOut
 use Rattle.ledger.specs.Ledger.{Line, Ledger, withControl, withBuffers, withLine, begun, busy, diagnosisLeaves, parametersOpen, configurationOpen, fresh}
 use Rattle.ledger.specs.Outcome.{carried, diagnosisChanged, afterReply, settle}
 use Rattle.ledger.specs.Bus.{telegramOn, answered, completed, brokenOff, lengthened, beginning, sendLeft, silenced, heardAs, heard, paused, afterSend, elapsed}
-use Rattle.ledger.specs.User.{Told, told, refused, writtenOctet, handOver, newDiagnosis, acknowledgeEvents, leaveMaster}
+use Rattle.ledger.specs.User.{Told, told, refusing, writtenOctet, handOver, newDiagnosis, acknowledgeEvents, leaveMaster}
 use Rattle.rules.specs.Call.{Call, octet, gap, send, tick, take, read, write, hand-over, new-diagnosis, judge-parameters, judge-configuration, events, acknowledge, pending, leave}
 use Rattle.ledger.specs.Calls.{step, after}
 use Rattle.agreement.proofs.Steady.{CountIn, InOrder, Steady}
@@ -46,12 +46,12 @@ Order l = InOrder (l .setup) (l .control) (l .buffers .parameters) (l .buffers .
 
 -- ---- an outcome on a line that stays
 
-pub record Holds (l : Ledger) (o : Outcome) : Type 0 where
+pub record OutcomeKeeps (l : Ledger) (o : Outcome) : Type 0 where
   pub order : Orders (l .setup) (l .buffers .parameters) (l .buffers .configuration) [] o
   pub noted : o .control .noted ≡ true → busy l ≡ true
   pub diagnosis : o .control .diagnosis ≡ l .control .diagnosis
 
-carried-steady : {l : Ledger} → Steady l → (o : Outcome) → Holds l o → Steady (carried l o [])
+carried-steady : {l : Ledger} → Steady l → (o : Outcome) → OutcomeKeeps l o → Steady (carried l o [])
 carried-steady {l} s o h =
     record {
       order = h .order;
@@ -66,29 +66,29 @@ module _ {l : Ledger} (s : Steady l) where
   same e = kept e (s .order)
 
   -- WAIT_PRM entered
-  enters-holds : (d : Control) → d .diagnosis ≡ l .control .diagnosis → (d .noted ≡ true → busy l ≡ true) → Holds l (enteringWaitPrm d Nothing)
+  enters-keeps : (d : Control) → d .diagnosis ≡ l .control .diagnosis → (d .noted ≡ true → busy l ≡ true) → OutcomeKeeps l (enteringWaitPrm d Nothing)
   unfolding waitPrm
-  enters-holds d e f = record { order = entered d e (s .order); noted = f; diagnosis = e }
+  enters-keeps d e f = record { order = entered d e (s .order); noted = f; diagnosis = e }
 
-  clear-holds : (c : Control) → Alike (l .control) c → Holds l (clearOn (busy l) c)
-  clear-holds c e =
-      by-test (Holds l) (busy l) _ (clearing c)
+  clear-keeps : (c : Control) → Alike (l .control) c → OutcomeKeeps l (clearOn (busy l) c)
+  clear-keeps c e =
+      by-test (OutcomeKeeps l) (busy l) _ (clearing c)
       (λ f. record { order = same (alike (e .phase-same) (e .good-same) (e .diagnosis-same)); noted = λ _. f; diagnosis = e .diagnosis-same })
-      (λ _. enters-holds _ (e .diagnosis-same) (λ f. no-true f))
+      (λ _. enters-keeps _ (e .diagnosis-same) (λ f. no-true f))
 
-  ticked-holds : Holds l (ticked (busy l) (l .control))
+  ticked-keeps : OutcomeKeeps l (ticked (busy l) (l .control))
   unfolding ticked
-  ticked-holds =
-      by-test (Holds l) (not (counts (l .control))) _ _
+  ticked-keeps =
+      by-test (OutcomeKeeps l) (not (counts (l .control))) _ _
       (λ _. record { order = s .order; noted = s .noted; diagnosis = refl })
-      (λ _. by-test (Holds l) (leb (l .control .watchdog .remaining) 1) _ _
-      (λ _. clear-holds (raise (withRemaining (l .control) 0) watchdogEvent) (alike refl refl refl))
+      (λ _. by-test (OutcomeKeeps l) (leb (l .control .watchdog .remaining) 1) _ _
+      (λ _. clear-keeps (raise (withRemaining (l .control) 0) watchdogEvent) (alike refl refl refl))
       (λ _. record { order = same (alike refl refl refl); noted = s .noted; diagnosis = refl }))
 
-  parameters-holds : (waits good : Bool) → parametersOpen l ≡ true → Holds l (judgedParameters (l .control) waits good)
+  parameters-keeps : (waits good : Bool) → parametersOpen l ≡ true → OutcomeKeeps l (judgedParameters (l .control) waits good)
   unfolding judgedParameters
-  parameters-holds waits good e =
-      by-test (Holds l) waits _ _
+  parameters-keeps waits good e =
+      by-test (OutcomeKeeps l) waits _ _
       (λ _. record {
         order = record {
           parameters-closed = λ f. absurd (open-list e (s .order .parameters-closed f));
@@ -102,7 +102,7 @@ module _ {l : Ledger} (s : Steady l) where
         noted = s .noted;
         diagnosis = refl;
       })
-      (λ _. by-test (Holds l) good _ _
+      (λ _. by-test (OutcomeKeeps l) good _ _
       (λ _. record {
         order = record {
           parameters-closed = λ _. refl;
@@ -116,14 +116,14 @@ module _ {l : Ledger} (s : Steady l) where
         noted = s .noted;
         diagnosis = refl;
       })
-      (λ _. enters-holds _ refl (s .noted)))
+      (λ _. enters-keeps _ refl (s .noted)))
 
-  configuration-holds : (waits good : Bool) → configurationOpen l && l .control .flags .«parameters_good» ≡ true
-      → Holds l (judgedConfiguration (l .control) waits good)
+  configuration-keeps : (waits good : Bool) → configurationOpen l && l .control .flags .«parameters_good» ≡ true
+      → OutcomeKeeps l (judgedConfiguration (l .control) waits good)
   unfolding judgedConfiguration dataExch
-  configuration-holds waits good e =
+  configuration-keeps waits good e =
       let opened = and-left (configurationOpen l) (l .control .flags .«parameters_good») e in
-      by-test (Holds l) waits _ _
+      by-test (OutcomeKeeps l) waits _ _
       (λ _. record {
         order = record {
           parameters-closed = s .order .parameters-closed;
@@ -137,7 +137,7 @@ module _ {l : Ledger} (s : Steady l) where
         noted = s .noted;
         diagnosis = refl;
       })
-      (λ _. by-test (Holds l) good _ _
+      (λ _. by-test (OutcomeKeeps l) good _ _
       (λ _. record {
         order = record {
           parameters-closed = λ _. closed (parametersOpen l) refl;
@@ -151,7 +151,7 @@ module _ {l : Ledger} (s : Steady l) where
         noted = s .noted;
         diagnosis = refl;
       })
-      (λ _. enters-holds _ refl (s .noted)))
+      (λ _. enters-keeps _ refl (s .noted)))
     where
       -- good parameters are judged, so that none is open
       closed : (t : Bool) → parametersOpen l ≡ t → l .buffers .parameters .shown ≡ []
@@ -284,7 +284,7 @@ module _ {l : Ledger} (s : Steady l) where
   unfolding elapsed
   tick-steady =
       by-test Steady (l .control .noted) (settle (withLine l (silenced l))) (carried l (ticked (busy l) (l .control)) [])
-      (λ _. idle-settles (silenced l) refl) (λ _. carried-steady s (ticked (busy l) (l .control)) (ticked-holds s))
+      (λ _. idle-settles (silenced l) refl) (λ _. carried-steady s (ticked (busy l) (l .control)) (ticked-keeps s))
 
   -- ---- the vat program
 
@@ -341,24 +341,24 @@ step-steady l (write kind index x) s =
     (lists-steady s (writtenOctet (l .buffers) kind index x) (written-sets s kind index x .0) (written-sets s kind index x .1))
 step-steady l hand-over s = lists-steady s (withInputs (l .buffers) (handedOver (l .buffers .inputs))) refl refl
 step-steady l (new-diagnosis count flags) s =
-    by-test Keeps (not (within 6 count (l .setup .«diagnosis_len») && leb flags 7)) (refused Range l) _ (λ _. s)
-    (λ e. by-test Keeps (delayed (l .control)) (refused Delayed l) _ (λ _. s)
+    by-test Keeps (not (within 6 count (l .setup .«diagnosis_len») && leb flags 7)) (refusing Range l) _ (λ _. s)
+    (λ e. by-test Keeps (delayed (l .control)) (refusing Delayed l) _ (λ _. s)
     (λ _. by-test Keeps (diagnosisLeaves l) (told 0 (withControl l (delaying (l .control) count flags))) (told 0 (diagnosisChanged l (diagnosed (l .control) count flags)))
     (λ f. delaying-steady s count flags (count-in s count _ _ (not-false _ e)) f)
     (λ _. diagnosed-steady s count flags (count-in s count _ _ (not-false _ e)))))
 step-steady l (judge-parameters j) s =
     parameters-cases Keeps l j (λ _ _. s)
-    (λ e. carried-steady s _ (parameters-holds s (some (l .buffers .parameters .waiting)) (eqb j 1) (and-left (parametersOpen l) (leb j 1) e)))
+    (λ e. carried-steady s _ (parameters-keeps s (some (l .buffers .parameters .waiting)) (eqb j 1) (and-left (parametersOpen l) (leb j 1) e)))
 step-steady l (judge-configuration j) s =
     configuration-cases Keeps l j (λ _ _. s)
     (λ e. carried-steady s _
-    (configuration-holds s (some (l .buffers .configuration .waiting)) (eqb j 1)
+    (configuration-keeps s (some (l .buffers .configuration .waiting)) (eqb j 1)
     (and-left (configurationOpen l && l .control .flags .«parameters_good») (leb j 1) e)))
 step-steady l events s = s
 step-steady l (acknowledge mask) s =
     record { order = kept {c = l .control} (alike refl refl refl) (s .order); quiet = s .quiet; noted = s .noted; delaying = s .delaying }
 step-steady l pending s = s
-step-steady l leave s = carried-steady s (clearOn (busy l) (l .control)) (clear-holds s (l .control) (alike refl refl refl))
+step-steady l leave s = carried-steady s (clearOn (busy l) (l .control)) (clear-keeps s (l .control) (alike refl refl refl))
 
 -- ---- every list
 

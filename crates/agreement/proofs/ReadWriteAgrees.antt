@@ -88,10 +88,10 @@ module _ {s : State} {m : List ℕ} {l : Ledger} (a : Agrees s m l) where
   pub read-matches : (kind index : ℕ) → Matches (step s m (read kind index)) (ledger-calls.step l (read kind index))
   unfolding readOctet ledger-user.readOctet
   read-matches kind index =
-      both Matches (not (inRange (s .setup) kind index)) (not (inRange (l .setup) kind index)) (refusing Range s m) _ (ledger-user.refused Range l) _
+      both Matches (not (inRange (s .setup) kind index)) (not (inRange (l .setup) kind index)) (refusing Range s m) _ (ledger-user.refusing Range l) _
       (ap (λ (g : Setup). not (inRange g kind index)) (a .setup))
       (λ _. refuses a Range)
-      (λ e. both Matches (absent s kind index) (ledger-user.absent l kind index) (refusing Absent s m) _ (ledger-user.refused Absent l) _
+      (λ e. both Matches (absent s kind index) (ledger-user.absent l kind index) (refusing Absent s m) _ (ledger-user.refusing Absent l) _
       (absent-agrees kind index)
       (λ _. refuses a Absent)
       (λ f. record { answers = ap Value (kind-octet kind index (not-false _ e) f); agrees = a }))
@@ -236,10 +236,10 @@ unfolding writeOctet ledger-user.writeOctet
 write-matches {s} {m} {l} r kind index x =
     let a = r .agrees in
     both Matches (not (writable kind && inRange (s .setup) kind index)) (not (writable kind && inRange (l .setup) kind index))
-    (refusing Range s m) _ (ledger-user.refused Range l) _
+    (refusing Range s m) _ (ledger-user.refusing Range l) _
     (ap (λ (g : Setup). not (writable kind && inRange g kind index)) (a .setup))
     (λ _. refuses a Range)
-    (λ e. both Matches (absent s kind index) (ledger-user.absent l kind index) (refusing Absent s m) _ (ledger-user.refused Absent l) _
+    (λ e. both Matches (absent s kind index) (ledger-user.absent l kind index) (refusing Absent s m) _ (ledger-user.refusing Absent l) _
     (absent-agrees a kind index)
     (λ _. refuses a Absent)
     (λ f. record { answers = refl; agrees = written-kind r index x kind (not-false _ e) }))

@@ -17,7 +17,7 @@ use Rattle.steps.specs.Line.{begun, busy, diagnosisLeaves}
 use Rattle.steps.specs.Outcome.{diagnosisChanged, afterReply, settle}
 use Rattle.agreement.proofs.Relation.{Agrees}
 use Rattle.agreement.proofs.SameLine.{busy-agrees, leaves-agrees}
-use Rattle.rules.proofs.Served.{settled-quiet}
+use Rattle.rules.proofs.Served.{clear-noted-quiet}
 use Rattle.agreement.proofs.OutcomeCarried.{Spared, quiet-agrees}
 use Rattle.agreement.proofs.OnePartChanges.{diagnosis-changed}
 
@@ -47,5 +47,5 @@ module _ {s : State} {m : List ℕ} {l : Ledger} (a : Agrees s m l) where
   unfolding settle ledger-outcome.settle
   settle-agrees =
       quiet-agrees after-reply-agrees
-      (settled-quiet (afterReply s .setup) (afterReply s .control) (busy s) (λ e. subst Spared (sym (after-reply-keeps s)) (idle-spared s e)))
+      (clear-noted-quiet (afterReply s .setup) (afterReply s .control) (busy s) (λ e. subst Spared (sym (after-reply-keeps s)) (idle-spared s e)))
       (clearNoted (ledger.busy l) (ledger-outcome.afterReply l .control)) (λ i. clearNoted (busy-agrees a i) (after-reply-agrees .control i))

@@ -44,7 +44,7 @@ use Rattle.state.proofs.Choice.{both, and-left}
 use Rattle.agreement.proofs.SettleAgrees.{idle-spared}
 
 -- a refused call changes nothing
-pub refuses : {s : State} {m : List ℕ} {l : Ledger} → Agrees s m l → (why : Refusal) → Matches (refusing why s m) (ledger-user.refused why l)
+pub refuses : {s : State} {m : List ℕ} {l : Ledger} → Agrees s m l → (why : Refusal) → Matches (refusing why s m) (ledger-user.refusing why l)
 refuses a why = record { answers = refl; agrees = a }
 
 module _ {s : State} {m : List ℕ} {l : Ledger} (a : Agrees s m l) where
@@ -108,10 +108,10 @@ module _ {s : State} {m : List ℕ} {l : Ledger} (a : Agrees s m l) where
   unfolding newDiagnosis ledger-user.newDiagnosis
   new-diagnosis-matches count flags =
       both Matches (not (within 6 count (s .setup .«diagnosis_len») && leb flags 7)) (not (within 6 count (l .setup .«diagnosis_len») && leb flags 7))
-      (refusing Range s m) _ (ledger-user.refused Range l) _
+      (refusing Range s m) _ (ledger-user.refusing Range l) _
       (λ i. not (within 6 count (a .setup i .«diagnosis_len») && leb flags 7))
       (λ _. refuses a Range)
-      (λ _. both Matches (delayed (s .control)) (delayed (l .control)) (refusing Delayed s m) _ (ledger-user.refused Delayed l) _
+      (λ _. both Matches (delayed (s .control)) (delayed (l .control)) (refusing Delayed s m) _ (ledger-user.refusing Delayed l) _
       (ap delayed (a .control))
       (λ _. refuses a Delayed)
       (λ _. both Matches (diagnosisLeaves s) (ledger.diagnosisLeaves l)
@@ -150,10 +150,10 @@ module _ {s : State} {m : List ℕ} {l : Ledger} (r : Related s m l) where
   judge-parameters-matches j =
       let a = r .agrees in
       let fresh = a .parameters .fresh in
-      both Matches (not (isOpen (s .parameters))) (not (ledger.parametersOpen l)) (refusing Judging s m) _ (ledger-user.refused Judging l) _
+      both Matches (not (isOpen (s .parameters))) (not (ledger.parametersOpen l)) (refusing Judging s m) _ (ledger-user.refusing Judging l) _
       (ap not (open-agrees (a .parameters)))
       (λ _. refuses a Judging)
-      (λ e. both Matches (not (leb j 1)) (not (leb j 1)) (refusing Range s m) _ (ledger-user.refused Range l) _ refl
+      (λ e. both Matches (not (leb j 1)) (not (leb j 1)) (refusing Range s m) _ (ledger-user.refusing Range l) _ refl
       (λ _. refuses a Range)
       (λ _. record {
         answers = ap (λ (t : Bool). Value (cond t 1 0)) fresh;
@@ -169,10 +169,10 @@ module _ {s : State} {m : List ℕ} {l : Ledger} (r : Related s m l) where
       let a = r .agrees in
       let fresh = a .configuration .fresh in
       both Matches (not (isOpen (s .configuration) && s .control .flags .«parameters_good»)) (not (ledger.configurationOpen l && l .control .flags .«parameters_good»))
-      (refusing Judging s m) _ (ledger-user.refused Judging l) _
+      (refusing Judging s m) _ (ledger-user.refusing Judging l) _
       (λ i. not (open-agrees (a .configuration) i && a .control i .flags .«parameters_good»))
       (λ _. refuses a Judging)
-      (λ e. both Matches (not (leb j 1)) (not (leb j 1)) (refusing Range s m) _ (ledger-user.refused Range l) _ refl
+      (λ e. both Matches (not (leb j 1)) (not (leb j 1)) (refusing Range s m) _ (ledger-user.refusing Range l) _ refl
       (λ _. refuses a Range)
       (λ _. record {
         answers = ap (λ (t : Bool). Value (cond t 1 0)) fresh;

@@ -21,7 +21,7 @@ use Rattle.ledger.specs.Lists.{some, takenOutputs, withOutputs}
 use Rattle.ledger.specs.Ledger.{Line, Ledger, withControl, withBuffers, withLine, busy, diagnosisLeaves, parametersOpen, configurationOpen}
 use Rattle.ledger.specs.Outcome.{carried, diagnosisChanged, settle}
 use Rattle.ledger.specs.Bus.{answered, lengthened, heardAs, heard}
-use Rattle.ledger.specs.User.{Told, told, refused, absent, octetsOfKind, writtenOctet, takeOutputs, readOctet, writeOctet, handOver, newDiagnosis, judgeParameters, judgeConfiguration, acknowledgeEvents, leaveMaster}
+use Rattle.ledger.specs.User.{Told, told, refusing, absent, octetsOfKind, writtenOctet, takeOutputs, readOctet, writeOctet, handOver, newDiagnosis, judgeParameters, judgeConfiguration, acknowledgeEvents, leaveMaster}
 use Rattle.rules.specs.Kinds.{inRange, writable}
 use Rattle.rules.specs.Call.{Call, octet, gap, send, tick, take, read, write, hand-over, new-diagnosis, judge-parameters, judge-configuration, events, acknowledge, pending, leave}
 use Rattle.ledger.specs.Calls.{step, answers, after}
@@ -64,26 +64,26 @@ user-on l n take u a =
     over n (not (l .buffers .outputs .fresh)) (told 0 l)
     (told (cond (l .buffers .outputs .zeros) 2 1) (withBuffers l (withOutputs (l .buffers) (takenOutputs (l .buffers .outputs)))))
 user-on l n (read kind index) u a =
-    over2 n (not (inRange (l .setup) kind index)) (absent l kind index) (refused Range l) (refused Absent l)
+    over2 n (not (inRange (l .setup) kind index)) (absent l kind index) (refusing Range l) (refusing Absent l)
     (told (getD (octetsOfKind (l .buffers) kind) index 0) l)
 user-on l n (write kind index x) u a =
-    over2 n (not (writable kind && inRange (l .setup) kind index)) (absent l kind index) (refused Range l) (refused Absent l)
+    over2 n (not (writable kind && inRange (l .setup) kind index)) (absent l kind index) (refusing Range l) (refusing Absent l)
     (told 0 (withBuffers l (writtenOctet (l .buffers) kind index x)))
 user-on l n hand-over u a = refl
 user-on l n (new-diagnosis count flags) u a =
-    let x : Told = refused Range l in
-    let y : Told = refused Delayed l in
+    let x : Told = refusing Range l in
+    let y : Told = refusing Delayed l in
     let z : Told = told 0 (withControl l (delaying (l .control) count flags)) in
     let w : Told = told 0 (diagnosisChanged l (diagnosed (l .control) count flags)) in
     let p : Bool = not (within 6 count (l .setup .«diagnosis_len») && leb flags 7) in
     ap (λ (t : Bool). cond p (onLine n x) (cond (delayed (l .control)) (onLine n y) (cond t (onLine n z) (onLine n w)))) (a .leaves-is)
     ∙ over3 n p (delayed (l .control)) (diagnosisLeaves l) x y z w
 user-on l n (judge-parameters j) u a =
-    over2 n (not (parametersOpen l)) (not (leb j 1)) (refused Judging l) (refused Range l)
+    over2 n (not (parametersOpen l)) (not (leb j 1)) (refusing Judging l) (refusing Range l)
     (told (cond (some (l .buffers .parameters .waiting)) 1 0)
     (carried l (judgedParameters (l .control) (some (l .buffers .parameters .waiting)) (eqb j 1)) []))
 user-on l n (judge-configuration j) u a =
-    over2 n (not (configurationOpen l && l .control .flags .«parameters_good»)) (not (leb j 1)) (refused Judging l) (refused Range l)
+    over2 n (not (configurationOpen l && l .control .flags .«parameters_good»)) (not (leb j 1)) (refusing Judging l) (refusing Range l)
     (told (cond (some (l .buffers .configuration .waiting)) 1 0)
     (carried l (judgedConfiguration (l .control) (some (l .buffers .configuration .waiting)) (eqb j 1)) []))
 user-on l n events u a = refl

@@ -40,7 +40,7 @@ use Rattle.ledger.specs.ReadBack.{StartTakes, OutputsFit, InputsFit, Set
 use Rattle.ledger.proofs.Settling.{settle-line}
 use Rattle.ledger.proofs.ByCases.{take-cases, read-cases, write-cases, diagnosis-cases, parameters-cases, configuration-cases}
 use Rattle.ledger.proofs.Hearing.{last-heard}
-use Rattle.rules.proofs.Served.{Publishes, Receives, Lawful, Quiet, clear-quiet, settled-quiet, ticked-quiet, parameters-quiet, configuration-quiet, Served, served}
+use Rattle.rules.proofs.Served.{Publishes, Receives, Lawful, Quiet, clear-quiet, clear-noted-quiet, ticked-quiet, parameters-quiet, configuration-quiet, Served, served}
 use Rattle.state.proofs.Choice.{by-test, and-left, and-right}
 use Rattle.state.proofs.Tests.{within-true}
 use Rattle.ledger.proofs.ReadBack.{reply-reads, reply-left}
@@ -156,7 +156,7 @@ module _ {l : Ledger} (f : Fit l) where
 
 settle-fit : {l : Ledger} → Fit l → Fit (settle l)
 unfolding settle
-settle-fit {l} f = quiet-fit (reply-fit f) (settled-quiet (afterReply l .setup) (afterReply l .control) (busy l) (λ _. tt))
+settle-fit {l} f = quiet-fit (reply-fit f) (clear-noted-quiet (afterReply l .setup) (afterReply l .control) (busy l) (λ _. tt))
 
 -- ---------------------------------------------------------------------------------------------------
 -- A complete telegram.

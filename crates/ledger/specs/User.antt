@@ -29,8 +29,8 @@ abbrev pub told : ℕ → Ledger → Told
 told n l = record { answer = Value n; ledger = l }
 
 -- a refused call answers its number and changes nothing
-abbrev pub refused : Refusal → Ledger → Told
-refused r l = record { answer = Refused r; ledger = l }
+abbrev pub refusing : Refusal → Ledger → Told
+refusing r l = record { answer = Refused r; ledger = l }
 
 -- take outputs: 0 nothing new; 1 new; 2 new, zeros published by the station
 unfoldable pub takeOutputs : Ledger → Told
@@ -57,8 +57,8 @@ octetsOfKind b kind =
 -- reading answers the octet
 unfoldable pub readOctet : Ledger → ℕ → ℕ → Told
 readOctet l kind index =
-    cond (not (inRange (l .setup) kind index)) (refused Range l)
-    (cond (absent l kind index) (refused Absent l) (told (getD (octetsOfKind (l .buffers) kind) index 0) l))
+    cond (not (inRange (l .setup) kind index)) (refusing Range l)
+    (cond (absent l kind index) (refusing Absent l) (told (getD (octetsOfKind (l .buffers) kind) index 0) l))
 
 -- kinds 4 and 5 are written
 abbrev pub writtenOctet : Buffers → ℕ → ℕ → ℕ → Buffers
@@ -68,8 +68,8 @@ writtenOctet b kind index x =
 -- writing answers 0
 unfoldable pub writeOctet : Ledger → ℕ → ℕ → ℕ → Told
 writeOctet l kind index x =
-    cond (not (writable kind && inRange (l .setup) kind index)) (refused Range l)
-    (cond (absent l kind index) (refused Absent l) (told 0 (withBuffers l (writtenOctet (l .buffers) kind index x))))
+    cond (not (writable kind && inRange (l .setup) kind index)) (refusing Range l)
+    (cond (absent l kind index) (refusing Absent l) (told 0 (withBuffers l (writtenOctet (l .buffers) kind index x))))
 
 -- hand over inputs
 unfoldable pub handOver : Ledger → Told
@@ -78,24 +78,24 @@ handOver l = told 0 (withBuffers l (withInputs (l .buffers) (handedOver (l .buff
 -- new diagnosis: the two buffers change; while a Slave_Diag reply is unfinished, when that ends or is dropped
 unfoldable pub newDiagnosis : Ledger → ℕ → ℕ → Told
 newDiagnosis l count flags =
-    cond (not (within 6 count (l .setup .«diagnosis_len») && leb flags 7)) (refused Range l)
-    (cond (delayed (l .control)) (refused Delayed l)
+    cond (not (within 6 count (l .setup .«diagnosis_len») && leb flags 7)) (refusing Range l)
+    (cond (delayed (l .control)) (refusing Delayed l)
     (cond (diagnosisLeaves l) (told 0 (withControl l (delaying (l .control) count flags)))
     (told 0 (diagnosisChanged l (diagnosed (l .control) count flags)))))
 
 -- judge parameters (1 good, 0 bad): 1 if a newer set waited, else 0
 unfoldable pub judgeParameters : Ledger → ℕ → Told
 judgeParameters l judgement =
-    cond (not (parametersOpen l)) (refused Judging l)
-    (cond (not (leb judgement 1)) (refused Range l)
+    cond (not (parametersOpen l)) (refusing Judging l)
+    (cond (not (leb judgement 1)) (refusing Range l)
     (told (cond (some (l .buffers .parameters .waiting)) 1 0)
     (carried l (judgedParameters (l .control) (some (l .buffers .parameters .waiting)) (eqb judgement 1)) [])))
 
 -- judge configuration: not before good parameters
 unfoldable pub judgeConfiguration : Ledger → ℕ → Told
 judgeConfiguration l judgement =
-    cond (not (configurationOpen l && l .control .flags .«parameters_good»)) (refused Judging l)
-    (cond (not (leb judgement 1)) (refused Range l)
+    cond (not (configurationOpen l && l .control .flags .«parameters_good»)) (refusing Judging l)
+    (cond (not (leb judgement 1)) (refusing Range l)
     (told (cond (some (l .buffers .configuration .waiting)) 1 0)
     (carried l (judgedConfiguration (l .control) (some (l .buffers .configuration .waiting)) (eqb judgement 1)) [])))
 

@@ -28,7 +28,7 @@ use Rattle.rules.specs.declared.outcome.Outcome.{Outcome}
 use Rattle.rules.specs.Requests.{masterOf}
 use Rattle.rules.specs.Line.{ticked}
 use Rattle.rules.specs.Diagnosis.{delayed, diagnosed, caughtUp}
-use Rattle.rules.proofs.Served.{Receives, Lawful, Quiet, settled-quiet, ticked-quiet}
+use Rattle.rules.proofs.Served.{Receives, Lawful, Quiet, clear-noted-quiet, ticked-quiet}
 use Rattle.state.proofs.Choice.{by-test, and-left}
 use Rattle.steps.specs.Safe.{Safe}
 use Rattle.steps.specs.Stepped.{Stepped, unchanged}
@@ -174,7 +174,7 @@ sound-settle : (s : State) (m : List ℕ) → Safe s m → Sound s → Sound (se
 unfolding settle
 sound-settle s m safe h =
     sound-quiet (afterReply s) m (safe-after-reply s m safe) (sound-after-reply s h)
-    (settled-quiet (afterReply s .setup) (afterReply s .control) (busy s) (λ _. tt))
+    (clear-noted-quiet (afterReply s .setup) (afterReply s .control) (busy s) (λ _. tt))
 
 -- ---- an octet heard
 

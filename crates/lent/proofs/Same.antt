@@ -2,6 +2,7 @@
 use Prim.Native.Nat.{ℕ}
 use native.Mathlib.Omega.{arith}
 use mathlib.Core.Path.{_≡_, refl, sym, ap, subst, _∙_}
+use mathlib.Core.Bool.{true}
 use mathlib.Core.List.{List, [], _∷_, _++_}
 use lib.ListN.{length, drop, replicate}
 use lib.Seq.{drop-at}
@@ -26,7 +27,7 @@ use Rattle.ledger.specs.Calls.{after}
 use Rattle.ledger.proofs.Runs as ledger-runs
 use Rattle.steps.specs.Safe.{Safe}
 use Rattle.steps.specs.Step.{stepOver}
-use Rattle.steps.specs.Calls.{called, answers}
+use Rattle.steps.specs.Calls.{wellMemory, called, answers}
 use Rattle.agreement.specs.Agreement.{memoryOf}
 use Rattle.steps.proofs.KeepsSafe.{safe-heard, safe-paused, safe-elapsed}
 use Rattle.steps.proofs.KeepsSetup.{step-keeps}
@@ -100,12 +101,14 @@ packs p s m b = ap (λ (l : List ℕ). image s ++ l) (sym (b .bodies)) ∙ sym (
 record Ends (p : List ℕ) (s : State) (m : List ℕ) (bs : List Beat) : Type 0 where
   image-is : kept (runBeats s m bs .state) (runBeats s m bs .memory) ≡ memoryAfter p (calls bs)
   answers-are : answers p (calls bs) ≡ replicate (length bs) (Value 0)
+  well-still : wellMemory (kept (runBeats s m bs .state) (runBeats s m bs .memory)) ≡ true
   holds-still : Holds (kept (runBeats s m bs .state) (runBeats s m bs .memory)) (runBeats s m bs .state)
 
 ends : (bs : List Beat) (p : List ℕ) (s : State) (m : List ℕ) → Beside p s m → Ends p s m bs
 ends [] p s m b = record {
   image-is = packs p s m b;
   answers-are = refl;
+  well-still = subst (λ (l : List ℕ). wellMemory l ≡ true) (sym (packs p s m b)) (holds-well p s (b .length-in) (b .holds));
   holds-still = subst (λ (l : List ℕ). Holds l s) (sym (packs p s m b)) (b .holds);
 }
 ends (x ∷ bs) p s m b =
@@ -116,15 +119,16 @@ ends (x ∷ bs) p s m b =
       answers-are =
           ap (λ (c : Called). c .answer ∷ answers (c .memory) (calls bs)) e
           ∙ ap (λ (more : List Answer). Value 0 ∷ more) (r .answers-are);
+      well-still = r .well-still;
       holds-still = r .holds-still;
     }
 
--- for every memory that holds a state
+-- for every memory of the right length that holds a state
 pub lent-same : (m : List ℕ) (s : State) → LengthIn (length m) → Holds m s → (bs : List Beat) → Same m bs
 lent-same m s n h bs =
     let g : Holds m (unpacked m) = subst (Holds m) (sym (holds-unpacked m s h)) h in
     let r = ends bs m (unpacked m) m (record { length-in = n; holds = g; safe = holds-safe m (unpacked m) g; bodies = refl }) in
-    record { image-is = r .image-is; answers-are = r .answers-are; holds-still = r .holds-still }
+    record { image-is = r .image-is; answers-are = r .answers-are; well-still = r .well-still; holds-still = r .holds-still }
 
 -- and with that state named
 pub lent-image : (m : List ℕ) (s : State) → LengthIn (length m) → Holds m s → (bs : List Beat) → kept (runBeats s m bs .state) (runBeats s m bs .memory) ≡ memoryAfter m (calls bs)
@@ -141,9 +145,9 @@ reach (c ∷ cs) m s l r =
     (reach cs (d .memory-after) (d .state-after) (ledger.step l c .ledger) (ready-again m s l r c))
 
 -- what a list of calls leaves and answers, by its parts
-left-append : (xs ys : List Call) (m : List ℕ) → memoryAfter m (xs ++ ys) ≡ memoryAfter (memoryAfter m xs) ys
-left-append [] ys m = refl
-left-append (c ∷ xs) ys m = left-append xs ys (called m c .memory)
+memory-append : (xs ys : List Call) (m : List ℕ) → memoryAfter m (xs ++ ys) ≡ memoryAfter (memoryAfter m xs) ys
+memory-append [] ys m = refl
+memory-append (c ∷ xs) ys m = memory-append xs ys (called m c .memory)
 
 answers-append : (xs ys : List Call) (m : List ℕ) → answers m (xs ++ ys) ≡ answers m xs ++ answers (memoryAfter m xs) ys
 answers-append [] ys m = refl
@@ -171,6 +175,6 @@ module _ (m : List ℕ) (s : Setup) (slice : List ℕ) (long : s .«get_cfg_len�
   carries-over = record {
     same = same;
     agree = λ pre bs cs.
-        ap (λ (p : List ℕ). answers p cs) (same pre bs .image-is ∙ sym (left-append pre (calls bs) (memoryOf m s slice)))
+        ap (λ (p : List ℕ). answers p cs) (same pre bs .image-is ∙ sym (memory-append pre (calls bs) (memoryOf m s slice)))
         ∙ later (pre ++ calls bs) cs;
   }

@@ -35,7 +35,7 @@ pub packed-again : (m : List ℕ) (s : State) (bs : List Beat) (t : State) (zs o
     → out ≡ memoryAfter m (calls bs)
 packed-again m s bs t zs out n h e k = k ∙ (λ i. kept (e .states i) (e .leaves i)) ∙ lent-image m s n h bs
 
--- a memory that holds no state is left as it is
+-- a damaged memory is left as it is
 left-damaged : (cs : List Call) (m : List ℕ) → wellMemory m ≡ false → m ≡ memoryAfter m cs
 left-damaged [] m e = refl
 left-damaged (c ∷ cs) m e = left-damaged cs m e ∙ ap (λ (r : Called). memoryAfter (r .memory) cs) (sym (called-damaged m c e))

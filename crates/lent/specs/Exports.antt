@@ -1,4 +1,4 @@
--- What the exported bench loop promises: whether the memory held a state, and the whole memory after the call.
+-- What the exported bench loop promises: whether the memory was well, and the whole memory after the call.
 use Prim.Native.Nat.{ℕ}
 use mathlib.Core.Path.{_≡_}
 use mathlib.Core.Bool.{cond}
@@ -8,7 +8,7 @@ use Rattle.steps.specs.Calls.{wellMemory}
 use Rattle.rules.specs.Call.{Call}
 use Rattle.lent.specs.Run.{memoryAfter}
 
--- 1 for a memory m that holds a state and 0 for any other; the memory that the exported calls cs leave
+-- 1 for a memory m that is well and 0 for any other; the memory that the exported calls cs leave
 pub record Returns (m : List ℕ) (cs : List Call) (number : ℤ) (memory : List ℕ) : Type 0 where
   pub numbers : number ≡ pos (cond (wellMemory m) 1 0)
   pub leaves : memory ≡ memoryAfter m cs

@@ -1,7 +1,7 @@
 -- Octets, gaps and Ticks: run on the unpacked state, and by the exported calls on the packed memory.
 use Prim.Native.Nat.{ℕ, zero, suc}
 use mathlib.Core.Path.{_≡_}
-use mathlib.Core.Bool.{Bool, false}
+use mathlib.Core.Bool.{Bool, true, false}
 use mathlib.Core.List.{List, [], _∷_, _++_, map}
 use lib.ListN.{length, replicate}
 use Rattle.state.specs.declared.answer.Answer.the-variants.{Value}
@@ -17,7 +17,7 @@ use Rattle.ledger.specs.Calls.{after}
 use Rattle.steps.specs.Stepped.{Stepped, unchanged}
 use Rattle.steps.specs.Reading.{heard}
 use Rattle.steps.specs.Bus.{paused, elapsed}
-use Rattle.steps.specs.Calls.{called, answers}
+use Rattle.steps.specs.Calls.{wellMemory, called, answers}
 use Rattle.agreement.specs.Agreement.{memoryOf}
 
 -- what the bus does
@@ -74,6 +74,7 @@ packedRun m bs = kept (runBeats (unpacked m) m bs .state) (runBeats (unpacked m)
 pub record Same (m : List ℕ) (bs : List Beat) : Type 0 where
   pub image-is : packedRun m bs ≡ memoryAfter m (calls bs)
   pub answers-are : answers m (calls bs) ≡ replicate (length bs) (Value 0)
+  pub well-still : wellMemory (packedRun m bs) ≡ true
   pub holds-still : Holds (packedRun m bs) (runBeats (unpacked m) m bs .state)
 
 -- demand 3 carries over: after Start and any calls the state is unpacked, lent for any octets, gaps and Ticks and packed

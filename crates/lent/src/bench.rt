@@ -52,7 +52,7 @@ pub fn take_turn(state: State, memory: &mut [u8], telegram: &[u8], count: usize)
     wait(listened, memory, count)
 }
 
-// Two telegrams on the unpacked state: the memory is left as the exported calls leave it. Whether it held a state.
+// Two telegrams on the unpacked state: the memory is left as the exported calls leave it. Whether it was well.
 pub fn exchange(memory: &mut [u8], first: &[u8], second: &[u8], count: usize) -> bool
     ensures { λ r. ⌜ (r ≡ wellMemory (now (memory .entry))) × (now (memory .exit) ≡ memoryAfter (now (memory .entry)) (calls (turn (now (first .entry)) count ++ turn (now (second .entry)) count))) ⌝ }
 {

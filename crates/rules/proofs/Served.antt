@@ -120,8 +120,8 @@ module _ (g : Setup) (c : Control) {Clear : Type 0} where
   clear-quiet busy = clears busy c (alike refl refl refl)
 
   -- a noted clear where the line is idle
-  pub settled-quiet : (busy : Bool) → (busy ≡ false → Clear) → Quiet g c Clear (clearNoted busy c)
-  settled-quiet busy f =
+  pub clear-noted-quiet : (busy : Bool) → (busy ≡ false → Clear) → Quiet g c Clear (clearNoted busy c)
+  clear-noted-quiet busy f =
       pick (c .noted && not busy) (λ e. enters _ refl refl (f (not-true busy (and-right (c .noted) (not busy) e)))) (λ _. draws (alike refl refl refl) (λ e. no-true e))
 
   -- a Tick

@@ -11,7 +11,7 @@ ghost use mathlib.Core.Path.{_≡_};
 ghost use Rattle.rules.specs.User.{changingSets, judgedParameters, judgedConfiguration};
 
 // Only these sets change.
-fn on_sets(control: Control, parameters: SetDeed, configuration: SetDeed) -> Outcome
+fn changing_sets(control: Control, parameters: SetDeed, configuration: SetDeed) -> Outcome
     ensures { λ o. ⌜ o ≡ changingSets control parameters configuration ⌝ }
 {
     Outcome {
@@ -29,13 +29,13 @@ pub fn judged_parameters(mut control: Control, waits: bool, good: bool) -> Outco
     ensures { λ o. ⌜ o ≡ judgedParameters control waits good ⌝ }
 {
     if waits {
-        return on_sets(control, SetDeed::Advance, SetDeed::Keep);
+        return changing_sets(control, SetDeed::Advance, SetDeed::Keep);
     }
     let events = control.events.clear(Events::PARAMETERS);
     control.events = events;
     if good {
         control.flags.parameters_good = true;
-        return on_sets(control, SetDeed::Drop, SetDeed::Keep);
+        return changing_sets(control, SetDeed::Drop, SetDeed::Keep);
     }
     control.flags.prm_fault = true;
     entering_wait_prm(control, Drawn::Nothing)
@@ -46,12 +46,12 @@ pub fn judged_configuration(mut control: Control, waits: bool, good: bool) -> Ou
     ensures { λ o. ⌜ o ≡ judgedConfiguration control waits good ⌝ }
 {
     if waits {
-        return on_sets(control, SetDeed::Keep, SetDeed::Advance);
+        return changing_sets(control, SetDeed::Keep, SetDeed::Advance);
     }
     let events = control.events.clear(Events::CONFIGURATION);
     control.events = events;
     if good {
-        return on_sets(data_exch(control), SetDeed::Keep, SetDeed::Drop);
+        return changing_sets(data_exch(control), SetDeed::Keep, SetDeed::Drop);
     }
     control.flags.cfg_fault = true;
     entering_wait_prm(control, Drawn::Nothing)

@@ -1,4 +1,4 @@
--- A memory passes the damage check exactly if it holds a state, and it is that state.
+-- A memory passes the test of a state exactly if it holds one, and it is that state.
 use Prim.Native.Nat.{ℕ, _≤_, _<_}
 use native.Mathlib.Omega.{arith}
 use mathlib.Core.Path.{_≡_, refl, sym, ap, _∙_}

@@ -1,4 +1,4 @@
--- A memory with a state in front, and whether it is damaged. Nothing here asks for a length of the whole memory.
+-- A memory with a state in front. Of its length this asks only that the buffers end in it, so it may be a part of a larger one.
 use Prim.Native.Nat.{ℕ, _≤_}
 use mathlib.Core.Path.{_≡_}
 use mathlib.Core.Bool.{Bool, _&&_}

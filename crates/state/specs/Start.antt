@@ -37,7 +37,7 @@ given address ident outputs inputs parameters configuration diagnosis n =
       «get_cfg_len» = n;
     }
 
--- all of them are kept
+-- all lengths are in their ranges
 unfoldable pub lengthsOk : Setup → Bool
 lengthsOk s = all (lengthTests s)
 

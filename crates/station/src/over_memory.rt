@@ -1,5 +1,5 @@
-// Each call as a step over the memory that holds its state; nothing is checked here. The calls of every octet read and write only
-// what they need of the state; the others unpack it, make the step and pack it again.
+// Each call as a step over the memory that holds its state; nothing of the memory is checked here. The calls of every octet read
+// and write only what they need of the state; the others unpack it, make the step and pack it again.
 use crate::bus;
 use crate::hearing;
 use crate::user;

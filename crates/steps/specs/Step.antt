@@ -1,5 +1,5 @@
 -- Each call as a step over the memory that holds a state: the state is unpacked, the step made and the state packed again. Nothing
--- is checked here.
+-- of the memory is checked here.
 use Prim.Native.Nat.{ℕ}
 use mathlib.Core.List.{List}
 use Rattle.state.specs.declared.answer.Answer.{Answer}

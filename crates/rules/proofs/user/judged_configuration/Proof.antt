@@ -3,12 +3,12 @@ use Rattle.rules.specs.User.{judgedConfiguration}
 use Rattle.rules.proofs.user.judged_configuration.Statement.{statement}
 use Rattle.rules.proofs.user.judged_configuration.Tie as tie
 
-on-sets-requires : tie.Need-on-sets-requires
-on-sets-requires c κs = search needs
+changing-sets-requires : tie.Need-changing-sets-requires
+changing-sets-requires c κs = search needs
 
 returns : tie.Need-returns
 unfolding judgedConfiguration
-returns c = rw (c .before .if1 .taken, c .on-sets .ensures)
+returns c = rw (c .before .if1 .taken, c .changing-sets .ensures)
 
 clear-requires : tie.Need-clear-requires
 clear-requires c κs = search needs
@@ -16,8 +16,8 @@ clear-requires c κs = search needs
 data-exch-requires : tie.Need-data-exch-requires
 data-exch-requires c κs = search needs
 
-on-sets-requires-2 : tie.Need-on-sets-requires-2
-on-sets-requires-2 c κs = search needs
+changing-sets-requires-2 : tie.Need-changing-sets-requires-2
+changing-sets-requires-2 c κs = search needs
 
 returns-2 : tie.Need-returns-2
 unfolding judgedConfiguration
@@ -26,7 +26,7 @@ returns-2 c =
       c .before .before .before .before .if1 .left,
       ← c .before .before .before .clear .ensures,
       c .before .before .if2 .taken,
-      c .on-sets2 .ensures,
+      c .changing-sets2 .ensures,
       c .before .data-exch .ensures,
     )
 
@@ -47,11 +47,11 @@ pub judged-configuration-spec : {M : Type 1} → statement M
 judged-configuration-spec =
     tie.close
     (tie.spec
-    on-sets-requires
+    changing-sets-requires
     returns
     clear-requires
     data-exch-requires
-    on-sets-requires-2
+    changing-sets-requires-2
     returns-2
     entering-wait-prm-requires
     returns-3)

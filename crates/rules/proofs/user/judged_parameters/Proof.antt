@@ -3,18 +3,18 @@ use Rattle.rules.specs.User.{judgedParameters}
 use Rattle.rules.proofs.user.judged_parameters.Statement.{statement}
 use Rattle.rules.proofs.user.judged_parameters.Tie as tie
 
-on-sets-requires : tie.Need-on-sets-requires
-on-sets-requires c κs = search needs
+changing-sets-requires : tie.Need-changing-sets-requires
+changing-sets-requires c κs = search needs
 
 returns : tie.Need-returns
 unfolding judgedParameters
-returns c = rw (c .before .if1 .taken, c .on-sets .ensures)
+returns c = rw (c .before .if1 .taken, c .changing-sets .ensures)
 
 clear-requires : tie.Need-clear-requires
 clear-requires c κs = search needs
 
-on-sets-requires-2 : tie.Need-on-sets-requires-2
-on-sets-requires-2 c κs = search needs
+changing-sets-requires-2 : tie.Need-changing-sets-requires-2
+changing-sets-requires-2 c κs = search needs
 
 returns-2 : tie.Need-returns-2
 unfolding judgedParameters
@@ -23,7 +23,7 @@ returns-2 c =
       c .before .before .before .before .if1 .left,
       ← c .before .before .before .clear .ensures,
       c .before .before .if2 .taken,
-      c .on-sets2 .ensures,
+      c .changing-sets2 .ensures,
     )
 
 entering-wait-prm-requires : tie.Need-entering-wait-prm-requires
@@ -43,10 +43,10 @@ pub judged-parameters-spec : {M : Type 1} → statement M
 judged-parameters-spec =
     tie.close
     (tie.spec
-    on-sets-requires
+    changing-sets-requires
     returns
     clear-requires
-    on-sets-requires-2
+    changing-sets-requires-2
     returns-2
     entering-wait-prm-requires
     returns-3)
