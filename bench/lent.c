@@ -46,7 +46,7 @@ PART void run(const uint8_t *t, size_t octets, uint32_t ticks)
     memcpy(lent, memory, sizeof lent);
     memcpy(called, memory, sizeof called);
     int64_t answer = lent_exchange(lent, sizeof lent, t, 0, t, octets, ticks);
-    expect("the answer of lent_exchange (1: the memory holds a state)", answer, 1);
+    expect("the answer of lent_exchange (1: the memory is well)", answer, 1);
     turn_by_calls(t, 0, ticks);
     turn_by_calls(t, octets, ticks);
     expect_same(octets, ticks);
