@@ -25,7 +25,7 @@ use Rattle.ledger.specs.ReadBack.{Fit}
 use Rattle.ledger.proofs.Exchange.{exchange}
 use Rattle.ledger.proofs.Fit.{step-fit, replies-read}
 use Rattle.ledger.proofs.History.{outputs-read}
-use Rattle.steps.specs.User.{Told}
+use Rattle.steps.specs.Stepped.{Told}
 use Rattle.steps.specs.Step.{step, stepOver}
 use Rattle.steps.specs.Calls.{called, answers}
 use Rattle.agreement.specs.Agreement.{memoryOf, PlacesChanged, Agreement}

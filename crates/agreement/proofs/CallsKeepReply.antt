@@ -32,7 +32,8 @@ use Rattle.state.specs.Start.{noReply}
 use Rattle.steps.specs.Replies.{replyFor, askedFor}
 use Rattle.steps.specs.Reading.{readBy, isIgnored, storedAs, requestBy, answered, completed, beginning, heardAs, heard}
 use Rattle.steps.specs.Bus.{paused, silencedReader, elapsed, sentBy, sendLeft}
-use Rattle.steps.specs.User.{Told, told, refusing, absent, kindAt, takeOutputs, readOctet, writeOctet, handOver, newDiagnosis, judgeParameters, judgeConfiguration, acknowledgeEvents, leaveMaster}
+use Rattle.steps.specs.Stepped.{Told, told, refusing}
+use Rattle.steps.specs.User.{absent, kindAt, takeOutputs, readOctet, writeOctet, handOver, newDiagnosis, judgeParameters, judgeConfiguration, acknowledgeEvents, leaveMaster}
 use Rattle.steps.specs.Step.{step}
 use Rattle.agreement.proofs.Steady.{Allows, ReplySteady, Related}
 use Rattle.state.proofs.Choice.{by-test}

@@ -26,7 +26,8 @@ use Rattle.ledger.specs.User.{octetsOfKind, writtenOctet}
 use Rattle.ledger.specs.Calls as ledger-calls
 use Rattle.rules.specs.Call.{read, write}
 use Rattle.steps.specs.Replies.{ownPlace, userPlace}
-use Rattle.steps.specs.User.{refusing, absent, kindAt, readOctet, writeOctet}
+use Rattle.steps.specs.Stepped.{refusing}
+use Rattle.steps.specs.User.{absent, kindAt, readOctet, writeOctet}
 use Rattle.steps.specs.Step.{step}
 use Rattle.agreement.proofs.Relation.{InputsAgree, SetsAgree, DiagnosesAgree, Agrees, Matches}
 use Rattle.agreement.proofs.Steady.{SetsFit, Steady, Related}

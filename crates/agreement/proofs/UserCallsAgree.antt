@@ -32,7 +32,8 @@ use Rattle.rules.specs.Call.{take, hand-over, new-diagnosis, judge-parameters, 
 use Rattle.state.specs.With.{withControl, withOutputs}
 use Rattle.steps.specs.Line.{busy, diagnosisLeaves}
 use Rattle.steps.specs.Outcome.{isOpen, diagnosisChanged}
-use Rattle.steps.specs.User.{told, refusing, takeOutputs, handOver, newDiagnosis, judgeParameters, judgeConfiguration, acknowledgeEvents, leaveMaster}
+use Rattle.steps.specs.Stepped.{told, refusing}
+use Rattle.steps.specs.User.{takeOutputs, handOver, newDiagnosis, judgeParameters, judgeConfiguration, acknowledgeEvents, leaveMaster}
 use Rattle.steps.specs.Step.{step}
 use Rattle.agreement.proofs.Relation.{SetsAgree, Agrees, Matches}
 use Rattle.agreement.proofs.Steady.{Related}

@@ -18,7 +18,8 @@ use Rattle.state.proofs.Tests.{all-at}
 use Rattle.rules.specs.Kinds.{kindLength, inRange, writable}
 use Rattle.steps.specs.Safe.{Safe}
 use Rattle.steps.specs.Replies.{userPlace}
-use Rattle.steps.specs.User.{told, refusing, absent, kindAt, writeOctet}
+use Rattle.steps.specs.Stepped.{told, refusing}
+use Rattle.steps.specs.User.{absent, kindAt, writeOctet}
 use Rattle.steps.proofs.KeepsSafe.{user-in}
 
 -- an octet lies behind the state and in the memory

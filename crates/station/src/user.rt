@@ -30,7 +30,8 @@ ghost use lib.Dec.{leb};
 ghost use Rattle.state.specs.Memory.{Holds};
 ghost use Rattle.state.specs.Unpack.{unpacked};
 ghost use Rattle.steps.specs.Safe.{Safe};
-ghost use Rattle.steps.specs.User.{Tells, told, refusing, absent, kindAt, takeOutputs, readOctet, writeOctet, handOver, newDiagnosis, judgeParameters, judgeConfiguration, acknowledgeEvents, leaveMaster};
+ghost use Rattle.steps.specs.Stepped.{Tells, told, refusing};
+ghost use Rattle.steps.specs.User.{absent, kindAt, takeOutputs, readOctet, writeOctet, handOver, newDiagnosis, judgeParameters, judgeConfiguration, acknowledgeEvents, leaveMaster};
 
 // What a call answers, and the state after it.
 pub struct UserStep {

@@ -19,7 +19,8 @@ use Rattle.rules.specs.Call.{Call}
 use Rattle.steps.specs.Safe.{Safe}
 use Rattle.steps.specs.Outcome.{isOpen}
 use Rattle.steps.specs.Line.{diagnosisLeaves}
-use Rattle.steps.specs.User.{absent, Told, told, refusing, takeOutputs, readOctet, writeOctet, handOver, newDiagnosis, judgeParameters, judgeConfiguration, acknowledgeEvents, leaveMaster}
+use Rattle.steps.specs.User.{absent, takeOutputs, readOctet, writeOctet, handOver, newDiagnosis, judgeParameters, judgeConfiguration, acknowledgeEvents, leaveMaster}
+use Rattle.steps.specs.Stepped.{Told, told, refusing}
 use Rattle.steps.specs.Step.{step, packed, stepOver}
 
 -- ---- a memory that holds a state

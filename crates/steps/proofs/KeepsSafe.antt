@@ -25,6 +25,7 @@ use Rattle.state.specs.declared.state.Reply.{Reply}
 use Rattle.state.specs.declared.state.Sets.{Sets}
 use Rattle.state.specs.declared.state.State.{State}
 use Rattle.state.specs.Layout.{outputs, parameters, countOf, lengthOf, startOf, outputsAt, parametersAt, getCfgAt}
+use Rattle.state.proofs.Choice.{either}
 use Rattle.state.proofs.Places.{inside, get-cfg-inside}
 use Rattle.rules.specs.declared.outcome.OutputsDeed.{OutputsDeed}
 use Rattle.rules.specs.declared.outcome.OutputsDeed.the-variants as outputs-deed
@@ -36,7 +37,7 @@ use Rattle.rules.specs.Requests.{masterOf}
 use Rattle.rules.specs.Line.{clearNoted, ticked}
 use Rattle.rules.specs.Diagnosis.{delayed, caughtUp}
 use Rattle.steps.specs.Safe.{Safe}
-use Rattle.steps.specs.Stepped.{Stepped, Steps, unchanged}
+use Rattle.steps.specs.Stepped.{Stepped, Steps}
 use Rattle.state.specs.With.{withOutputs, withInputs, withIncoming, withReply}
 use Rattle.state.specs.Start.{noReply}
 use Rattle.steps.specs.Replies.{ownPlace, userPlace, replyFor, askedFor}
@@ -86,11 +87,6 @@ Safely r = Safe (r .state) (r .memory)
 -- a step's promise carries it to the code's state and memory
 pub safe-steps : (r : Stepped) (s : State) (m : List ℕ) → Steps r s m → Safely r → Safe s m
 safe-steps r s m e h = rw (e .states, e .leaves) h
-
--- one of two steps
-safe-cond : (t : Bool) (a b : Stepped) → Safely a → Safely b → Safely (cond t a b)
-safe-cond true a b h g = h
-safe-cond false a b h g = g
 
 -- ---- a memory of the same length
 
@@ -231,7 +227,7 @@ safe-completed s m r h =
 pub safe-heard-as : (x : Status) (s : State) (m : List ℕ) (r : Reader) (b : ℕ) → Safe s m → Safely (heardAs x s m r b)
 safe-heard-as Fresh s m r b h = h
 safe-heard-as Inside s m r b h =
-    safe-cond (begun s) (storedAs (datumOf (s .incoming .reader)) s m r b) (settle (beginning s r) m)
+    either Safely (begun s)
     (safe-stored-as (datumOf (s .incoming .reader)) s m r b h)
     (safe-settle (beginning s r) m (safe-beginning s m r h))
 safe-heard-as Complete s m r b h = safe-settle (completed s m r .state) (completed s m r .memory) (safe-completed s m r h)
@@ -240,9 +236,7 @@ safe-heard-as Broken s m r b h = safe-settle (readBy s off) m (safe-read-by s m 
 pub safe-heard : (s : State) (m : List ℕ) (b : ℕ) (bad : Bool) → Safe s m → Safely (heard s m b bad)
 unfolding heard
 safe-heard s m b bad h =
-    safe-cond (isIgnored (status (s .incoming .reader))) (unchanged s m)
-    (heardAs (status (readerAfter (s .incoming .reader) b bad)) s m (readerAfter (s .incoming .reader) b bad) b)
-    h
+    either Safely (isIgnored (status (s .incoming .reader))) h
     (safe-heard-as (status (readerAfter (s .incoming .reader) b bad)) s m (readerAfter (s .incoming .reader) b bad) b h)
 
 -- ---- a gap, an octet sent and a Tick
@@ -255,7 +249,7 @@ pub safe-send-left : (s : State) (m : List ℕ) → Safe s m → Safely (sendLef
 unfolding sendLeft
 safe-send-left s m h =
     let r : Reply = sentBy (s .reply) (sent (s .reply .sender) (askedFor s m) .sender) in
-    safe-cond (left (s .reply .sender)) (settle (withReply s r) m) (unchanged s m)
+    either Safely (left (s .reply .sender))
     (safe-settle (withReply s r) m (safe-reply s m r (h .reply) h))
     h
 
@@ -263,6 +257,6 @@ pub safe-elapsed : (s : State) (m : List ℕ) → Safe s m → Safely (elapsed s
 unfolding elapsed
 safe-elapsed s m h =
     let r : Reader = silencedReader (begun s) (s .incoming .reader) in
-    safe-cond (s .control .noted) (settle (beginning s r) m) (carried s m (ticked (busy s) (s .control)) 0)
+    either Safely (s .control .noted)
     (safe-settle (beginning s r) m (safe-beginning s m r h))
     (safe-carried s m (ticked (busy s) (s .control)) 0 h)

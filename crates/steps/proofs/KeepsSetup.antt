@@ -29,7 +29,8 @@ use Rattle.state.specs.Start.{noReply}
 use Rattle.steps.specs.Replies.{askedFor}
 use Rattle.steps.specs.Reading.{storedAs, readBy, requestBy, outcomeOf, answered, completed, beginning, isIgnored, heardAs, heard}
 use Rattle.steps.specs.Bus.{paused, sentBy, sendLeft, silencedReader, elapsed}
-use Rattle.steps.specs.User.{Told, absent, takeOutputs, readOctet, writeOctet, handOver, newDiagnosis, judgeParameters, judgeConfiguration, acknowledgeEvents, leaveMaster}
+use Rattle.steps.specs.Stepped.{Told}
+use Rattle.steps.specs.User.{absent, takeOutputs, readOctet, writeOctet, handOver, newDiagnosis, judgeParameters, judgeConfiguration, acknowledgeEvents, leaveMaster}
 use Rattle.steps.specs.Step.{step}
 use Rattle.steps.proofs.KeepsSafe.{on-memory-length, stored-data-length, safe-after-reply, safe-read-by, safe-reply, safe-no-reply, safe-completed, safe-beginning}
 

@@ -11,7 +11,8 @@ use Rattle.state.specs.Unpack.{unpacked}
 use Rattle.rules.specs.Call.{Call, octet, gap, send, tick, take, read, write, hand-over, new-diagnosis, judge-parameters, judge-configuration, events, acknowledge, pending, leave}
 use Rattle.steps.specs.Reading.{heard}
 use Rattle.steps.specs.Bus.{paused, sendTold, sendLeft, elapsed}
-use Rattle.steps.specs.User.{Told, toldOf, takeOutputs, readOctet, writeOctet, handOver, newDiagnosis, judgeParameters, judgeConfiguration, eventWord, acknowledgeEvents, pendingEvent, leaveMaster}
+use Rattle.steps.specs.Stepped.{Told, toldOf}
+use Rattle.steps.specs.User.{takeOutputs, readOctet, writeOctet, handOver, newDiagnosis, judgeParameters, judgeConfiguration, eventWord, acknowledgeEvents, pendingEvent, leaveMaster}
 
 -- the step that a call makes on the unpacked state
 abbrev pub step : State → List ℕ → Call → Told

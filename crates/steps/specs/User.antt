@@ -2,14 +2,10 @@
 use Prim.Native.Nat.{ℕ, _+_}
 use mathlib.Core.Bool.{Bool, cond, not, _&&_, _||_}
 use mathlib.Core.List.{List}
-use mathlib.Core.Path.{_≡_}
 use lib.Dec.{eqb, leb}
 use lib.ListN.{getD, set}
 use Rattle.buffers.specs.Events.{acknowledged, pendingOf}
 use Rattle.buffers.specs.Triple.{heldOf, taken, handedOver}
-use Rattle.state.specs.declared.answer.Answer.{Answer}
-use Rattle.state.specs.declared.answer.Answer.the-variants.{Value, Refused}
-use Rattle.state.specs.declared.answer.Refusal.{Refusal}
 use Rattle.state.specs.declared.answer.Refusal.the-variants.{Judging, Range, Absent, Delayed}
 use Rattle.state.specs.declared.state.State.{State}
 use Rattle.state.specs.Layout.{outputsAt, inputsAt, parametersAt, configurationAt, diagnosisAt}
@@ -20,28 +16,10 @@ use Rattle.rules.specs.Line.{clearOn}
 use Rattle.rules.specs.User.{judgedParameters, judgedConfiguration}
 use Rattle.rules.specs.Kinds.{inRange, writable}
 use Rattle.state.specs.With.{withControl, withOutputs, withInputs}
-use Rattle.steps.specs.Stepped.{Stepped}
+use Rattle.steps.specs.Stepped.{Told, told, refusing, toldOf}
 use Rattle.steps.specs.Line.{busy, diagnosisLeaves}
 use Rattle.steps.specs.Outcome.{isOpen, diagnosisChanged, carried}
 use Rattle.steps.specs.Replies.{userPlace}
-
--- what a call answers, and what it leaves
-pub record Told : Type 0 where
-  pub answer : Answer
-  pub state : State
-  pub memory : List ℕ
-
--- a call that answers a value
-abbrev pub told : ℕ → State → List ℕ → Told
-told n s m = record { answer = Value n; state = s; memory = m }
-
--- a refused call answers its number and changes nothing
-abbrev pub refusing : Refusal → State → List ℕ → Told
-refusing why s m = record { answer = Refused why; state = s; memory = m }
-
--- a step that answers a value
-abbrev pub toldOf : ℕ → Stepped → Told
-toldOf n r = told n (r .state) (r .memory)
 
 -- take outputs: 0 nothing new; 1 new; 2 new, zeros published by the station; the last two change next and held
 unfoldable pub takeOutputs : State → List ℕ → Told
@@ -120,9 +98,3 @@ pendingEvent s m = told (pendingOf (s .control .events)) s m
 -- leave master: a clear
 unfoldable pub leaveMaster : State → List ℕ → Told
 leaveMaster s m = toldOf 0 (carried s m (clearOn (busy s) (s .control)) 0)
-
--- the answer a, the state x and the memory n after the call are those
-pub record Tells (t : Told) (a : Answer) (x : State) (n : List ℕ) : Type 0 where
-  pub answers : a ≡ t .answer
-  pub states : x ≡ t .state
-  pub leaves : n ≡ t .memory
