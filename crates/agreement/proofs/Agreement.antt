@@ -12,7 +12,7 @@ use Rattle.state.specs.Answer.{Called}
 use Rattle.state.specs.Memory.{Holds, kept}
 use Rattle.state.specs.Layout.{stateLength}
 use Rattle.state.specs.Start.{initialState, laidOut}
-use Rattle.steps.specs.Calls.{started}
+use Rattle.steps.specs.Calls.{started, called, answers}
 use Rattle.state.proofs.Damage.{kept-holds}
 use Rattle.state.proofs.Front.{kept-length}
 use Rattle.state.proofs.LaidOut.{laid-holds, laid-length}
@@ -27,7 +27,6 @@ use Rattle.ledger.proofs.Fit.{step-fit, replies-read}
 use Rattle.ledger.proofs.History.{outputs-read}
 use Rattle.steps.specs.Stepped.{Told}
 use Rattle.steps.specs.Step.{step, stepOver}
-use Rattle.steps.specs.Calls.{called, answers}
 use Rattle.agreement.specs.Agreement.{memoryOf, PlacesChanged, Agreement}
 use Rattle.agreement.proofs.Steady.{Related}
 use Rattle.agreement.proofs.StartAgrees.{start-related}

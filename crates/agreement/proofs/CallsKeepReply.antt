@@ -25,14 +25,13 @@ use Rattle.ledger.specs.Ledger.{Ledger}
 use Rattle.rules.specs.Kinds.{inRange, writable}
 use Rattle.rules.specs.Call.{Call, gap, tick, take, read, write, hand-over, new-diagnosis, judge-parameters, judge-configuration, events, acknowledge, pending, leave, octet, send}
 use Rattle.state.specs.With.{withControl, withOutputs, withReply}
-use Rattle.steps.specs.Stepped.{Stepped, unchanged}
+use Rattle.steps.specs.Stepped.{Stepped, unchanged, Told, told, refusing}
 use Rattle.steps.specs.Line.{begun, busy, diagnosisLeaves}
 use Rattle.steps.specs.Outcome.{isOpen, diagnosisChanged, carried, afterReply, settle}
 use Rattle.state.specs.Start.{noReply}
 use Rattle.steps.specs.Replies.{replyFor, askedFor}
 use Rattle.steps.specs.Reading.{readBy, isIgnored, storedAs, requestBy, answered, completed, beginning, heardAs, heard}
 use Rattle.steps.specs.Bus.{paused, silencedReader, elapsed, sentBy, sendLeft}
-use Rattle.steps.specs.Stepped.{Told, told, refusing}
 use Rattle.steps.specs.User.{absent, kindAt, takeOutputs, readOctet, writeOctet, handOver, newDiagnosis, judgeParameters, judgeConfiguration, acknowledgeEvents, leaveMaster}
 use Rattle.steps.specs.Step.{step}
 use Rattle.agreement.proofs.Steady.{Allows, ReplySteady, Related}

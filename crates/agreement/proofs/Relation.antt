@@ -19,8 +19,7 @@ use Rattle.ledger.specs.Lists.{some, Outputs, Inputs, Sets, Diagnoses}
 use Rattle.ledger.specs.Ledger.{Line, Ledger}
 use Rattle.ledger.specs.User as ledger-user
 use Rattle.steps.specs.Safe.{Safe}
-use Rattle.steps.specs.Stepped.{Stepped}
-use Rattle.steps.specs.Stepped.{Told}
+use Rattle.steps.specs.Stepped.{Stepped, Told}
 use Rattle.rules.specs.Replies.{diagnoses}
 use Rattle.steps.specs.Replies.{ownPlace, userPlace, datumAt}
 use Rattle.steps.specs.Reading.{isIgnored}

@@ -30,10 +30,9 @@ use Rattle.rules.specs.Diagnosis.{headerOf}
 use Rattle.ledger.specs.Lists.{Buffers}
 use Rattle.ledger.specs.Ledger.{Line}
 use Rattle.ledger.specs.Replies.{headerOctets, diagnosisOctets, serviceReply, replyOf}
-use Rattle.rules.specs.Replies.{diagnoses}
+use Rattle.rules.specs.Replies.{diagnoses, exchangeFc}
 use Rattle.steps.specs.Safe.{Safe}
 use Rattle.state.specs.With.{withReply}
-use Rattle.rules.specs.Replies.{exchangeFc}
 use Rattle.steps.specs.Replies.{servicing, replyFor, ownPlace, headerAt, contentAt, datumAt}
 use Rattle.agreement.proofs.Relation.{ReplyAgrees}
 use Rattle.steps.proofs.KeepsSafe.{own-in}

@@ -7,14 +7,13 @@ use lib.ListN.{length, getD}
 use Rattle.state.specs.declared.answer.Answer.{Answer}
 use Rattle.state.specs.declared.answer.Answer.the-variants.{Value}
 use Rattle.state.specs.declared.setup.Setup.{Setup}
-use Rattle.steps.specs.Calls.{started}
+use Rattle.steps.specs.Calls.{started, answers}
 use Rattle.ledger.specs.Ledger.{fresh}
 use Rattle.ledger.specs.Calls as ledger
 use Rattle.rules.specs.Call.{Call, octet, read}
 use Rattle.ledger.specs.Calls.{after}
 use Rattle.ledger.specs.Exchange.{Inner, ofUser}
 use Rattle.ledger.specs.History.{readable, history}
-use Rattle.steps.specs.Calls.{answers}
 
 -- the memory after Start
 abbrev pub memoryOf : List ℕ → Setup → List ℕ → List ℕ

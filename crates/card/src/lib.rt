@@ -4,10 +4,9 @@ ghost use mathlib.Core.Bool.{not};
 ghost use lib.Dec.{eqb};
 ghost use lib.ListN.{length};
 ghost use Rattle.state.specs.Start.{given};
-ghost use Rattle.steps.specs.Calls.{started};
+ghost use Rattle.steps.specs.Calls.{started, called};
 ghost use Rattle.rules.specs.Call.{gap, send, tick, take, read, write, hand-over, new-diagnosis, judge-parameters, judge-configuration, events, acknowledge, pending, leave};
 ghost use Rattle.rules.specs.Call as call;
-ghost use Rattle.steps.specs.Calls.{called};
 ghost use Rattle.card.specs.Exports.{Returns};
 
 // Start: sets the station up in the memory. 0, or refused by 1 to 4.

@@ -15,9 +15,9 @@ use Rattle.state.specs.Image.{image}
 use Rattle.state.specs.Layout.{stateLength}
 use Rattle.state.specs.Memory.{kept, Holds}
 use Rattle.state.specs.Start.{initialState}
-use Rattle.steps.specs.Calls.{started}
+use Rattle.steps.specs.Calls.{started, wellMemory, called, answers}
 use Rattle.state.specs.Unpack.{unpacked}
-use Rattle.state.proofs.Damage.{holds-unpacked, kept-holds}
+use Rattle.state.proofs.Damage.{holds-unpacked, kept-holds, fronted-same}
 use Rattle.state.proofs.Front.{kept-drop, kept-length}
 use Rattle.ledger.specs.Ledger.{Ledger, fresh}
 use Rattle.rules.specs.Call as call
@@ -27,12 +27,10 @@ use Rattle.ledger.specs.Calls.{after}
 use Rattle.ledger.proofs.Runs as ledger-runs
 use Rattle.steps.specs.Safe.{Safe}
 use Rattle.steps.specs.Step.{stepOver}
-use Rattle.steps.specs.Calls.{wellMemory, called, answers}
 use Rattle.agreement.specs.Agreement.{memoryOf}
 use Rattle.steps.proofs.KeepsSafe.{safe-heard, safe-paused, safe-elapsed}
 use Rattle.steps.proofs.KeepsSetup.{step-keeps}
 use Rattle.steps.proofs.Holding.{holds-safe, step-whole}
-use Rattle.state.proofs.Damage.{fronted-same}
 use Rattle.steps.proofs.Guarded.{LengthIn, holds-well, called-steps}
 use Rattle.agreement.proofs.Agreement.{Ready, does, calls-of, ready-again, begins-ready, agreement}
 use Rattle.lent.specs.Run.{Beat, octet, gap, tick, beat, runBeats, callOf, calls, memoryAfter, Same, CarriesOver}

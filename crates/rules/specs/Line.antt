@@ -6,9 +6,8 @@ use Rattle.buffers.specs.Events.{watchdogEvent}
 use Rattle.state.specs.declared.control.Control.{Control}
 use Rattle.state.specs.declared.state.Drawn.the-variants.{Nothing}
 use Rattle.rules.specs.declared.outcome.Outcome.{Outcome}
-use Rattle.rules.specs.Control.{withNoted, withWatchdog, raise}
+use Rattle.rules.specs.Control.{withNoted, withWatchdog, raise, inWaitPrm}
 use Rattle.rules.specs.Phases.{drawing, enteringWaitPrm}
-use Rattle.rules.specs.Control.{inWaitPrm}
 
 -- a clear enters WAIT_PRM, and none is noted any more
 abbrev pub clearing : Control → Outcome

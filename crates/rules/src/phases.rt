@@ -8,8 +8,7 @@ use state::control::Phase;
 use state::control::Watchdog;
 use state::state::Drawn;
 ghost use mathlib.Core.Path.{_≡_};
-ghost use Rattle.rules.specs.Control.{exchanging, withPhase};
-ghost use Rattle.rules.specs.Control.{inWaitPrm};
+ghost use Rattle.rules.specs.Control.{exchanging, withPhase, inWaitPrm};
 ghost use Rattle.rules.specs.Phases.{drawing, leftExchange, waitPrm, enteringWaitPrm, waitCfg, zerosIfLeft, dataExch};
 
 // Whether the phase is DATA_EXCH.

@@ -22,14 +22,13 @@ use Rattle.state.specs.Layout.{stateLength, countOf, startOf, outputs, paramete
 use Rattle.state.specs.Memory.{kept, Holds}
 use Rattle.state.specs.Unpack.{unpacked}
 use Rattle.state.specs.With.{withIncoming, withData}
-use Rattle.state.proofs.Damage.{holds-unpacked}
+use Rattle.state.proofs.Damage.{holds-unpacked, fronted-same}
 use Rattle.state.proofs.Places.{inside}
 use Rattle.steps.specs.Stepped.{Steps, unchanged, packedAfter}
 use Rattle.steps.specs.Line.{isInside}
 use Rattle.steps.specs.Outcome.{settle}
 use Rattle.steps.specs.Reading.{storedData, keptOctets, storedAs, readOn, readBy, beginning, heardAs, isIgnored, isPlain, heard}
 use Rattle.steps.proofs.Holding.{holds-safe}
-use Rattle.state.proofs.Damage.{fronted-same}
 use Rattle.telegram.proofs.Onward.{data-inside, data-goes-on, data-changes}
 use Rattle.steps.proofs.KeepsSafe.{stored-data-length}
 use Rattle.state.proofs.Choice.{and-left, and-right}

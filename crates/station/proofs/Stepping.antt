@@ -12,8 +12,7 @@ use Rattle.state.specs.Memory.{kept, Holds}
 use Rattle.state.specs.Unpack.{unpacked}
 use Rattle.rules.specs.Call as calls
 use Rattle.rules.specs.Call.{Call}
-use Rattle.steps.specs.Stepped.{Stepped, Steps, packedAfter}
-use Rattle.steps.specs.Stepped.{toldOf, Tells}
+use Rattle.steps.specs.Stepped.{Stepped, Steps, packedAfter, toldOf, Tells}
 use Rattle.steps.specs.User.{writeOctet}
 use Rattle.steps.specs.Step.{step, stepOver}
 use Rattle.steps.proofs.Holding.{holds-safe, step-whole}

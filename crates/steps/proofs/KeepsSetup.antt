@@ -22,14 +22,13 @@ use Rattle.rules.specs.Kinds.{inRange, writable}
 use Rattle.rules.specs.Call.{Call, octet, gap, send, tick, take, read, write, hand-over, new-diagnosis, judge-parameters, judge-configuration, events, acknowledge, pending, leave}
 use Rattle.state.specs.With.{withReply}
 use Rattle.steps.specs.Safe.{Safe}
-use Rattle.steps.specs.Stepped.{Stepped}
+use Rattle.steps.specs.Stepped.{Stepped, Told}
 use Rattle.steps.specs.Line.{begun, busy, diagnosisLeaves}
 use Rattle.steps.specs.Outcome.{isOpen, carried, afterReply, settle}
 use Rattle.state.specs.Start.{noReply}
 use Rattle.steps.specs.Replies.{askedFor}
 use Rattle.steps.specs.Reading.{storedAs, readBy, requestBy, outcomeOf, answered, completed, beginning, isIgnored, heardAs, heard}
 use Rattle.steps.specs.Bus.{paused, sentBy, sendLeft, silencedReader, elapsed}
-use Rattle.steps.specs.Stepped.{Told}
 use Rattle.steps.specs.User.{absent, takeOutputs, readOctet, writeOctet, handOver, newDiagnosis, judgeParameters, judgeConfiguration, acknowledgeEvents, leaveMaster}
 use Rattle.steps.specs.Step.{step}
 use Rattle.steps.proofs.KeepsSafe.{on-memory-length, stored-data-length, safe-after-reply, safe-read-by, safe-reply, safe-no-reply, safe-completed, safe-beginning}
