@@ -30,7 +30,8 @@
 --   StartAgrees: behind a setup that Start laid out both sides are related
 --   EveryCallAgrees: every call is told alike and leaves both sides related
 --   PackedAgrees: the state packed in front of the memory again: both sides still agree, and the state is sound
---   Agreement: one step over a memory does what the ledger does; with the check in front, every list of calls: the theorem
+--   StepAgrees: one step over a memory that holds a state does what the ledger does
+--   Agreement: with the check in front, the same of every list of calls over the lent memory: the theorem
 mod Relation
 mod Steady
 mod OtherBuffersStay
@@ -56,4 +57,5 @@ mod CallsKeepReply
 mod StartAgrees
 mod EveryCallAgrees
 mod PackedAgrees
+pub mod StepAgrees
 pub mod Agreement
