@@ -12,7 +12,7 @@ use borrow.Author.Tests.{ltb-true, ltb-false, eq-eqb, ne-eqb}
 use Rattle.octets.specs.Part.{part, storedIn}
 use Rattle.octets.proofs.Parts.{stored-next, stored-length, stored-apart, stored-past}
 use Rattle.state.specs.declared.setup.Setup.{Setup}
-use Rattle.state.specs.Layout.{countOf, lengthOf, startOf}
+use Rattle.state.specs.Layout.{rowCount, rowLength, startOf}
 use Rattle.state.proofs.Places.{in-front, apart}
 use Rattle.agreement.proofs.Relation.{BeginsWith}
 use Rattle.agreement.proofs.OtherBuffersStay.{Elsewhere}
@@ -53,14 +53,14 @@ kept-octet ds b i x h g = go (ltb i (length ds)) refl
         rw (eq-eqb (length ds) i v) (sym (ap (λ (j : ℕ). getD (ds ++ b ∷ []) j 0) (sym v) ∙ getD-append-seam ds b [] 0))
 
 -- a store in a buffer changes the memory there alone
-pub stored-elsewhere : (g : Setup) (m : List ℕ) (a i k octet : ℕ) → i < countOf a
-    → Elsewhere g a i m (storedIn m (startOf g a i) (lengthOf g a) k octet)
+pub stored-elsewhere : (g : Setup) (m : List ℕ) (a i k octet : ℕ) → i < rowCount a
+    → Elsewhere g a i m (storedIn m (startOf g a i) (rowLength g a) k octet)
 unfolding startOf
 stored-elsewhere g m a i k octet h = record {
-  long = stored-length m (startOf g a i) (lengthOf g a) k octet;
+  long = stored-length m (startOf g a i) (rowLength g a) k octet;
   other = λ b j n hj hn d.
-      stored-apart m (startOf g a i) (lengthOf g a) k octet (startOf g b j) n (apart g a i (lengthOf g a) b j n h hj (omega arith) hn d);
+      stored-apart m (startOf g a i) (rowLength g a) k octet (startOf g b j) n (apart g a i (rowLength g a) b j n h hj (omega arith) hn d);
   later = λ b j n o.
-      let u = in-front g a b i (lengthOf g a) o h (omega arith) in
-      stored-apart m (startOf g a i) (lengthOf g a) k octet (startOf g b j) n (inr (omega arith));
+      let u = in-front g a b i (rowLength g a) o h (omega arith) in
+      stored-apart m (startOf g a i) (rowLength g a) k octet (startOf g b j) n (inr (omega arith));
 }

@@ -13,7 +13,7 @@ use Rattle.telegram.specs.declared.reader.Status.the-variants.{Broken}
 use Rattle.telegram.specs.Reading.{start, readerStep, run, status, takesData, gathered}
 use Rattle.telegram.proofs.Gather.{gather-snoc}
 use Rattle.state.specs.declared.state.State.{State}
-use Rattle.state.specs.Layout.{outputs, parameters, configuration, countOf, lengthOf, startOf}
+use Rattle.state.specs.Layout.{outputRow, parameterRow, configurationRow, rowCount, rowLength, startOf}
 use Rattle.state.proofs.Places.{inside}
 use Rattle.steps.specs.Safe.{Safe}
 use Rattle.state.specs.With.{withIncoming}
@@ -54,17 +54,17 @@ gathered-more s m q ds b f o g =
     record {
       outputs = λ h.
           let plain : r .da < 128 = omega arith in
-          rw (lt-ltb (r .da) 128 plain) (begins-more m _ _ ds b (fits outputs (fillOf (s .outputs .set .place)) (f .outputs .fill-in)) (g .outputs plain));
+          rw (lt-ltb (r .da) 128 plain) (begins-more m _ _ ds b (fits outputRow (fillOf (s .outputs .set .place)) (f .outputs .fill-in)) (g .outputs plain));
       parameters = λ h e.
           let marked : 128 ≤ r .da = omega arith in
           let point : r .dsap ≡ 61 = omega arith in
           rw (le-ltb (r .da) 128 marked, eq-eqb (r .dsap) 61 point)
-          (begins-more m _ _ ds b (fits parameters (fillOf (s .parameters .set .place)) (f .parameters .fill-in)) (g .parameters marked point));
+          (begins-more m _ _ ds b (fits parameterRow (fillOf (s .parameters .set .place)) (f .parameters .fill-in)) (g .parameters marked point));
       configuration = λ h e.
           let marked : 128 ≤ r .da = omega arith in
           let point : r .dsap ≡ 62 = omega arith in
           rw (le-ltb (r .da) 128 marked, point)
-          (begins-more m _ _ ds b (fits configuration (fillOf (s .configuration .set .place)) (f .configuration .fill-in)) (g .configuration marked point));
+          (begins-more m _ _ ds b (fits configurationRow (fillOf (s .configuration .set .place)) (f .configuration .fill-in)) (g .configuration marked point));
       first = kept-octet ds b 0 (s .incoming .first) (g .first);
       second = kept-octet ds b 1 (s .incoming .second) (g .second);
     }
@@ -72,8 +72,8 @@ gathered-more s m q ds b f o g =
     r : Reader
     r = s .incoming .reader
 
-    fits : (a i : ℕ) → i < countOf a → startOf (s .setup) a i + lengthOf (s .setup) a ≤ length m
-    fits a i h = let u = inside (s .setup) a i (lengthOf (s .setup) a) h (omega arith) in let v = f .room in omega arith
+    fits : (a i : ℕ) → i < rowCount a → startOf (s .setup) a i + rowLength (s .setup) a ≤ length m
+    fits a i h = let u = inside (s .setup) a i (rowLength (s .setup) a) h (omega arith) in let v = f .room in omega arith
 
 -- an octet that is no data came, and did not break off
 pub gathered-on : (s : State) (m : List ℕ) (xs : List ℕ) (b : ℕ) → s .incoming .reader ≡ run xs → takesData (run xs) ≡ false

@@ -12,33 +12,33 @@ use Rattle.octets.specs.Part.{part, pasted}
 use Rattle.octets.proofs.Parts.{pasted-length, pasted-apart, part-set-outside}
 use Rattle.state.specs.declared.setup.Setup.{Setup}
 use Rattle.state.specs.declared.state.Sets as station-sets
-use Rattle.state.specs.Layout.{inputs, diagnosis, getCfg, countOf, lengthOf, startOf, endOf, inputsAt, diagnosisAt, getCfgAt}
+use Rattle.state.specs.Layout.{inputRow, diagnosisRow, getCfgRow, rowCount, rowLength, startOf, endOf, inputsAt, diagnosisAt, getCfgAt}
 use Rattle.state.proofs.Places.{first-start, in-front, inside, apart}
 use Rattle.ledger.specs.Lists.{Inputs, Sets, Diagnoses}
 use Rattle.steps.specs.Replies.{ownPlace, userPlace}
 use Rattle.steps.proofs.KeepsSafe.{own-in, user-in}
 use Rattle.agreement.proofs.Relation.{InputsAgree, SetsAgree, DiagnosesAgree}
 
--- m′ is m but for the buffer i of the kind a
+-- m′ is m but for the buffer i of the row a
 pub record Elsewhere (g : Setup) (a i : ℕ) (m m′ : List ℕ) : Type 0 where
   pub long : length m′ ≡ length m
   -- another buffer
-  pub other : (b j k : ℕ) → j < countOf b → k ≤ lengthOf g b → (a ≡ b → i ≡ j → ⊥) → part m′ (startOf g b j) k ≡ part m (startOf g b j) k
-  -- and all that begins with a later kind
+  pub other : (b j k : ℕ) → j < rowCount b → k ≤ rowLength g b → (a ≡ b → i ≡ j → ⊥) → part m′ (startOf g b j) k ≡ part m (startOf g b j) k
+  -- and all that begins with a later row
   pub later : (b j k : ℕ) → a < b → part m′ (startOf g b j) k ≡ part m (startOf g b j) k
 
 -- nothing changed
 pub same-elsewhere : {g : Setup} {a i : ℕ} {m : List ℕ} → Elsewhere g a i m m
 same-elsewhere = record { long = refl; other = λ b j k _ _ _. refl; later = λ b j k _. refl }
 
-module _ (g : Setup) (m : List ℕ) (a i : ℕ) (room : endOf g ≤ length m) (there : i < countOf a) where
-  -- a buffer ends in front of every later kind
-  front : (b j n : ℕ) → n ≤ lengthOf g a → a < b → startOf g a i + n ≤ startOf g b j
+module _ (g : Setup) (m : List ℕ) (a i : ℕ) (room : endOf g ≤ length m) (there : i < rowCount a) where
+  -- a buffer ends in front of every later row
+  front : (b j n : ℕ) → n ≤ rowLength g a → a < b → startOf g a i + n ≤ startOf g b j
   unfolding startOf
   front b j n h o = let u = in-front g a b i n o there h in omega arith
 
   -- a list written into the buffer
-  pub pasted-elsewhere : (xs : List ℕ) → length xs ≤ lengthOf g a → Elsewhere g a i m (pasted m (startOf g a i) xs)
+  pub pasted-elsewhere : (xs : List ℕ) → length xs ≤ rowLength g a → Elsewhere g a i m (pasted m (startOf g a i) xs)
   pasted-elsewhere xs h =
       let u = inside g a i (length xs) there h in
       record {
@@ -48,14 +48,14 @@ module _ (g : Setup) (m : List ℕ) (a i : ℕ) (room : endOf g ≤ length m) (t
       }
 
   -- an octet written into it
-  pub set-elsewhere : (index x : ℕ) → index < lengthOf g a → Elsewhere g a i m (set m (startOf g a i + index) x)
+  pub set-elsewhere : (index x : ℕ) → index < rowLength g a → Elsewhere g a i m (set m (startOf g a i + index) x)
   set-elsewhere index x h = record {
     long = length-set m (startOf g a i + index) x;
-    other = λ b j k hj hk d. part-set-outside m (startOf g b j) k (startOf g a i + index) x (go (startOf g b j) k (apart g a i (lengthOf g a) b j k there hj (omega arith) hk d));
-    later = λ b j k o. part-set-outside m (startOf g b j) k (startOf g a i + index) x (inl (let u = front b j (lengthOf g a) (omega arith) o in omega arith));
+    other = λ b j k hj hk d. part-set-outside m (startOf g b j) k (startOf g a i + index) x (go (startOf g b j) k (apart g a i (rowLength g a) b j k there hj (omega arith) hk d));
+    later = λ b j k o. part-set-outside m (startOf g b j) k (startOf g a i + index) x (inl (let u = front b j (rowLength g a) (omega arith) o in omega arith));
   }
     where
-      go : (start k : ℕ) → (start + k ≤ startOf g a i) ⊎ (startOf g a i + lengthOf g a ≤ start)
+      go : (start k : ℕ) → (start + k ≤ startOf g a i) ⊎ (startOf g a i + rowLength g a ≤ start)
           → (startOf g a i + index < start) ⊎ (start + k ≤ startOf g a i + index)
       go start k (inl e) = inr (omega arith)
       go start k (inr e) = inl (omega arith)
@@ -63,9 +63,9 @@ module _ (g : Setup) (m : List ℕ) (a i : ℕ) (room : endOf g ≤ length m) (t
 -- ---- the parts of the relation that lie in other buffers
 
 module _ {g : Setup} {a i : ℕ} {m m′ : List ℕ} (e : Elsewhere g a i m m′) where
-  pub inputs-stay : {t : Triple} {l : Inputs} → Permutation (t .place) → (a ≡ inputs → ⊥) → InputsAgree g m t l → InputsAgree g m′ t l
+  pub inputs-stay : {t : Triple} {l : Inputs} → Permutation (t .place) → (a ≡ inputRow → ⊥) → InputsAgree g m t l → InputsAgree g m′ t l
   inputs-stay {t} p n h =
-      let other : (j : ℕ) → j < 3 → part m′ (inputsAt g j) (g .«input_len») ≡ part m (inputsAt g j) (g .«input_len») = λ j o. e .other inputs j (g .«input_len») o (omega arith) (λ z _. n z) in
+      let other : (j : ℕ) → j < 3 → part m′ (inputsAt g j) (g .«input_len») ≡ part m (inputsAt g j) (g .«input_len») = λ j o. e .other inputRow j (g .«input_len») o (omega arith) (λ z _. n z) in
       record {
         sending = other (fillOf (t .place)) (p .fill-in) ∙ h .sending;
         next = other (nextOf (t .place)) (p .next-in) ∙ h .next;
@@ -73,16 +73,16 @@ module _ {g : Setup} {a i : ℕ} {m m′ : List ℕ} (e : Elsewhere g a i m m′
         fresh = h .fresh;
       }
 
-  pub diagnoses-stay : {w : Bool} {l : Diagnoses} → (a ≡ diagnosis → ⊥) → DiagnosesAgree g m w l → DiagnosesAgree g m′ w l
+  pub diagnoses-stay : {w : Bool} {l : Diagnoses} → (a ≡ diagnosisRow → ⊥) → DiagnosesAgree g m w l → DiagnosesAgree g m′ w l
   diagnoses-stay {w} n h =
-      let other : (j : ℕ) → j < 2 → part m′ (diagnosisAt g j) (g .«diagnosis_len») ≡ part m (diagnosisAt g j) (g .«diagnosis_len») = λ j o. e .other diagnosis j (g .«diagnosis_len») o (omega arith) (λ z _. n z) in
+      let other : (j : ℕ) → j < 2 → part m′ (diagnosisAt g j) (g .«diagnosis_len») ≡ part m (diagnosisAt g j) (g .«diagnosis_len») = λ j o. e .other diagnosisRow j (g .«diagnosis_len») o (omega arith) (λ z _. n z) in
       record { own = other (ownPlace w) (own-in w) ∙ h .own; user = other (userPlace w) (user-in w) ∙ h .user }
 
-  pub slice-stays : (a ≡ getCfg → ⊥) → part m′ (getCfgAt g) (g .«get_cfg_len») ≡ part m (getCfgAt g) (g .«get_cfg_len»)
+  pub slice-stays : (a ≡ getCfgRow → ⊥) → part m′ (getCfgAt g) (g .«get_cfg_len») ≡ part m (getCfgAt g) (g .«get_cfg_len»)
   slice-stays n =
-      let at = first-start g getCfg in
+      let at = first-start g getCfgRow in
       ap (λ (x : ℕ). part m′ x (g .«get_cfg_len»)) (sym at)
-      ∙ e .other getCfg 0 (g .«get_cfg_len») (omega arith) (omega arith) (λ z _. n z)
+      ∙ e .other getCfgRow 0 (g .«get_cfg_len») (omega arith) (omega arith) (λ z _. n z)
       ∙ ap (λ (x : ℕ). part m x (g .«get_cfg_len»)) at
 
 -- sets whose octets are as they were

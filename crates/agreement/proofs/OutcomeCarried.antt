@@ -17,7 +17,7 @@ use Rattle.state.specs.declared.state.Drawn.the-variants as drawn
 use Rattle.state.specs.declared.state.Reply.{Reply}
 use Rattle.state.specs.declared.state.Sets as station-sets
 use Rattle.state.specs.declared.state.State.{State}
-use Rattle.state.specs.Layout.{outputs, inputs, parameters, configuration, diagnosis, startOf, outputsAt, inputsAt, parametersAt, configurationAt}
+use Rattle.state.specs.Layout.{outputRow, inputRow, parameterRow, configurationRow, diagnosisRow, startOf, outputsAt, inputsAt, parametersAt, configurationAt}
 use Rattle.state.specs.Sound.{Within}
 use Rattle.state.proofs.Choice.{both}
 use Rattle.state.proofs.Places.{inside}
@@ -44,11 +44,11 @@ use Rattle.agreement.proofs.SameLine.{open-agrees}
 -- ---- the outputs and the inputs
 
 -- the next output buffer alone is written
-deed-elsewhere : (d : OutputsDeed) (s : State) (m : List ℕ) → Safe s m → Elsewhere (s .setup) outputs (nextOf (s .outputs .set .place)) m (onMemory d s m)
+deed-elsewhere : (d : OutputsDeed) (s : State) (m : List ℕ) → Safe s m → Elsewhere (s .setup) outputRow (nextOf (s .outputs .set .place)) m (onMemory d s m)
 deed-elsewhere outputs-deed.Keep s m f = same-elsewhere
 deed-elsewhere outputs-deed.Publish s m f = same-elsewhere
 deed-elsewhere outputs-deed.Zeros s m f =
-    pasted-elsewhere (s .setup) m outputs (nextOf (s .outputs .set .place)) (f .room) (f .outputs .next-in) (replicate (s .setup .«output_len») 0)
+    pasted-elsewhere (s .setup) m outputRow (nextOf (s .outputs .set .place)) (f .room) (f .outputs .next-in) (replicate (s .setup .«output_len») 0)
     (rw (length-replicate {A = ℕ} (s .setup .«output_len») 0) (omega arith))
 
 -- what is published stands in fill
@@ -71,10 +71,10 @@ outputs-carried Given Clear outputs-deed.Zeros s m y n ds f e p b h =
     let k = s .setup .«output_len» in
     let zs : List ℕ = replicate (s .setup .«output_len») 0 in
     let at = outputsAt (s .setup) (nextOf (s .outputs .set .place)) in
-    let i = inside (s .setup) outputs (nextOf (s .outputs .set .place)) (s .setup .«output_len») (q .next-in) (omega arith) in
+    let i = inside (s .setup) outputRow (nextOf (s .outputs .set .place)) (s .setup .«output_len») (q .next-in) (omega arith) in
     let r = f .room in
     record {
-      held = deed-elsewhere outputs-deed.Zeros s m f .other outputs (heldOf (s .outputs .set .place)) k (q .held-in) (omega arith) (λ _ z. q .next-held z) ∙ h .held;
+      held = deed-elsewhere outputs-deed.Zeros s m f .other outputRow (heldOf (s .outputs .set .place)) k (q .held-in) (omega arith) (λ _ z. q .next-held z) ∙ h .held;
       next = ap (part (pasted m at zs) at) (sym (length-replicate {A = ℕ} k 0)) ∙ pasted-part m at zs (omega arith) ∙ ap (λ (x : ℕ). replicate x 0) e;
       fresh = refl;
       zeros = refl;
@@ -125,11 +125,11 @@ module _ {s : State} {m : List ℕ} {l : Ledger} {o : Outcome} {Given Clear : Ty
   abbrev memory : List ℕ
   memory = onMemory (o .outputs) s m
 
-  elsewhere : Elsewhere (s .setup) outputs (nextOf (s .outputs .set .place)) m memory
+  elsewhere : Elsewhere (s .setup) outputRow (nextOf (s .outputs .set .place)) m memory
   elsewhere = deed-elsewhere (o .outputs) s m (a .safe)
 
   -- the sets lie behind the outputs
-  behind : (b low n : ℕ) (Point : Type 0) (x : station-sets.Sets) (y : Sets) (d : SetDeed) → outputs < b → 1 ≤ low → Receives (Point × Within low (length ds) n) d
+  behind : (b low n : ℕ) (Point : Type 0) (x : station-sets.Sets) (y : Sets) (d : SetDeed) → outputRow < b → 1 ≤ low → Receives (Point × Within low (length ds) n) d
       → (Point → BeginsWith m (startOf (s .setup) b (fillOf (x .set .place))) n ds)
       → SetsAgree (startOf (s .setup) b) m x y → SetsAgree (startOf (s .setup) b) memory (onSets d x (length ds)) (ledger.onSets d y ds)
   behind b low n Point x y d h u p stand k =
@@ -147,8 +147,8 @@ module _ {s : State} {m : List ℕ} {l : Ledger} {o : Outcome} {Given Clear : Ty
     control = refl;
     outputs = outputs-carried Given Clear (o .outputs) s m (l .buffers .outputs) (l .setup .«output_len») ds (a .safe) (ap (λ (g : Setup). g .«output_len») (a .setup)) (v .outputs-come) outputs-stand (a .outputs);
     inputs = inputs-carried (o .outputs) (s .setup) memory (s .inputs) (l .buffers .inputs) (inputs-stay elsewhere (a .safe .inputs) (λ z. absurd (omega arith)) (a .inputs));
-    parameters = behind parameters 7 (s .setup .«parameter_len») (At 61) (s .parameters) (l .buffers .parameters) (o .parameters) (omega arith) (omega arith) (v .parameters-come) parameters-stand (a .parameters);
-    configuration = behind configuration 1 (s .setup .«configuration_len») (At 62) (s .configuration) (l .buffers .configuration) (o .configuration) (omega arith) (omega arith) (v .configuration-come) configuration-stand (a .configuration);
+    parameters = behind parameterRow 7 (s .setup .«parameter_len») (At 61) (s .parameters) (l .buffers .parameters) (o .parameters) (omega arith) (omega arith) (v .parameters-come) parameters-stand (a .parameters);
+    configuration = behind configurationRow 1 (s .setup .«configuration_len») (At 62) (s .configuration) (l .buffers .configuration) (o .configuration) (omega arith) (omega arith) (v .configuration-come) configuration-stand (a .configuration);
     diagnosis = diagnoses-stay elsewhere (λ z. absurd (omega arith)) (a .diagnosis);
     slice = slice-stays elsewhere (λ z. absurd (omega arith)) ∙ a .slice;
     reading = reading;
@@ -191,7 +191,7 @@ module _ {s : State} {m : List ℕ} {l : Ledger} {o : Outcome} (a : Agrees s m l
   abbrev after : List ℕ
   after = onMemory (o .outputs) s m
 
-  written : Elsewhere (s .setup) outputs (nextOf (s .outputs .set .place)) m after
+  written : Elsewhere (s .setup) outputRow (nextOf (s .outputs .set .place)) m after
   written = deed-elsewhere (o .outputs) s m (a .safe)
 
   fills : SameFills s m (onState s o 0) after
@@ -199,13 +199,13 @@ module _ {s : State} {m : List ℕ} {l : Ledger} {o : Outcome} (a : Agrees s m l
     setup = refl;
     outputs =
         λ k h. ap (λ (p : ℕ). part after (outputsAt (s .setup) p) k) (outputs-fill _ _ (o .outputs) s (q .outputs-come))
-        ∙ written .other outputs (fillOf (s .outputs .set .place)) k (a .safe .outputs .fill-in) h (λ _ z. a .safe .outputs .fill-next (sym z));
+        ∙ written .other outputRow (fillOf (s .outputs .set .place)) k (a .safe .outputs .fill-in) h (λ _ z. a .safe .outputs .fill-next (sym z));
     parameters =
         λ k h. ap (λ (p : ℕ). part after (parametersAt (s .setup) p) k) (sets-fill _ (o .parameters) (s .parameters) 0 (q .parameters-come))
-        ∙ written .later parameters (fillOf (s .parameters .set .place)) k (omega arith);
+        ∙ written .later parameterRow (fillOf (s .parameters .set .place)) k (omega arith);
     configuration =
         λ k h. ap (λ (p : ℕ). part after (configurationAt (s .setup) p) k) (sets-fill _ (o .configuration) (s .configuration) 0 (q .configuration-come))
-        ∙ written .later configuration (fillOf (s .configuration .set .place)) k (omega arith);
+        ∙ written .later configurationRow (fillOf (s .configuration .set .place)) k (omega arith);
   }
 
   source : left (s .reply .sender) ≡ true → SameSource s m (onState s o 0) after
@@ -213,10 +213,10 @@ module _ {s : State} {m : List ℕ} {l : Ledger} {o : Outcome} (a : Agrees s m l
     ident = refl;
     inputs =
         ap (λ (t : Triple). part after (inputsAt (s .setup) (fillOf (t .place))) (s .setup .«input_len»)) (inputs-place _ _ (o .outputs) s (q .outputs-come))
-        ∙ written .later inputs (fillOf (s .inputs .place)) (s .setup .«input_len») (omega arith);
+        ∙ written .later inputRow (fillOf (s .inputs .place)) (s .setup .«input_len») (omega arith);
     outputs = λ w. spared _ (o .outputs) s m (q .outputs-come) w e;
     slice = slice-stays written (λ z. absurd (omega arith));
-    diagnosis = λ w. written .later diagnosis (ownPlace (s .swapped)) (s .setup .«diagnosis_len») (omega arith);
+    diagnosis = λ w. written .later diagnosisRow (ownPlace (s .swapped)) (s .setup .«diagnosis_len») (omega arith);
   }
 
   -- the ledger's outcome is the station's

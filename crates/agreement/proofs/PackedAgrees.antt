@@ -13,7 +13,7 @@ use Rattle.octets.specs.Part.{part}
 use Rattle.state.specs.declared.setup.Setup.{Setup}
 use Rattle.state.specs.declared.state.Sets as station-sets
 use Rattle.state.specs.declared.state.State.{State}
-use Rattle.state.specs.Layout.{stateLength, outputs, inputs, parameters, configuration, diagnosis, countOf, startOf, getCfgAt}
+use Rattle.state.specs.Layout.{stateLength, outputRow, inputRow, parameterRow, configurationRow, diagnosisRow, rowCount, startOf, getCfgAt}
 use Rattle.state.specs.Memory.{kept}
 use Rattle.state.specs.Sound.{NoneOr, Sound}
 use Rattle.state.proofs.Places.{inside, get-cfg-inside}
@@ -33,34 +33,34 @@ kept-agrees {s} {m} {l} long a = record {
   setup = a .setup;
   control = a .control;
   outputs = record {
-    held = same outputs (heldOf (s .outputs .set .place)) (s .setup .«output_len») (a .safe .outputs .held-in) ∙ a .outputs .held;
-    next = same outputs (nextOf (s .outputs .set .place)) (s .setup .«output_len») (a .safe .outputs .next-in) ∙ a .outputs .next;
+    held = same outputRow (heldOf (s .outputs .set .place)) (s .setup .«output_len») (a .safe .outputs .held-in) ∙ a .outputs .held;
+    next = same outputRow (nextOf (s .outputs .set .place)) (s .setup .«output_len») (a .safe .outputs .next-in) ∙ a .outputs .next;
     fresh = a .outputs .fresh;
     zeros = a .outputs .zeros;
   };
   inputs = record {
-    sending = same inputs (fillOf (s .inputs .place)) (s .setup .«input_len») (a .safe .inputs .fill-in) ∙ a .inputs .sending;
-    next = same inputs (nextOf (s .inputs .place)) (s .setup .«input_len») (a .safe .inputs .next-in) ∙ a .inputs .next;
-    held = same inputs (heldOf (s .inputs .place)) (s .setup .«input_len») (a .safe .inputs .held-in) ∙ a .inputs .held;
+    sending = same inputRow (fillOf (s .inputs .place)) (s .setup .«input_len») (a .safe .inputs .fill-in) ∙ a .inputs .sending;
+    next = same inputRow (nextOf (s .inputs .place)) (s .setup .«input_len») (a .safe .inputs .next-in) ∙ a .inputs .next;
+    held = same inputRow (heldOf (s .inputs .place)) (s .setup .«input_len») (a .safe .inputs .held-in) ∙ a .inputs .held;
     fresh = a .inputs .fresh;
   };
   parameters = record {
-    shown = same parameters (heldOf (s .parameters .set .place)) (s .parameters .shown) (a .safe .parameters .held-in) ∙ a .parameters .shown;
-    waiting = same parameters (nextOf (s .parameters .set .place)) (s .parameters .waiting) (a .safe .parameters .next-in) ∙ a .parameters .waiting;
+    shown = same parameterRow (heldOf (s .parameters .set .place)) (s .parameters .shown) (a .safe .parameters .held-in) ∙ a .parameters .shown;
+    waiting = same parameterRow (nextOf (s .parameters .set .place)) (s .parameters .waiting) (a .safe .parameters .next-in) ∙ a .parameters .waiting;
     shown-count = a .parameters .shown-count;
     waiting-count = a .parameters .waiting-count;
     fresh = a .parameters .fresh;
   };
   configuration = record {
-    shown = same configuration (heldOf (s .configuration .set .place)) (s .configuration .shown) (a .safe .configuration .held-in) ∙ a .configuration .shown;
-    waiting = same configuration (nextOf (s .configuration .set .place)) (s .configuration .waiting) (a .safe .configuration .next-in) ∙ a .configuration .waiting;
+    shown = same configurationRow (heldOf (s .configuration .set .place)) (s .configuration .shown) (a .safe .configuration .held-in) ∙ a .configuration .shown;
+    waiting = same configurationRow (nextOf (s .configuration .set .place)) (s .configuration .waiting) (a .safe .configuration .next-in) ∙ a .configuration .waiting;
     shown-count = a .configuration .shown-count;
     waiting-count = a .configuration .waiting-count;
     fresh = a .configuration .fresh;
   };
   diagnosis = record {
-    own = same diagnosis (ownPlace (s .swapped)) (s .setup .«diagnosis_len») (own-in (s .swapped)) ∙ a .diagnosis .own;
-    user = same diagnosis (userPlace (s .swapped)) (s .setup .«diagnosis_len») (user-in (s .swapped)) ∙ a .diagnosis .user;
+    own = same diagnosisRow (ownPlace (s .swapped)) (s .setup .«diagnosis_len») (own-in (s .swapped)) ∙ a .diagnosis .own;
+    user = same diagnosisRow (userPlace (s .swapped)) (s .setup .«diagnosis_len») (user-in (s .swapped)) ∙ a .diagnosis .user;
   };
   slice = in-slice ∙ a .slice;
   reading = reading-stays s s m (kept s m) refl fills (l .line) (a .reading);
@@ -71,8 +71,8 @@ kept-agrees {s} {m} {l} long a = record {
     g : Setup
     g = s .setup
 
-    same : (kind i n : ℕ) → i < countOf kind → part (kept s m) (startOf g kind i) n ≡ part m (startOf g kind i) n
-    same kind i n h = kept-part s m (startOf g kind i) n (inside g kind i 0 h (omega arith) .0)
+    same : (row i n : ℕ) → i < rowCount row → part (kept s m) (startOf g row i) n ≡ part m (startOf g row i) n
+    same row i n h = kept-part s m (startOf g row i) n (inside g row i 0 h (omega arith) .0)
 
     in-slice : part (kept s m) (getCfgAt g) (g .«get_cfg_len») ≡ part m (getCfgAt g) (g .«get_cfg_len»)
     in-slice = kept-part s m (getCfgAt g) (g .«get_cfg_len») (get-cfg-inside g 0 (omega arith) .0)
@@ -80,18 +80,18 @@ kept-agrees {s} {m} {l} long a = record {
     fills : SameFills s m s (kept s m)
     fills = record {
       setup = refl;
-      outputs = λ k _. same outputs (fillOf (s .outputs .set .place)) k (a .safe .outputs .fill-in);
-      parameters = λ k _. same parameters (fillOf (s .parameters .set .place)) k (a .safe .parameters .fill-in);
-      configuration = λ k _. same configuration (fillOf (s .configuration .set .place)) k (a .safe .configuration .fill-in);
+      outputs = λ k _. same outputRow (fillOf (s .outputs .set .place)) k (a .safe .outputs .fill-in);
+      parameters = λ k _. same parameterRow (fillOf (s .parameters .set .place)) k (a .safe .parameters .fill-in);
+      configuration = λ k _. same configurationRow (fillOf (s .configuration .set .place)) k (a .safe .configuration .fill-in);
     }
 
     source : SameSource s m s (kept s m)
     source = record {
       ident = refl;
-      inputs = same inputs (fillOf (s .inputs .place)) (g .«input_len») (a .safe .inputs .fill-in);
-      outputs = λ _. same outputs (s .reply .place) (g .«output_len») (let h = a .safe .reply in omega arith);
+      inputs = same inputRow (fillOf (s .inputs .place)) (g .«input_len») (a .safe .inputs .fill-in);
+      outputs = λ _. same outputRow (s .reply .place) (g .«output_len») (let h = a .safe .reply in omega arith);
       slice = in-slice;
-      diagnosis = λ _. same diagnosis (ownPlace (s .swapped)) (g .«diagnosis_len») (own-in (s .swapped));
+      diagnosis = λ _. same diagnosisRow (ownPlace (s .swapped)) (g .«diagnosis_len») (own-in (s .swapped));
     }
 
 -- ---- the state is sound

@@ -16,7 +16,7 @@ use Rattle.state.specs.declared.answer.Answer.the-variants.{Value}
 use Rattle.state.specs.declared.answer.Refusal.the-variants.{Range, Absent}
 use Rattle.state.specs.declared.state.Sets as station-sets
 use Rattle.state.specs.declared.state.State.{State}
-use Rattle.state.specs.Layout.{outputs, inputs, parameters, configuration, diagnosis, getCfg, outputsAt, inputsAt, parametersAt, configurationAt, diagnosisAt}
+use Rattle.state.specs.Layout.{outputRow, inputRow, parameterRow, configurationRow, diagnosisRow, getCfgRow, outputsAt, inputsAt, parametersAt, configurationAt, diagnosisAt}
 use Rattle.rules.specs.Diagnosis.{delayed}
 use Rattle.ledger.specs.Lists as lists
 use Rattle.ledger.specs.Ledger.{Ledger, withBuffers}
@@ -105,16 +105,16 @@ own-not-user false e = omega arith
 
 -- the memory changed in an input or a diagnosis buffer that nothing leaves from
 module _ {s : State} {m m′ : List ℕ} {l : Ledger} (r : Agrees s m l) (t : Steady l) (a i : ℕ) (e : Elsewhere (s .setup) a i m m′)
-    (not-outputs : a ≡ outputs → ⊥) (not-parameters : a ≡ parameters → ⊥) (not-configuration : a ≡ configuration → ⊥) (not-slice : a ≡ getCfg → ⊥)
-    (not-sending : a ≡ inputs → i ≡ fillOf (s .inputs .place) → ⊥) (not-own : a ≡ diagnosis → i ≡ ownPlace (s .swapped) → ⊥) where
+    (not-outputs : a ≡ outputRow → ⊥) (not-parameters : a ≡ parameterRow → ⊥) (not-configuration : a ≡ configurationRow → ⊥) (not-slice : a ≡ getCfgRow → ⊥)
+    (not-sending : a ≡ inputRow → i ≡ fillOf (s .inputs .place) → ⊥) (not-own : a ≡ diagnosisRow → i ≡ ownPlace (s .swapped) → ⊥) where
   output : (j k : ℕ) → j < 3 → k ≤ s .setup .«output_len» → part m′ (outputsAt (s .setup) j) k ≡ part m (outputsAt (s .setup) j) k
-  output j k hj hk = e .other outputs j k hj hk (λ z _. not-outputs z)
+  output j k hj hk = e .other outputRow j k hj hk (λ z _. not-outputs z)
 
   parameter : (j k : ℕ) → j < 3 → k ≤ s .setup .«parameter_len» → part m′ (parametersAt (s .setup) j) k ≡ part m (parametersAt (s .setup) j) k
-  parameter j k hj hk = e .other parameters j k hj hk (λ z _. not-parameters z)
+  parameter j k hj hk = e .other parameterRow j k hj hk (λ z _. not-parameters z)
 
   configured : (j k : ℕ) → j < 3 → k ≤ s .setup .«configuration_len» → part m′ (configurationAt (s .setup) j) k ≡ part m (configurationAt (s .setup) j) k
-  configured j k hj hk = e .other configuration j k hj hk (λ z _. not-configuration z)
+  configured j k hj hk = e .other configurationRow j k hj hk (λ z _. not-configuration z)
 
   -- shown and waiting sets are no longer than their buffers
   within-fit : (x : station-sets.Sets) (y : lists.Sets) (n k : ℕ) (base : ℕ → ℕ) → n ≡ k → SetsFit k y → SetsAgree base m x y → (x .shown ≤ n) × (x .waiting ≤ n)
@@ -164,10 +164,10 @@ module _ {s : State} {m m′ : List ℕ} {l : Ledger} (r : Agrees s m l) (t : St
             reply-stays s s m m′ refl (l .line)
             (λ _. record {
               ident = refl;
-              inputs = e .other inputs (fillOf (s .inputs .place)) (s .setup .«input_len») (f .inputs .fill-in) (omega arith) not-sending;
+              inputs = e .other inputRow (fillOf (s .inputs .place)) (s .setup .«input_len») (f .inputs .fill-in) (omega arith) not-sending;
               outputs = λ _. output (s .reply .place) (s .setup .«output_len») (let u = f .reply in omega arith) (omega arith);
               slice = slice-stays e not-slice;
-              diagnosis = λ _. e .other diagnosis (ownPlace (s .swapped)) (s .setup .«diagnosis_len») (own-in (s .swapped)) (omega arith) not-own;
+              diagnosis = λ _. e .other diagnosisRow (ownPlace (s .swapped)) (s .setup .«diagnosis_len») (own-in (s .swapped)) (omega arith) not-own;
             })
             (r .reply);
         safe = safe-length s m m′ (e .long) f;
@@ -183,13 +183,13 @@ module _ {s : State} {m : List ℕ} {l : Ledger} (r : Related s m l) (index x : 
   written-input h =
       let f = a .safe in
       let held = heldOf (s .inputs .place) in
-      let e = set-elsewhere (s .setup) m inputs held (f .room) (f .inputs .held-in) index x h in
-      written a (r .steady) inputs held e (λ z. omega arith) (λ z. omega arith) (λ z. omega arith) (λ z. omega arith)
+      let e = set-elsewhere (s .setup) m inputRow held (f .room) (f .inputs .held-in) index x h in
+      written a (r .steady) inputRow held e (λ z. omega arith) (λ z. omega arith) (λ z. omega arith) (λ z. omega arith)
       (λ _ z. f .inputs .fill-held (sym z)) (λ z _. omega arith)
       (lists.writtenInput (l .buffers .inputs) index x) (l .buffers .diagnosis)
       (record {
-        sending = e .other inputs (fillOf (s .inputs .place)) (s .setup .«input_len») (f .inputs .fill-in) (omega arith) (λ _ z. f .inputs .fill-held (sym z)) ∙ a .inputs .sending;
-        next = e .other inputs (nextOf (s .inputs .place)) (s .setup .«input_len») (f .inputs .next-in) (omega arith) (λ _ z. f .inputs .next-held (sym z)) ∙ a .inputs .next;
+        sending = e .other inputRow (fillOf (s .inputs .place)) (s .setup .«input_len») (f .inputs .fill-in) (omega arith) (λ _ z. f .inputs .fill-held (sym z)) ∙ a .inputs .sending;
+        next = e .other inputRow (nextOf (s .inputs .place)) (s .setup .«input_len») (f .inputs .next-in) (omega arith) (λ _ z. f .inputs .next-held (sym z)) ∙ a .inputs .next;
         held = part-set-inside m (inputsAt (s .setup) held) (s .setup .«input_len») index x h ∙ ap (λ (xs : List ℕ). set xs index x) (a .inputs .held);
         fresh = a .inputs .fresh;
       })
@@ -202,13 +202,13 @@ module _ {s : State} {m : List ℕ} {l : Ledger} (r : Related s m l) (index x : 
   written-diagnosis h =
       let f = a .safe in
       let user = userPlace (s .swapped) in
-      let e = set-elsewhere (s .setup) m diagnosis user (f .room) (user-in (s .swapped)) index x h in
-      written a (r .steady) diagnosis user e (λ z. omega arith) (λ z. omega arith) (λ z. omega arith) (λ z. omega arith)
+      let e = set-elsewhere (s .setup) m diagnosisRow user (f .room) (user-in (s .swapped)) index x h in
+      written a (r .steady) diagnosisRow user e (λ z. omega arith) (λ z. omega arith) (λ z. omega arith) (λ z. omega arith)
       (λ z _. omega arith) (λ _ z. own-not-user (s .swapped) z)
       (l .buffers .inputs) (lists.writtenDiagnosis (l .buffers .diagnosis) index x)
       (inputs-stay e (f .inputs) (λ z. omega arith) (a .inputs))
       (record {
-        own = e .other diagnosis (ownPlace (s .swapped)) (s .setup .«diagnosis_len») (own-in (s .swapped)) (omega arith) (λ _ z. own-not-user (s .swapped) z) ∙ a .diagnosis .own;
+        own = e .other diagnosisRow (ownPlace (s .swapped)) (s .setup .«diagnosis_len») (own-in (s .swapped)) (omega arith) (λ _ z. own-not-user (s .swapped) z) ∙ a .diagnosis .own;
         user = part-set-inside m (diagnosisAt (s .setup) user) (s .setup .«diagnosis_len») index x h ∙ ap (λ (xs : List ℕ). set xs index x) (a .diagnosis .user);
       })
 

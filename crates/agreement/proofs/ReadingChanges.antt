@@ -11,7 +11,7 @@ use Rattle.state.specs.declared.setup.Setup.{Setup}
 use Rattle.state.specs.declared.state.Sets as station-sets
 use Rattle.state.specs.declared.state.Incoming.{Incoming}
 use Rattle.state.specs.declared.state.State.{State}
-use Rattle.state.specs.Layout.{outputs, inputs, parameters, configuration, diagnosis, getCfg, countOf, lengthOf, startOf}
+use Rattle.state.specs.Layout.{outputRow, inputRow, parameterRow, configurationRow, diagnosisRow, getCfgRow, rowCount, rowLength, startOf}
 use Rattle.ledger.specs.Lists.{Sets}
 use Rattle.ledger.specs.Ledger.{Line, Ledger, withLine}
 use Rattle.steps.specs.Safe.{Safe}
@@ -23,54 +23,54 @@ use Rattle.agreement.proofs.OtherBuffersStay.{Elsewhere, same-elsewhere
 use Rattle.agreement.proofs.Steady.{SetsFit, Steady}
 use Rattle.agreement.proofs.DataOctetStored.{stored-elsewhere}
 
--- buffer i of kind a is the fill buffer of a kind that data goes into
+-- buffer i of row a is the fill buffer of a row that data goes into
 pub record Filling (s : State) (a i : ℕ) : Type 0 where
-  pub of-outputs : a ≡ outputs → i ≡ fillOf (s .outputs .set .place)
-  pub of-parameters : a ≡ parameters → i ≡ fillOf (s .parameters .set .place)
-  pub of-configuration : a ≡ configuration → i ≡ fillOf (s .configuration .set .place)
-  pub no-inputs : a ≡ inputs → ⊥
-  pub no-diagnosis : a ≡ diagnosis → ⊥
-  pub no-slice : a ≡ getCfg → ⊥
+  pub of-outputs : a ≡ outputRow → i ≡ fillOf (s .outputs .set .place)
+  pub of-parameters : a ≡ parameterRow → i ≡ fillOf (s .parameters .set .place)
+  pub of-configuration : a ≡ configurationRow → i ≡ fillOf (s .configuration .set .place)
+  pub no-inputs : a ≡ inputRow → ⊥
+  pub no-diagnosis : a ≡ diagnosisRow → ⊥
+  pub no-slice : a ≡ getCfgRow → ⊥
 
 -- the memory changed in such a buffer alone
 pub record Beside (s : State) (m m′ : List ℕ) : Type 0 where
-  pub kind : ℕ
+  pub row : ℕ
   pub place : ℕ
-  pub filling : Filling s kind place
-  pub elsewhere : Elsewhere (s .setup) kind place m m′
+  pub filling : Filling s row place
+  pub elsewhere : Elsewhere (s .setup) row place m m′
 
-fills-outputs : (s : State) → Filling s outputs (fillOf (s .outputs .set .place))
+fills-outputs : (s : State) → Filling s outputRow (fillOf (s .outputs .set .place))
 fills-outputs s = omega arith
 
-fills-parameters : (s : State) → Filling s parameters (fillOf (s .parameters .set .place))
+fills-parameters : (s : State) → Filling s parameterRow (fillOf (s .parameters .set .place))
 fills-parameters s = omega arith
 
-fills-configuration : (s : State) → Filling s configuration (fillOf (s .configuration .set .place))
+fills-configuration : (s : State) → Filling s configurationRow (fillOf (s .configuration .set .place))
 fills-configuration s = omega arith
 
 pub nowhere : (s : State) (m : List ℕ) → Beside s m m
-nowhere s m = record { kind = outputs; place = fillOf (s .outputs .set .place); filling = fills-outputs s; elsewhere = same-elsewhere }
+nowhere s m = record { row = outputRow; place = fillOf (s .outputs .set .place); filling = fills-outputs s; elsewhere = same-elsewhere }
 
 -- a data octet that comes is stored in one of them, or nowhere
 pub data-beside : (s : State) (m : List ℕ) (k b : ℕ) → Safe s m → Beside s m (storedData s m k b)
 data-beside s m k b f =
     go (ltb (s .incoming .reader .da) 128) (eqb (s .incoming .reader .dsap) 61) (eqb (s .incoming .reader .dsap) 62)
   where
-    into : (a i : ℕ) → i < countOf a → Filling s a i → Beside s m (storedIn m (startOf (s .setup) a i) (lengthOf (s .setup) a) k b)
-    into a i h w = record { kind = a; place = i; filling = w; elsewhere = stored-elsewhere (s .setup) m a i k b h }
+    into : (a i : ℕ) → i < rowCount a → Filling s a i → Beside s m (storedIn m (startOf (s .setup) a i) (rowLength (s .setup) a) k b)
+    into a i h w = record { row = a; place = i; filling = w; elsewhere = stored-elsewhere (s .setup) m a i k b h }
 
     go : (p q t : Bool) → Beside s m
-        (cond p (storedIn m (startOf (s .setup) outputs (fillOf (s .outputs .set .place))) (s .setup .«output_len») k b)
-        (cond q (storedIn m (startOf (s .setup) parameters (fillOf (s .parameters .set .place))) (s .setup .«parameter_len») k b)
-        (cond t (storedIn m (startOf (s .setup) configuration (fillOf (s .configuration .set .place))) (s .setup .«configuration_len») k b) m)))
-    go true q t = into outputs (fillOf (s .outputs .set .place)) (f .outputs .fill-in) (fills-outputs s)
-    go false true t = into parameters (fillOf (s .parameters .set .place)) (f .parameters .fill-in) (fills-parameters s)
-    go false false true = into configuration (fillOf (s .configuration .set .place)) (f .configuration .fill-in) (fills-configuration s)
+        (cond p (storedIn m (startOf (s .setup) outputRow (fillOf (s .outputs .set .place))) (s .setup .«output_len») k b)
+        (cond q (storedIn m (startOf (s .setup) parameterRow (fillOf (s .parameters .set .place))) (s .setup .«parameter_len») k b)
+        (cond t (storedIn m (startOf (s .setup) configurationRow (fillOf (s .configuration .set .place))) (s .setup .«configuration_len») k b) m)))
+    go true q t = into outputRow (fillOf (s .outputs .set .place)) (f .outputs .fill-in) (fills-outputs s)
+    go false true t = into parameterRow (fillOf (s .parameters .set .place)) (f .parameters .fill-in) (fills-parameters s)
+    go false false true = into configurationRow (fillOf (s .configuration .set .place)) (f .configuration .fill-in) (fills-configuration s)
     go false false false = nowhere s m
 
 -- the sets shown and waiting are in the buffers held and next
-sets-beside : {g : Setup} {a i : ℕ} {m m′ : List ℕ} (e : Elsewhere g a i m m′) (b : ℕ) (x : station-sets.Sets) (y : Sets) → countOf b ≡ 3 → Permutation (x .set .place)
-    → (a ≡ b → i ≡ fillOf (x .set .place)) → SetsFit (lengthOf g b) y
+sets-beside : {g : Setup} {a i : ℕ} {m m′ : List ℕ} (e : Elsewhere g a i m m′) (b : ℕ) (x : station-sets.Sets) (y : Sets) → rowCount b ≡ 3 → Permutation (x .set .place)
+    → (a ≡ b → i ≡ fillOf (x .set .place)) → SetsFit (rowLength g b) y
     → SetsAgree (startOf g b) m x y → SetsAgree (startOf g b) m′ x y
 sets-beside e b x y c p f u r =
     let v = u .shown in
@@ -95,17 +95,17 @@ reread {s} {m} {m′} {l} i n d w r reading reply =
       setup = r .setup;
       control = r .control;
       outputs = record {
-        held = e .other outputs (heldOf (s .outputs .set .place)) k (f .outputs .held-in) (omega arith) (λ z v. f .outputs .fill-held (sym (h .of-outputs z) ∙ v)) ∙ r .outputs .held;
-        next = e .other outputs (nextOf (s .outputs .set .place)) k (f .outputs .next-in) (omega arith) (λ z v. f .outputs .fill-next (sym (h .of-outputs z) ∙ v)) ∙ r .outputs .next;
+        held = e .other outputRow (heldOf (s .outputs .set .place)) k (f .outputs .held-in) (omega arith) (λ z v. f .outputs .fill-held (sym (h .of-outputs z) ∙ v)) ∙ r .outputs .held;
+        next = e .other outputRow (nextOf (s .outputs .set .place)) k (f .outputs .next-in) (omega arith) (λ z v. f .outputs .fill-next (sym (h .of-outputs z) ∙ v)) ∙ r .outputs .next;
         fresh = r .outputs .fresh;
         zeros = r .outputs .zeros;
       };
       inputs = inputs-stay e (f .inputs) (h .no-inputs) (r .inputs);
       parameters =
-          sets-beside e parameters (s .parameters) (l .buffers .parameters) refl (f .parameters) (h .of-parameters)
+          sets-beside e parameterRow (s .parameters) (l .buffers .parameters) refl (f .parameters) (h .of-parameters)
           (rw lengths (d .order .parameters-fit)) (r .parameters);
       configuration =
-          sets-beside e configuration (s .configuration) (l .buffers .configuration) refl (f .configuration) (h .of-configuration)
+          sets-beside e configurationRow (s .configuration) (l .buffers .configuration) refl (f .configuration) (h .of-configuration)
           (rw lengths (d .order .configuration-fit)) (r .configuration);
       diagnosis = diagnoses-stay e (h .no-diagnosis) (r .diagnosis);
       slice = slice-stays e (h .no-slice) ∙ r .slice;

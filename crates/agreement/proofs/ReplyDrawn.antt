@@ -24,7 +24,7 @@ use Rattle.state.specs.declared.state.Drawn.{Drawn}
 use Rattle.state.specs.declared.state.Drawn.the-variants.{Nothing, Acknowledge, Status, Rejected, Exchange, Inputs, Outputs, Configuration, Diagnosis}
 use Rattle.state.specs.declared.state.Header.{Header}
 use Rattle.state.specs.declared.state.State.{State}
-use Rattle.state.specs.Layout.{outputs, inputs, diagnosis, outputsAt, inputsAt, diagnosisAt, getCfgAt, countOf, lengthOf, startOf}
+use Rattle.state.specs.Layout.{outputRow, inputRow, diagnosisRow, outputsAt, inputsAt, diagnosisAt, getCfgAt, rowCount, rowLength, startOf}
 use Rattle.state.proofs.Places.{inside, get-cfg-inside}
 use Rattle.rules.specs.Diagnosis.{headerOf}
 use Rattle.ledger.specs.Lists.{Buffers}
@@ -112,11 +112,11 @@ module _ (s : State) (m : List ℕ) (slice : List ℕ) (b : Buffers) (master : �
     (own : part m (diagnosisAt (s .setup) (ownPlace (s .swapped))) (s .setup .«diagnosis_len») ≡ b .diagnosis .own)
     (slices : part m (getCfgAt (s .setup)) (s .setup .«get_cfg_len») ≡ slice) where
   -- a buffer's list has its length
-  fills : (a i : ℕ) (xs : List ℕ) → i < countOf a → part m (startOf (s .setup) a i) (lengthOf (s .setup) a) ≡ xs → length xs ≡ lengthOf (s .setup) a
+  fills : (a i : ℕ) (xs : List ℕ) → i < rowCount a → part m (startOf (s .setup) a i) (rowLength (s .setup) a) ≡ xs → length xs ≡ rowLength (s .setup) a
   fills a i xs h e =
-      let u = inside (s .setup) a i (lengthOf (s .setup) a) h (omega arith) in
+      let u = inside (s .setup) a i (rowLength (s .setup) a) h (omega arith) in
       let v = f .room in
-      ap length (sym e) ∙ part-length m (startOf (s .setup) a i) (lengthOf (s .setup) a) (omega arith)
+      ap length (sym e) ∙ part-length m (startOf (s .setup) a i) (rowLength (s .setup) a) (omega arith)
 
   draw-nothing : Replies s m slice b master Nothing
   unfolding replyFor
@@ -139,7 +139,7 @@ module _ (s : State) (m : List ℕ) (slice : List ℕ) (b : Buffers) (master : �
   draw-exchange : Replies s m slice b master Exchange
   unfolding replyFor datumAt
   draw-exchange =
-      let e : length (b .inputs .sending) ≡ s .setup .«input_len» = fills inputs (fillOf (s .inputs .place)) (b .inputs .sending) (f .inputs .fill-in) sent in (
+      let e : length (b .inputs .sending) ≡ s .setup .«input_len» = fills inputRow (fillOf (s .inputs .place)) (b .inputs .sending) (f .inputs .fill-in) sent in (
         b .inputs .sending,
         record {
           count = e;
@@ -155,7 +155,7 @@ module _ (s : State) (m : List ℕ) (slice : List ℕ) (b : Buffers) (master : �
   unfolding replyFor datumAt
   draw-inputs =
       let xs = b .inputs .sending in
-      let e : length xs ≡ s .setup .«input_len» = fills inputs (fillOf (s .inputs .place)) xs (f .inputs .fill-in) sent in (
+      let e : length xs ≡ s .setup .«input_len» = fills inputRow (fillOf (s .inputs .place)) xs (f .inputs .fill-in) sent in (
         0x3E ∷ 56 ∷ xs,
         record {
           count = service-count (s .setup .«input_len») xs 56 e (w .input-len .1);
@@ -170,7 +170,7 @@ module _ (s : State) (m : List ℕ) (slice : List ℕ) (b : Buffers) (master : �
   draw-outputs =
       let xs = b .outputs .held in
       let n = s .setup .«output_len» in
-      let e : length xs ≡ s .setup .«output_len» = fills outputs (heldOf (s .outputs .set .place)) xs (f .outputs .held-in) held in (
+      let e : length xs ≡ s .setup .«output_len» = fills outputRow (heldOf (s .outputs .set .place)) xs (f .outputs .held-in) held in (
         0x3E ∷ 57 ∷ xs,
         record {
           count = service-count n xs 57 e (w .output-len .1);
@@ -204,7 +204,7 @@ module _ (s : State) (m : List ℕ) (slice : List ℕ) (b : Buffers) (master : �
       let ident = s .setup .ident in
       let ys = b .diagnosis .own in
       let xs = diagnosisOctets (s .setup) (s .control) ys in
-      let u : length ys ≡ s .setup .«diagnosis_len» = fills diagnosis (ownPlace (s .swapped)) ys (own-in (s .swapped)) own in
+      let u : length ys ≡ s .setup .«diagnosis_len» = fills diagnosisRow (ownPlace (s .swapped)) ys (own-in (s .swapped)) own in
       let v : s .control .diagnosis .count ≤ length ys = omega arith in
       let e : length xs ≡ s .control .diagnosis .count = diagnosis-length h ident n ys low v in (
         0x3E ∷ 60 ∷ xs,

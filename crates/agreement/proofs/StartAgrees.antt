@@ -10,7 +10,7 @@ use Rattle.telegram.specs.Sending.{empty}
 use Rattle.telegram.proofs.Run.{no-true}
 use Rattle.telegram.proofs.Sends.{none}
 use Rattle.state.specs.declared.setup.Setup.{Setup}
-use Rattle.state.specs.Layout.{outputs, inputs, diagnosis, getCfgAt, endOf}
+use Rattle.state.specs.Layout.{outputRow, inputRow, diagnosisRow, getCfgAt, endOf}
 use Rattle.state.specs.Sound.{Ranged}
 use Rattle.state.specs.Start.{initialState, laidOut}
 use Rattle.state.proofs.LaidOut.{laid-length, laid-zeros, laid-slice}
@@ -28,16 +28,16 @@ module _ (m : List ℕ) (s : Setup) (slice : List ℕ) (long : s .«get_cfg_len�
       record {
         setup = refl;
         control = refl;
-        outputs = record { held = zeros outputs 2 (omega arith) (omega arith); next = zeros outputs 1 (omega arith) (omega arith); fresh = refl; zeros = refl };
+        outputs = record { held = zeros outputRow 2 (omega arith) (omega arith); next = zeros outputRow 1 (omega arith) (omega arith); fresh = refl; zeros = refl };
         inputs = record {
-          sending = zeros inputs 0 (omega arith) (omega arith);
-          next = zeros inputs 1 (omega arith) (omega arith);
-          held = zeros inputs 2 (omega arith) (omega arith);
+          sending = zeros inputRow 0 (omega arith) (omega arith);
+          next = zeros inputRow 1 (omega arith) (omega arith);
+          held = zeros inputRow 2 (omega arith) (omega arith);
           fresh = refl;
         };
         parameters = record { shown = refl; waiting = refl; shown-count = refl; waiting-count = refl; fresh = refl };
         configuration = record { shown = refl; waiting = refl; shown-count = refl; waiting-count = refl; fresh = refl };
-        diagnosis = record { own = zeros diagnosis 0 (omega arith) (omega arith); user = zeros diagnosis 1 (omega arith) (omega arith) };
+        diagnosis = record { own = zeros diagnosisRow 0 (omega arith) (omega arith); user = zeros diagnosisRow 1 (omega arith) (omega arith) };
         slice = ap (λ (n : ℕ). part (laidOut m s slice) (getCfgAt s) n) long ∙ laid-slice m s slice long room;
         reading = ignored-agrees refl refl refl;
         reply = ([], record { count = refl; octets = λ k g. absurd (omega arith); unsent = none empty [] refl; diagnosis = refl });

@@ -17,7 +17,7 @@ use Rattle.telegram.specs.declared.reader.Status.{Status}
 use Rattle.telegram.specs.declared.reader.Status.the-variants.{Fresh, Inside, Complete, Broken}
 use Rattle.telegram.specs.Reading.{start, off, readerAfter, status, datumOf}
 use Rattle.state.specs.declared.state.State.{State}
-use Rattle.state.specs.Layout.{stateLength, outputs, parameters, configuration, countOf, startOf, outputsAt, parametersAt}
+use Rattle.state.specs.Layout.{stateLength, outputRow, parameterRow, configurationRow, rowCount, startOf, outputsAt, parametersAt}
 use Rattle.state.proofs.Places.{inside}
 use Rattle.rules.specs.declared.outcome.OutputsDeed.{OutputsDeed}
 use Rattle.rules.specs.declared.outcome.OutputsDeed.the-variants as outputs-deed
@@ -49,13 +49,13 @@ pub record Alike (r q : Stepped) : Type 0 where
 -- a memory that has room for the buffers has room for the state
 pub safe-long : (s : State) (m : List ℕ) → Safe s m → stateLength ≤ length m
 safe-long s m h =
-    let u = inside (s .setup) outputs 0 0 (omega arith) (omega arith) in
+    let u = inside (s .setup) outputRow 0 0 (omega arith) (omega arith) in
     let r = h .room in
     omega arith
 
 -- a buffer begins behind it
-starts : (s : State) (kind k : ℕ) → k < countOf kind → stateLength ≤ startOf (s .setup) kind k
-starts s kind k h = inside (s .setup) kind k 0 h (omega arith) .0
+starts : (s : State) (row k : ℕ) → k < rowCount row → stateLength ≤ startOf (s .setup) row k
+starts s row k h = inside (s .setup) row k 0 h (omega arith) .0
 
 module _ (m : List ℕ) (long : stateLength ≤ length m) (a : ℕ) (far : stateLength ≤ a) where
   place : a ≡ stateLength + (a - stateLength)
@@ -101,7 +101,7 @@ module _ (s : State) (m n : List ℕ) (h : Safe s m) (g : Safe s n) (e : behind 
   on-memory outputs-deed.Publish = e
   on-memory outputs-deed.Zeros =
       let a = outputsAt (s .setup) (nextOf (s .outputs .set .place)) in
-      let far = starts s outputs (nextOf (s .outputs .set .place)) (h .outputs .next-in) in
+      let far = starts s outputRow (nextOf (s .outputs .set .place)) (h .outputs .next-in) in
       let xs = replicate {A = ℕ} (s .setup .«output_len») 0 in
       behind-pasted m (safe-long s m h) a far xs
       ∙ ap (λ (l : List ℕ). pasted l (a - stateLength) xs) e
@@ -114,22 +114,22 @@ module _ (s : State) (m n : List ℕ) (h : Safe s m) (g : Safe s n) (e : behind 
   same-data : (k b : ℕ) → behind (storedData s m k b) ≡ behind (storedData s n k b)
   same-data k b = go (ltb (s .incoming .reader .da) 128) (eqb (s .incoming .reader .dsap) 61) (eqb (s .incoming .reader .dsap) 62)
     where
-      into : (kind p size : ℕ) → p < countOf kind
-          → behind (storedIn m (startOf (s .setup) kind p) size k b) ≡ behind (storedIn n (startOf (s .setup) kind p) size k b)
-      into kind p size z = same-stored (startOf (s .setup) kind p) (starts s kind p z) size k b
+      into : (row p size : ℕ) → p < rowCount row
+          → behind (storedIn m (startOf (s .setup) row p) size k b) ≡ behind (storedIn n (startOf (s .setup) row p) size k b)
+      into row p size z = same-stored (startOf (s .setup) row p) (starts s row p z) size k b
 
       go : (x y z : Bool)
           → behind
-          (cond x (storedIn m (startOf (s .setup) outputs (fillOf (s .outputs .set .place))) (s .setup .«output_len») k b)
-          (cond y (storedIn m (startOf (s .setup) parameters (fillOf (s .parameters .set .place))) (s .setup .«parameter_len») k b)
-          (cond z (storedIn m (startOf (s .setup) configuration (fillOf (s .configuration .set .place))) (s .setup .«configuration_len») k b) m)))
+          (cond x (storedIn m (startOf (s .setup) outputRow (fillOf (s .outputs .set .place))) (s .setup .«output_len») k b)
+          (cond y (storedIn m (startOf (s .setup) parameterRow (fillOf (s .parameters .set .place))) (s .setup .«parameter_len») k b)
+          (cond z (storedIn m (startOf (s .setup) configurationRow (fillOf (s .configuration .set .place))) (s .setup .«configuration_len») k b) m)))
           ≡ behind
-          (cond x (storedIn n (startOf (s .setup) outputs (fillOf (s .outputs .set .place))) (s .setup .«output_len») k b)
-          (cond y (storedIn n (startOf (s .setup) parameters (fillOf (s .parameters .set .place))) (s .setup .«parameter_len») k b)
-          (cond z (storedIn n (startOf (s .setup) configuration (fillOf (s .configuration .set .place))) (s .setup .«configuration_len») k b) n)))
-      go true y z = into outputs (fillOf (s .outputs .set .place)) (s .setup .«output_len») (h .outputs .fill-in)
-      go false true z = into parameters (fillOf (s .parameters .set .place)) (s .setup .«parameter_len») (h .parameters .fill-in)
-      go false false true = into configuration (fillOf (s .configuration .set .place)) (s .setup .«configuration_len») (h .configuration .fill-in)
+          (cond x (storedIn n (startOf (s .setup) outputRow (fillOf (s .outputs .set .place))) (s .setup .«output_len») k b)
+          (cond y (storedIn n (startOf (s .setup) parameterRow (fillOf (s .parameters .set .place))) (s .setup .«parameter_len») k b)
+          (cond z (storedIn n (startOf (s .setup) configurationRow (fillOf (s .configuration .set .place))) (s .setup .«configuration_len») k b) n)))
+      go true y z = into outputRow (fillOf (s .outputs .set .place)) (s .setup .«output_len») (h .outputs .fill-in)
+      go false true z = into parameterRow (fillOf (s .parameters .set .place)) (s .setup .«parameter_len») (h .parameters .fill-in)
+      go false false true = into configurationRow (fillOf (s .configuration .set .place)) (s .setup .«configuration_len») (h .configuration .fill-in)
       go false false false = e
 
   alike-stored : (d : Datum) (r : Reader) (b : ℕ) → Alike (storedAs d s m r b) (storedAs d s n r b)
@@ -149,7 +149,7 @@ module _ (s : State) (m n : List ℕ) (h : Safe s m) (g : Safe s n) (e : behind 
   same-prm : prmIn s m ≡ prmIn s n
   same-prm =
       same-prm-at (parametersAt (s .setup) (fillOf (s .parameters .set .place)))
-      (starts s parameters (fillOf (s .parameters .set .place)) (h .parameters .fill-in))
+      (starts s parameterRow (fillOf (s .parameters .set .place)) (h .parameters .fill-in))
 
   same-outcome : (r : Request) → outcomeOf s m r ≡ outcomeOf s n r
   unfolding outcomeOf

@@ -10,7 +10,7 @@ use Rattle.buffers.proofs.Roles.{initial-permutation}
 use Rattle.octets.specs.Part.{part}
 use Rattle.state.specs.declared.setup.Setup.{Setup}
 use Rattle.state.specs.Image.{image}
-use Rattle.state.specs.Layout.{stateLength, getCfg, countOf, lengthOf, startOf, getCfgAt, endOf}
+use Rattle.state.specs.Layout.{stateLength, getCfgRow, rowCount, rowLength, startOf, getCfgAt, endOf}
 use Rattle.state.specs.Memory.{Holds}
 use Rattle.state.specs.Sound.{Ranged, Sound}
 use Rattle.state.specs.Start.{initialState, zeros, wiped, laidOut}
@@ -63,13 +63,13 @@ module _ (m : List ℕ) (s : Setup) (slice : List ℕ) (long : s .«get_cfg_len�
       kept-length (initialState s) (wiped m s slice) (omega arith) ∙ e
 
   -- zeros in every buffer but the last
-  pub laid-zeros : (a i : ℕ) → a < getCfg → i < countOf a → part (laidOut m s slice) (startOf s a i) (lengthOf s a) ≡ zeros (lengthOf s a)
+  pub laid-zeros : (a i : ℕ) → a < getCfgRow → i < rowCount a → part (laidOut m s slice) (startOf s a i) (rowLength s a) ≡ zeros (rowLength s a)
   unfolding laidOut
   laid-zeros a i h g =
-      let n = lengthOf s a in
+      let n = rowLength s a in
       let f = inside s a i n g (omega arith) .0 in
       kept-part (initialState s) (wiped m s slice) (startOf s a i) n f
-      ∙ wiped-zeros m s slice long room (startOf s a i) n f (in-front s a getCfg i n h g (omega arith))
+      ∙ wiped-zeros m s slice long room (startOf s a i) n f (in-front s a getCfgRow i n h g (omega arith))
 
   -- the slice in the last
   pub laid-slice : part (laidOut m s slice) (getCfgAt s) (length slice) ≡ slice

@@ -10,90 +10,90 @@ use lib.Dec.{ltb}
 use borrow.Author.Tests.{ltb-true, ltb-false}
 use Rattle.octets.proofs.Parts.{places-apart}
 use Rattle.state.specs.declared.setup.Setup.{Setup}
-use Rattle.state.specs.Layout.{stateLength, roundedUp, bufferCounts, countOf, lengthOf, getCfg, baseOf, startOf, getCfgAt, endOf}
+use Rattle.state.specs.Layout.{stateLength, roundedUp, rowCounts, rowCount, rowLength, getCfgRow, rowBase, startOf, getCfgAt, endOf}
 
 -- a length is at most what it is rounded up to
 pub rounded-le : (n : ℕ) → n ≤ roundedUp n
 unfolding roundedUp
 rounded-le n = omega arith
 
--- a kind ends before every later kind begins
-before : (s : Setup) (a b : ℕ) → a < b → startOf s a (countOf a) ≤ baseOf s b
-unfolding baseOf startOf
+-- a row ends before every later row begins
+before : (s : Setup) (a b : ℕ) → a < b → startOf s a (rowCount a) ≤ rowBase s b
+unfolding rowBase startOf
 before s a zero h = absurd (not-suc-le-zero h)
 before s a (suc b) h = go (ltb a b) refl (before s a b)
   where
-    go : (t : Bool) → ltb a b ≡ t → (a < b → startOf s a (countOf a) ≤ baseOf s b) → startOf s a (countOf a) ≤ baseOf s (suc b)
+    go : (t : Bool) → ltb a b ≡ t → (a < b → startOf s a (rowCount a) ≤ rowBase s b) → startOf s a (rowCount a) ≤ rowBase s (suc b)
     go true e f = let u = f (ltb-true a b e) in omega arith
     go false e f = let v : a ≡ b = (let w : b ≤ a = ltb-false a b e in omega arith) in rw v (omega arith)
 
--- a buffer ends where its kind ends or before
-ends : (s : Setup) (a i n : ℕ) → i < countOf a → n ≤ roundedUp (lengthOf s a) → startOf s a i + n ≤ startOf s a (countOf a)
+-- a buffer ends where its row ends or before
+ends : (s : Setup) (a i n : ℕ) → i < rowCount a → n ≤ roundedUp (rowLength s a) → startOf s a i + n ≤ startOf s a (rowCount a)
 unfolding startOf
 ends s a i n h g =
-    let u = mul-le-mul-left (roundedUp (lengthOf s a)) h in
-    let v = mul-suc (roundedUp (lengthOf s a)) i in
+    let u = mul-le-mul-left (roundedUp (rowLength s a)) h in
+    let v = mul-suc (roundedUp (rowLength s a)) i in
     omega arith
 
--- a kind that has buffers is one of those in the order
-known : (a i : ℕ) → i < countOf a → a < length bufferCounts
-known a i h = go (ltb a (length bufferCounts)) refl
+-- a row that has buffers is one of those in the order
+known : (a i : ℕ) → i < rowCount a → a < length rowCounts
+known a i h = go (ltb a (length rowCounts)) refl
   where
-    go : (t : Bool) → ltb a (length bufferCounts) ≡ t → a < length bufferCounts
-    go true e = ltb-true a (length bufferCounts) e
+    go : (t : Bool) → ltb a (length rowCounts) ≡ t → a < length rowCounts
+    go true e = ltb-true a (length rowCounts) e
     go false e =
-        let u : length bufferCounts ≤ a = ltb-false a (length bufferCounts) e in
-        let z = List·getD-eq-default bufferCounts 0 u in
+        let u : length rowCounts ≤ a = ltb-false a (length rowCounts) e in
+        let z = List·getD-eq-default rowCounts 0 u in
         omega arith
 
 -- the first buffer begins behind the state
-behind : (s : Setup) (a : ℕ) → stateLength ≤ baseOf s a
-unfolding baseOf
+behind : (s : Setup) (a : ℕ) → stateLength ≤ rowBase s a
+unfolding rowBase
 behind s zero = omega arith
 behind s (suc a) = let u = behind s a in omega arith
 
--- a kind begins with its first buffer
-pub first-start : (s : Setup) (a : ℕ) → startOf s a 0 ≡ baseOf s a
+-- a row begins with its first buffer
+pub first-start : (s : Setup) (a : ℕ) → startOf s a 0 ≡ rowBase s a
 unfolding startOf
 first-start s a = omega arith
 
--- every buffer ends in front of a later kind
-pub in-front : (s : Setup) (a b i n : ℕ) → a < b → i < countOf a → n ≤ lengthOf s a → startOf s a i + n ≤ baseOf s b
+-- every buffer ends in front of a later row
+pub in-front : (s : Setup) (a b i n : ℕ) → a < b → i < rowCount a → n ≤ rowLength s a → startOf s a i + n ≤ rowBase s b
 in-front s a b i n o h g =
-    let r = rounded-le (lengthOf s a) in
+    let r = rounded-le (rowLength s a) in
     let v = ends s a i n h (omega arith) in
     let w = before s a b o in
     omega arith
 
 -- every buffer lies behind the state and in front of the end
-pub inside : (s : Setup) (a i n : ℕ) → i < countOf a → n ≤ lengthOf s a → (stateLength ≤ startOf s a i) × (startOf s a i + n ≤ endOf s)
+pub inside : (s : Setup) (a i n : ℕ) → i < rowCount a → n ≤ rowLength s a → (stateLength ≤ startOf s a i) × (startOf s a i + n ≤ endOf s)
 unfolding startOf
 inside s a i n h g =
     let u = behind s a in
-    (omega arith, in-front s a (length bufferCounts) i n (known a i h) h g)
+    (omega arith, in-front s a (length rowCounts) i n (known a i h) h g)
 
 -- the one for Get_Cfg
 pub get-cfg-inside : (s : Setup) (n : ℕ) → n ≤ s .«get_cfg_len» → (stateLength ≤ getCfgAt s) × (getCfgAt s + n ≤ endOf s)
 get-cfg-inside s n h =
-    let u = inside s getCfg 0 n (omega arith) h in
-    let e = first-start s getCfg in
+    let u = inside s getCfgRow 0 n (omega arith) h in
+    let e = first-start s getCfgRow in
     omega arith
 
 -- the buffers end behind the state
 pub end-behind : (s : Setup) → stateLength ≤ endOf s
 end-behind s = let h = get-cfg-inside s 0 (omega arith) in omega arith
 
--- two buffers that differ in kind or in place lie apart
-pub apart : (s : Setup) (a i n b j k : ℕ) → i < countOf a → j < countOf b → n ≤ lengthOf s a → k ≤ lengthOf s b → (a ≡ b → i ≡ j → ⊥)
+-- two buffers that differ in row or in place lie apart
+pub apart : (s : Setup) (a i n b j k : ℕ) → i < rowCount a → j < rowCount b → n ≤ rowLength s a → k ≤ rowLength s b → (a ≡ b → i ≡ j → ⊥)
     → (startOf s b j + k ≤ startOf s a i) ⊎ (startOf s a i + n ≤ startOf s b j)
 unfolding startOf
 apart s a i n b j k hi hj hn hk d = go (ltb a b) refl (ltb b a) refl
   where
-    tall : n ≤ roundedUp (lengthOf s a)
-    tall = let r = rounded-le (lengthOf s a) in omega arith
+    tall : n ≤ roundedUp (rowLength s a)
+    tall = let r = rounded-le (rowLength s a) in omega arith
 
-    wide : k ≤ roundedUp (lengthOf s b)
-    wide = let r = rounded-le (lengthOf s b) in omega arith
+    wide : k ≤ roundedUp (rowLength s b)
+    wide = let r = rounded-le (rowLength s b) in omega arith
 
     go : (t : Bool) → ltb a b ≡ t → (u : Bool) → ltb b a ≡ u → (startOf s b j + k ≤ startOf s a i) ⊎ (startOf s a i + n ≤ startOf s b j)
     go true e u f =
@@ -108,7 +108,7 @@ apart s a i n b j k hi hj hn hk d = go (ltb a b) refl (ltb b a) refl
         let p : b ≤ a = ltb-false a b e in
         let q : a ≤ b = ltb-false b a f in
         let o : a ≡ b = omega arith in
-        rw (sym o) (places-apart (baseOf s a) (roundedUp (lengthOf s a)) i j n k (d o) tall (rw o wide))
+        rw (sym o) (places-apart (rowBase s a) (roundedUp (rowLength s a)) i j n k (d o) tall (rw o wide))
 
 -- ---- no start wraps
 
@@ -126,10 +126,10 @@ pub rounded-small : (n : ℕ) → n < 256 → roundedUp n ≤ 256
 unfolding roundedUp
 rounded-small n h = omega arith
 
--- every kind begins far below what a number of the code can hold
-pub base-small : (s : Setup) (a : ℕ) → Octets s → a ≤ length bufferCounts → baseOf s a ≤ 65536
-unfolding baseOf startOf
-base-small s a o h = go (ltb a (length bufferCounts)) refl
+-- every row begins far below what a number of the code can hold
+pub base-small : (s : Setup) (a : ℕ) → Octets s → a ≤ length rowCounts → rowBase s a ≤ 65536
+unfolding rowBase startOf
+base-small s a o h = go (ltb a (length rowCounts)) refl
   where
     whole : endOf s ≤ 65536
     whole =
@@ -141,11 +141,11 @@ base-small s a o h = go (ltb a (length bufferCounts)) refl
         let u₅ = rounded-small _ (o .get-cfg-octet) in
         omega arith
 
-    go : (t : Bool) → ltb a (length bufferCounts) ≡ t → baseOf s a ≤ 65536
-    go true e = let u = before s a (length bufferCounts) (ltb-true a (length bufferCounts) e) in let w = whole in omega arith
+    go : (t : Bool) → ltb a (length rowCounts) ≡ t → rowBase s a ≤ 65536
+    go true e = let u = before s a (length rowCounts) (ltb-true a (length rowCounts) e) in let w = whole in omega arith
     go false e =
-        let u : length bufferCounts ≤ a = ltb-false a (length bufferCounts) e in
-        let v : a ≡ length bufferCounts = omega arith in
+        let u : length rowCounts ≤ a = ltb-false a (length rowCounts) e in
+        let v : a ≡ length rowCounts = omega arith in
         rw v whole
 
 -- ---- the three sums
@@ -165,13 +165,13 @@ allLengths n =
     }
 
 pub all-96 : endOf (allLengths 96) ≡ 1504
-unfolding baseOf roundedUp
+unfolding rowBase roundedUp
 all-96 = refl
 
 pub all-97 : endOf (allLengths 97) ≡ 1624
-unfolding baseOf roundedUp
+unfolding rowBase roundedUp
 all-97 = refl
 
 pub all-244 : endOf (allLengths 244) ≡ 3784
-unfolding baseOf roundedUp
+unfolding rowBase roundedUp
 all-244 = refl

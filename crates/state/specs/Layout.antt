@@ -12,72 +12,72 @@ stateLength = 64
 unfoldable pub roundedUp : ℕ → ℕ
 roundedUp n = (n + 7) / 8 * 8
 
--- the kinds of buffers, by where they stand in the order
-abbrev pub outputs : ℕ
-outputs = 0
+-- the rows of buffers, in their order: the buffers of one use, one after the other
+abbrev pub outputRow : ℕ
+outputRow = 0
 
-abbrev pub inputs : ℕ
-inputs = 1
+abbrev pub inputRow : ℕ
+inputRow = 1
 
-abbrev pub parameters : ℕ
-parameters = 2
+abbrev pub parameterRow : ℕ
+parameterRow = 2
 
-abbrev pub configuration : ℕ
-configuration = 3
+abbrev pub configurationRow : ℕ
+configurationRow = 3
 
-abbrev pub diagnosis : ℕ
-diagnosis = 4
+abbrev pub diagnosisRow : ℕ
+diagnosisRow = 4
 
-abbrev pub getCfg : ℕ
-getCfg = 5
+abbrev pub getCfgRow : ℕ
+getCfgRow = 5
 
 -- "three output buffers, three input, three parameter, three configuration, two diagnosis, one Get_Cfg"
-abbrev pub bufferCounts : List ℕ
-bufferCounts = 3 ∷ 3 ∷ 3 ∷ 3 ∷ 2 ∷ 1 ∷ []
+abbrev pub rowCounts : List ℕ
+rowCounts = 3 ∷ 3 ∷ 3 ∷ 3 ∷ 2 ∷ 1 ∷ []
 
--- how many buffers there are of a kind
-abbrev pub countOf : ℕ → ℕ
-countOf kind = getD bufferCounts kind 0
+-- how many buffers there are of a row
+abbrev pub rowCount : ℕ → ℕ
+rowCount row = getD rowCounts row 0
 
--- how long a buffer of a kind is
-abbrev pub lengthOf : Setup → ℕ → ℕ
-lengthOf s kind =
+-- how long a buffer of a row is
+abbrev pub rowLength : Setup → ℕ → ℕ
+rowLength s row =
     getD (s .«output_len» ∷ s .«input_len» ∷ s .«parameter_len» ∷ s .«configuration_len» ∷ s .«diagnosis_len» ∷ s .«get_cfg_len» ∷ [])
-    kind 0
+    row 0
 
--- the buffers of a kind lie one after the other from a base on
+-- the buffers of a row lie one after the other from a base on
 abbrev pub placeAt : ℕ → ℕ → ℕ → ℕ
 placeAt base n k = base + roundedUp n * k
 
--- the first kind begins behind the state, every other behind the one before it
-unfoldable pub baseOf : Setup → ℕ → ℕ
-baseOf s zero = stateLength
-baseOf s (suc kind) = placeAt (baseOf s kind) (lengthOf s kind) (countOf kind)
+-- the first row begins behind the state, every other behind the one before it
+unfoldable pub rowBase : Setup → ℕ → ℕ
+rowBase s zero = stateLength
+rowBase s (suc row) = placeAt (rowBase s row) (rowLength s row) (rowCount row)
 
--- where buffer k of a kind begins
+-- where buffer k of a row begins
 unfoldable pub startOf : Setup → ℕ → ℕ → ℕ
-startOf s kind k = placeAt (baseOf s kind) (lengthOf s kind) k
+startOf s row k = placeAt (rowBase s row) (rowLength s row) k
 
--- by the names of the kinds
+-- by the names of the rows
 abbrev pub outputsAt : Setup → ℕ → ℕ
-outputsAt s k = startOf s outputs k
+outputsAt s k = startOf s outputRow k
 
 abbrev pub inputsAt : Setup → ℕ → ℕ
-inputsAt s k = startOf s inputs k
+inputsAt s k = startOf s inputRow k
 
 abbrev pub parametersAt : Setup → ℕ → ℕ
-parametersAt s k = startOf s parameters k
+parametersAt s k = startOf s parameterRow k
 
 abbrev pub configurationAt : Setup → ℕ → ℕ
-configurationAt s k = startOf s configuration k
+configurationAt s k = startOf s configurationRow k
 
 abbrev pub diagnosisAt : Setup → ℕ → ℕ
-diagnosisAt s k = startOf s diagnosis k
+diagnosisAt s k = startOf s diagnosisRow k
 
 -- the one buffer for Get_Cfg
 abbrev pub getCfgAt : Setup → ℕ
-getCfgAt s = baseOf s getCfg
+getCfgAt s = rowBase s getCfgRow
 
 -- where the last one ends
 abbrev pub endOf : Setup → ℕ
-endOf s = baseOf s (length bufferCounts)
+endOf s = rowBase s (length rowCounts)

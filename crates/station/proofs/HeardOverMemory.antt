@@ -18,7 +18,7 @@ use Rattle.telegram.specs.Reading.{readerStep, readerAfter, status, takesData, 
 use Rattle.telegram.proofs.Run.{no-true}
 use Rattle.state.specs.declared.state.Incoming.{Incoming}
 use Rattle.state.specs.declared.state.State.{State}
-use Rattle.state.specs.Layout.{stateLength, countOf, startOf, outputs, parameters, configuration, outputsAt, parametersAt, configurationAt}
+use Rattle.state.specs.Layout.{stateLength, rowCount, startOf, outputRow, parameterRow, configurationRow, outputsAt, parametersAt, configurationAt}
 use Rattle.state.specs.Memory.{kept, Holds}
 use Rattle.state.specs.Unpack.{unpacked}
 use Rattle.state.specs.With.{withIncoming, withData}
@@ -99,21 +99,21 @@ one-of true x y z e f = e
 one-of false x y z e f = f
 
 module _ (m : List ℕ) (s : State) (h : Holds m s) where
-  behind : (kind i : ℕ) → i < countOf kind → stateLength ≤ startOf (s .setup) kind i
-  behind kind i lt = inside (s .setup) kind i 0 lt (omega arith) .0
+  behind : (row i : ℕ) → i < rowCount row → stateLength ≤ startOf (s .setup) row i
+  behind row i lt = inside (s .setup) row i 0 lt (omega arith) .0
 
   stored-front : (k b : ℕ) → take stateLength (storedData s m k b) ≡ take stateLength m
   stored-front k b =
       let safe = holds-safe m s h in
       one-of (ltb (s .incoming .reader .da) 128) _ _ _
       (stored-behind m (outputsAt (s .setup) (fillOf (s .outputs .set .place))) (s .setup .«output_len») k b
-      (behind outputs (fillOf (s .outputs .set .place)) (safe .outputs .fill-in)))
+      (behind outputRow (fillOf (s .outputs .set .place)) (safe .outputs .fill-in)))
       (one-of (eqb (s .incoming .reader .dsap) 61) _ _ _
       (stored-behind m (parametersAt (s .setup) (fillOf (s .parameters .set .place))) (s .setup .«parameter_len») k b
-      (behind parameters (fillOf (s .parameters .set .place)) (safe .parameters .fill-in)))
+      (behind parameterRow (fillOf (s .parameters .set .place)) (safe .parameters .fill-in)))
       (one-of (eqb (s .incoming .reader .dsap) 62) _ _ _
       (stored-behind m (configurationAt (s .setup) (fillOf (s .configuration .set .place))) (s .setup .«configuration_len») k b
-      (behind configuration (fillOf (s .configuration .set .place)) (safe .configuration .fill-in)))
+      (behind configurationRow (fillOf (s .configuration .set .place)) (safe .configuration .fill-in)))
       refl))
 
   -- so the memory holds the state still

@@ -12,7 +12,7 @@ use Rattle.buffers.specs.Triple.{heldOf}
 use Rattle.state.specs.declared.answer.Refusal.the-variants.{Range, Absent}
 use Rattle.state.specs.declared.state.State.{State}
 use Rattle.state.specs.Layout as layout
-use Rattle.state.specs.Layout.{stateLength, countOf, startOf, outputs, inputs, parameters, configuration, diagnosis}
+use Rattle.state.specs.Layout.{stateLength, rowCount, startOf, outputRow, inputRow, parameterRow, configurationRow, diagnosisRow}
 use Rattle.state.proofs.Places.{inside}
 use Rattle.state.proofs.Tests.{all-at}
 use Rattle.rules.specs.Kinds.{kindLength, inRange, writable}
@@ -28,10 +28,10 @@ Lies m a = (stateLength ≤ a) × (a < length m)
 
 module _ (s : State) (m : List ℕ) (kind index : ℕ) (safe : Safe s m) where
   -- an octet of a buffer
-  in-buffer : (a i : ℕ) → i < countOf a → ltb index (layout.lengthOf (s .setup) a) ≡ true
+  in-buffer : (a i : ℕ) → i < rowCount a → ltb index (layout.rowLength (s .setup) a) ≡ true
       → Lies m (startOf (s .setup) a i + index)
   in-buffer a i h e =
-      let below : index < layout.lengthOf (s .setup) a = ltb-true index (layout.lengthOf (s .setup) a) e in
+      let below : index < layout.rowLength (s .setup) a = ltb-true index (layout.rowLength (s .setup) a) e in
       let u = inside (s .setup) a i (index + 1) h (omega arith) in
       let r = safe .room in
       (omega arith, omega arith)
@@ -48,17 +48,17 @@ module _ (s : State) (m : List ℕ) (kind index : ℕ) (safe : Safe s m) where
           (cond b₃ (s .setup .«configuration_len») (cond b₄ (s .setup .«input_len») (cond b₅ (s .setup .«diagnosis_len») 0)))))
           ≡ true
           → Lies m
-          (cond b₁ (startOf (s .setup) outputs (heldOf (s .outputs .set .place)))
-          (cond b₂ (startOf (s .setup) parameters (heldOf (s .parameters .set .place)))
-          (cond b₃ (startOf (s .setup) configuration (heldOf (s .configuration .set .place)))
-          (cond b₄ (startOf (s .setup) inputs (heldOf (s .inputs .place)))
-          (startOf (s .setup) diagnosis (userPlace (s .swapped))))))
+          (cond b₁ (startOf (s .setup) outputRow (heldOf (s .outputs .set .place)))
+          (cond b₂ (startOf (s .setup) parameterRow (heldOf (s .parameters .set .place)))
+          (cond b₃ (startOf (s .setup) configurationRow (heldOf (s .configuration .set .place)))
+          (cond b₄ (startOf (s .setup) inputRow (heldOf (s .inputs .place)))
+          (startOf (s .setup) diagnosisRow (userPlace (s .swapped))))))
           + index)
-      go true b₂ b₃ b₄ b₅ f = in-buffer outputs (heldOf (s .outputs .set .place)) (safe .outputs .held-in) f
-      go false true b₃ b₄ b₅ f = in-buffer parameters (heldOf (s .parameters .set .place)) (safe .parameters .held-in) f
-      go false false true b₄ b₅ f = in-buffer configuration (heldOf (s .configuration .set .place)) (safe .configuration .held-in) f
-      go false false false true b₅ f = in-buffer inputs (heldOf (s .inputs .place)) (safe .inputs .held-in) f
-      go false false false false true f = in-buffer diagnosis (userPlace (s .swapped)) (user-in (s .swapped)) f
+      go true b₂ b₃ b₄ b₅ f = in-buffer outputRow (heldOf (s .outputs .set .place)) (safe .outputs .held-in) f
+      go false true b₃ b₄ b₅ f = in-buffer parameterRow (heldOf (s .parameters .set .place)) (safe .parameters .held-in) f
+      go false false true b₄ b₅ f = in-buffer configurationRow (heldOf (s .configuration .set .place)) (safe .configuration .held-in) f
+      go false false false true b₅ f = in-buffer inputRow (heldOf (s .inputs .place)) (safe .inputs .held-in) f
+      go false false false false true f = in-buffer diagnosisRow (userPlace (s .swapped)) (user-in (s .swapped)) f
       go false false false false false f = let z : index < 0 = ltb-true index 0 f in absurd (omega arith)
 
   -- a write leaves the state's octets

@@ -15,7 +15,7 @@ use Rattle.telegram.specs.Sending.{left, sent}
 use Rattle.state.specs.declared.state.Incoming.{Incoming}
 use Rattle.state.specs.declared.state.Reply.{Reply}
 use Rattle.state.specs.declared.state.State.{State}
-use Rattle.state.specs.Layout.{outputs, inputs, diagnosis, outputsAt, inputsAt, diagnosisAt}
+use Rattle.state.specs.Layout.{outputRow, inputRow, diagnosisRow, outputsAt, inputsAt, diagnosisAt}
 use Rattle.state.specs.Memory.{kept, Holds}
 use Rattle.state.specs.With.{withIncoming, withSender}
 use Rattle.rules.specs.Diagnosis.{delayed}
@@ -34,17 +34,17 @@ use Rattle.state.proofs.Damage.{fronted-same}
 module _ (m : List ℕ) (s : State) (h : Holds m s) where
   -- the inputs that are sent
   pub inputs-room : inputsAt (s .setup) (fillOf (s .inputs .place)) + s .setup .«input_len» ≤ length m
-  inputs-room = buffer-room s m inputs (fillOf (s .inputs .place)) (holds-safe m s h) (holds-safe m s h .inputs .fill-in)
+  inputs-room = buffer-room s m inputRow (fillOf (s .inputs .place)) (holds-safe m s h) (holds-safe m s h .inputs .fill-in)
 
   -- the outputs that the reply leaves from
   pub outputs-room : outputsAt (s .setup) (s .reply .place) + s .setup .«output_len» ≤ length m
   outputs-room =
       let g = holds-safe m s h .reply in
-      buffer-room s m outputs (s .reply .place) (holds-safe m s h) (omega arith)
+      buffer-room s m outputRow (s .reply .place) (holds-safe m s h) (omega arith)
 
   -- the controller's diagnosis
   pub diagnosis-room : diagnosisAt (s .setup) (ownPlace (s .swapped)) + s .setup .«diagnosis_len» ≤ length m
-  diagnosis-room = buffer-room s m diagnosis (ownPlace (s .swapped)) (holds-safe m s h) (own-in (s .swapped))
+  diagnosis-room = buffer-room s m diagnosisRow (ownPlace (s .swapped)) (holds-safe m s h) (own-in (s .swapped))
 
 -- ---- a data octet behind DSAP and SSAP
 

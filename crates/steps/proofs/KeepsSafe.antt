@@ -24,7 +24,7 @@ use Rattle.state.specs.declared.state.Outputs.{Outputs}
 use Rattle.state.specs.declared.state.Reply.{Reply}
 use Rattle.state.specs.declared.state.Sets.{Sets}
 use Rattle.state.specs.declared.state.State.{State}
-use Rattle.state.specs.Layout.{outputs, parameters, countOf, lengthOf, startOf, outputsAt, parametersAt, getCfgAt}
+use Rattle.state.specs.Layout.{outputRow, parameterRow, rowCount, rowLength, startOf, outputsAt, parametersAt, getCfgAt}
 use Rattle.state.proofs.Choice.{either}
 use Rattle.state.proofs.Places.{inside, get-cfg-inside}
 use Rattle.rules.specs.declared.outcome.OutputsDeed.{OutputsDeed}
@@ -57,11 +57,11 @@ pub user-in : (swapped : Bool) → userPlace swapped < 2
 user-in true = omega arith
 user-in false = omega arith
 
--- buffer k of a kind
-pub buffer-room : (s : State) (m : List ℕ) (kind k : ℕ) → Safe s m → k < countOf kind
-    → startOf (s .setup) kind k + lengthOf (s .setup) kind ≤ length m
-buffer-room s m kind k h g =
-    let u = inside (s .setup) kind k (lengthOf (s .setup) kind) g (omega arith) in
+-- buffer k of a row
+pub buffer-room : (s : State) (m : List ℕ) (row k : ℕ) → Safe s m → k < rowCount row
+    → startOf (s .setup) row k + rowLength (s .setup) row ≤ length m
+buffer-room s m row k h g =
+    let u = inside (s .setup) row k (rowLength (s .setup) row) g (omega arith) in
     let v = h .room in
     omega arith
 
@@ -75,7 +75,7 @@ get-cfg-room s m h =
 -- the octets of Set_Prm
 pub prm-room : (s : State) (m : List ℕ) → Safe s m → parametersAt (s .setup) (fillOf (s .parameters .set .place)) + 7 ≤ length m
 prm-room s m h =
-    let u = buffer-room s m parameters (fillOf (s .parameters .set .place)) h (h .parameters .fill-in) in
+    let u = buffer-room s m parameterRow (fillOf (s .parameters .set .place)) h (h .parameters .fill-in) in
     let v = h .long in
     omega arith
 
@@ -161,7 +161,7 @@ on-memory-length outputs-deed.Publish s m h = refl
 on-memory-length outputs-deed.Zeros s m h =
     pasted-length m (outputsAt (s .setup) (nextOf (s .outputs .set .place))) (replicate (s .setup .«output_len») 0)
     (rw (length-replicate {A = ℕ} (s .setup .«output_len») 0)
-    (buffer-room s m outputs (nextOf (s .outputs .set .place)) h (h .outputs .next-in)))
+    (buffer-room s m outputRow (nextOf (s .outputs .set .place)) h (h .outputs .next-in)))
 
 pub safe-carried : (s : State) (m : List ℕ) (o : Outcome) (count : ℕ) → Safe s m → Safely (carried s m o count)
 unfolding carried

@@ -1,5 +1,5 @@
 use borrow.Author.Needs.{needs}
-use Rattle.state.specs.Layout.{outputs}
+use Rattle.state.specs.Layout.{outputRow}
 use Rattle.steps.proofs.KeepsSafe.{buffer-room}
 use Rattle.outcomes.proofs.carry.clear_next.Statement.{statement}
 use Rattle.outcomes.proofs.carry.clear_next.Tie as tie
@@ -16,7 +16,7 @@ cast-clear-at c = search needs
 clear-at-requires : tie.Need-clear-at-requires
 clear-at-requires c κs =
     rw (c .before .before .outputs-at .ensures, c .before .before .before .next .ensures)
-    (buffer-room _ _ outputs _ (c .before .before .before .before .before .pre)
+    (buffer-room _ _ outputRow _ (c .before .before .before .before .before .pre)
     (c .before .before .before .before .before .pre .outputs .next-in))
 
 same-length : tie.Need-same-length

@@ -1,6 +1,6 @@
 -- `state::layout::configuration_at` meets its contract.
 use native.Mathlib.Omega.{arith}
-use Rattle.state.specs.Layout.{configuration, baseOf, startOf}
+use Rattle.state.specs.Layout.{configurationRow, rowBase, startOf}
 use Rattle.state.proofs.Places.{base-small}
 use borrow.Author.Needs.{needs}
 use Rattle.state.proofs.layout.configuration_at.Statement.{statement}
@@ -10,13 +10,13 @@ parameters-at-requires : tie.Need-parameters-at-requires
 parameters-at-requires c κs = search needs
 
 place-at-requires : tie.Need-place-at-requires
-unfolding baseOf startOf
+unfolding rowBase startOf
 place-at-requires c κs =
-    let u = base-small (c .before .args .s) configuration (search needs) (omega arith) in
+    let u = base-small (c .before .args .s) configurationRow (search needs) (omega arith) in
     omega arith
 
 returns : tie.Need-returns
-unfolding baseOf startOf
+unfolding rowBase startOf
 returns c = search needs
 
 pub configuration-at-spec : {M : Type 1} → statement M

@@ -1,6 +1,6 @@
 -- `state::layout::diagnosis_at` meets its contract.
 use native.Mathlib.Omega.{arith}
-use Rattle.state.specs.Layout.{diagnosis, baseOf, startOf}
+use Rattle.state.specs.Layout.{diagnosisRow, rowBase, startOf}
 use Rattle.state.proofs.Places.{base-small}
 use borrow.Author.Needs.{needs}
 use Rattle.state.proofs.layout.diagnosis_at.Statement.{statement}
@@ -10,13 +10,13 @@ configuration-at-requires : tie.Need-configuration-at-requires
 configuration-at-requires c κs = search needs
 
 place-at-requires : tie.Need-place-at-requires
-unfolding baseOf startOf
+unfolding rowBase startOf
 place-at-requires c κs =
-    let u = base-small (c .before .args .s) diagnosis (search needs) (omega arith) in
+    let u = base-small (c .before .args .s) diagnosisRow (search needs) (omega arith) in
     omega arith
 
 returns : tie.Need-returns
-unfolding baseOf startOf
+unfolding rowBase startOf
 returns c = search needs
 
 pub diagnosis-at-spec : {M : Type 1} → statement M

@@ -1,6 +1,6 @@
 -- `state::layout::end_of` meets its contract.
 use native.Mathlib.Omega.{arith}
-use Rattle.state.specs.Layout.{getCfg, baseOf, startOf}
+use Rattle.state.specs.Layout.{getCfgRow, rowBase, startOf}
 use Rattle.state.proofs.Places.{base-small}
 use borrow.Author.Needs.{needs}
 use Rattle.state.proofs.layout.end_of.Statement.{statement}
@@ -10,13 +10,13 @@ get-cfg-at-requires : tie.Need-get-cfg-at-requires
 get-cfg-at-requires c κs = search needs
 
 place-at-requires : tie.Need-place-at-requires
-unfolding baseOf startOf
+unfolding rowBase startOf
 place-at-requires c κs =
-    let u = base-small (c .before .args .s) getCfg (search needs) (omega arith) in
+    let u = base-small (c .before .args .s) getCfgRow (search needs) (omega arith) in
     omega arith
 
 returns : tie.Need-returns
-unfolding baseOf startOf
+unfolding rowBase startOf
 returns c = search needs
 
 pub end-of-spec : {M : Type 1} → statement M

@@ -1,5 +1,5 @@
 -- `state::layout::outputs_at` meets its contract.
-use Rattle.state.specs.Layout.{baseOf, startOf}
+use Rattle.state.specs.Layout.{rowBase, startOf}
 use borrow.Author.Needs.{needs}
 use Rattle.state.proofs.layout.outputs_at.Statement.{statement}
 use Rattle.state.proofs.layout.outputs_at.Tie as tie
@@ -8,7 +8,7 @@ place-at-requires : tie.Need-place-at-requires
 place-at-requires c κs = search needs
 
 returns : tie.Need-returns
-unfolding baseOf startOf
+unfolding rowBase startOf
 returns c = search needs
 
 pub outputs-at-spec : {M : Type 1} → statement M

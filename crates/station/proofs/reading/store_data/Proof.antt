@@ -1,6 +1,6 @@
 use borrow.Author.Tests.{lt-ltb, le-ltb, eq-eqb, ne-eqb}
 use borrow.Author.Needs.{needs}
-use Rattle.state.specs.Layout.{outputs, parameters, configuration}
+use Rattle.state.specs.Layout.{outputRow, parameterRow, configurationRow}
 use Rattle.steps.proofs.KeepsSafe.{buffer-room}
 use Rattle.station.proofs.reading.store_data.Statement.{statement}
 use Rattle.station.proofs.reading.store_data.Tie as tie
@@ -17,7 +17,7 @@ cast-store-at c = search needs
 store-at-requires : tie.Need-store-at-requires
 store-at-requires c κs =
     rw (c .before .before .outputs-at .ensures, c .before .before .before .fill .ensures)
-    (buffer-room _ _ outputs _ (c .before .before .before .before .before .before .before .before .before .pre)
+    (buffer-room _ _ outputRow _ (c .before .before .before .before .before .before .before .before .before .pre)
     (c .before .before .before .before .before .before .before .before .before .pre .outputs .fill-in))
 
 same-length : tie.Need-same-length
@@ -44,7 +44,7 @@ cast-store-at-2 c = search needs
 store-at-requires-2 : tie.Need-store-at-requires-2
 store-at-requires-2 c κs =
     rw (c .before .before .parameters-at .ensures, c .before .before .before .fill2 .ensures)
-    (buffer-room _ _ parameters _
+    (buffer-room _ _ parameterRow _
     (c .before .before .before .before .before .before .before .before .before .before .before .pre)
     (c .before .before .before .before .before .before .before .before .before .before .before .pre .parameters .fill-in))
 
@@ -73,7 +73,7 @@ cast-store-at-3 c = search needs
 store-at-requires-3 : tie.Need-store-at-requires-3
 store-at-requires-3 c κs =
     rw (c .before .before .configuration-at .ensures, c .before .before .before .fill3 .ensures)
-    (buffer-room _ _ configuration _
+    (buffer-room _ _ configurationRow _
     (c .before .before .before .before .before .before .before .before .before .before .before .before .before .pre)
     (c .before .before .before .before .before .before .before .before .before .before .before .before .before .pre .configuration .fill-in))
 
