@@ -18,7 +18,6 @@ use Rattle.state.specs.declared.control.Control.{Control}
 use Rattle.state.specs.declared.state.Drawn.the-variants.{Nothing}
 use Rattle.state.specs.declared.answer.Refusal.the-variants.{Range, Delayed}
 use Rattle.rules.specs.declared.outcome.Outcome.{Outcome}
-use Rattle.state.specs.Sound.{Within}
 use Rattle.state.specs.Well.{within}
 use Rattle.rules.specs.Control.{withNoted, raise}
 use Rattle.rules.specs.Phases.{drawing, waitPrm, enteringWaitPrm, dataExch}
@@ -31,10 +30,10 @@ use Rattle.ledger.specs.Outcome.{carried, diagnosisChanged, afterReply, settle}
 use Rattle.ledger.specs.Bus.{telegramOn, answered, completed, brokenOff, lengthened, beginning, sendLeft, silenced, heardAs, heard, paused, afterSend, elapsed}
 use Rattle.ledger.specs.User.{Told, told, refusing, writtenOctet, handOver, newDiagnosis, acknowledgeEvents, leaveMaster}
 use Rattle.rules.specs.Call.{Call, octet, gap, send, tick, take, read, write, hand-over, new-diagnosis, judge-parameters, judge-configuration, events, acknowledge, pending, leave}
+use Rattle.ledger.proofs.Fit.{count-in}
 use Rattle.ledger.specs.Calls.{step, after}
 use Rattle.agreement.proofs.Steady.{CountIn, InOrder, Steady}
 use Rattle.state.proofs.Choice.{by-test, and-left, and-right}
-use Rattle.state.proofs.Tests.{within-true}
 use Rattle.rules.proofs.Alike.{Alike, alike}
 use Rattle.ledger.proofs.ByCases.{take-cases, read-cases, write-cases, parameters-cases, configuration-cases}
 use Rattle.ledger.proofs.Fit.{outcome-served}
@@ -321,9 +320,6 @@ module _ {l : Ledger} (s : Steady l) where
   diagnosed-steady count flags w =
       record { order = diagnosed-order l count flags w (s .order); quiet = s .quiet; noted = s .noted; delaying = λ e. no-true e }
 
-  count-in : (n m : ℕ) (p : Bool) → within 6 n m && p ≡ true → Within 6 n m
-  count-in n m p e = within-true 6 n m (and-left (within 6 n m) p e)
-
 Keeps : Told → Type 0
 Keeps t = Steady (t .ledger)
 
@@ -344,8 +340,8 @@ step-steady l (new-diagnosis count flags) s =
     by-test Keeps (not (within 6 count (l .setup .«diagnosis_len») && leb flags 7)) (refusing Range l) _ (λ _. s)
     (λ e. by-test Keeps (delayed (l .control)) (refusing Delayed l) _ (λ _. s)
     (λ _. by-test Keeps (diagnosisLeaves l) (told 0 (withControl l (delaying (l .control) count flags))) (told 0 (diagnosisChanged l (diagnosed (l .control) count flags)))
-    (λ f. delaying-steady s count flags (count-in s count _ _ (not-false _ e)) f)
-    (λ _. diagnosed-steady s count flags (count-in s count _ _ (not-false _ e)))))
+    (λ f. delaying-steady s count flags (count-in count _ _ (not-false _ e)) f)
+    (λ _. diagnosed-steady s count flags (count-in count _ _ (not-false _ e)))))
 step-steady l (judge-parameters j) s =
     parameters-cases Keeps l j (λ _ _. s)
     (λ e. carried-steady s _ (parameters-keeps s (some (l .buffers .parameters .waiting)) (eqb j 1) (and-left (parametersOpen l) (leb j 1) e)))

@@ -232,7 +232,7 @@ written-fit {l} kind index x f = go (eqb kind 4)
         (record { own = f .lists .diagnosis .own; user = length-set (b .diagnosis .user) index x ∙ f .lists .diagnosis .user })
 
 -- a count that new diagnosis takes
-count-in : (n m : ℕ) (p : Bool) → within 6 n m && p ≡ true → Within 6 n m
+pub count-in : (n m : ℕ) (p : Bool) → within 6 n m && p ≡ true → Within 6 n m
 count-in n m p e = within-true 6 n m (and-left (within 6 n m) p e)
 
 -- and its flags
