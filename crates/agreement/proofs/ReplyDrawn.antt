@@ -14,7 +14,7 @@ use Rattle.buffers.specs.Triple.{fillOf, heldOf}
 use Rattle.octets.specs.Part.{part}
 use Rattle.octets.proofs.Parts.{part-length}
 use Rattle.telegram.specs.declared.Kind.the-variants.{Sd2}
-use Rattle.telegram.specs.Telegram.{sd1, sd2}
+use Rattle.telegram.specs.Telegram.{sd1, sd2, octetsOf}
 use Rattle.telegram.specs.Sending.{empty, sending}
 use Rattle.telegram.specs.ToSend.{toSend}
 use Rattle.telegram.proofs.Sends.{none, begins, single-octet}
@@ -29,7 +29,7 @@ use Rattle.state.proofs.Places.{inside, get-cfg-inside}
 use Rattle.rules.specs.Diagnosis.{headerOf}
 use Rattle.ledger.specs.Lists.{Buffers}
 use Rattle.ledger.specs.Ledger.{Line}
-use Rattle.ledger.specs.Replies.{headerOctets, diagnosisOctets, serviceReply, replyOf}
+use Rattle.ledger.specs.Replies.{headerOctets, diagnosisOctets, serviceTelegram, replyOf}
 use Rattle.rules.specs.Replies.{diagnoses, exchangeFc}
 use Rattle.steps.specs.Safe.{Safe}
 use Rattle.state.specs.With.{withReply}
@@ -51,14 +51,14 @@ service-octets f point xs h (suc (suc i)) g =
 
 -- and the sender sends them, with bit 7 in both addresses
 service-left : (s : Setup) (master point n : ℕ) (xs : List ℕ) → s .address ≤ 126 → master < 128 → length xs ≡ n → n ≤ 244
-    → toSend (servicing s master n) (0x3E ∷ point ∷ xs) ≡ serviceReply s master point xs
+    → toSend (servicing s master n) (0x3E ∷ point ∷ xs) ≡ octetsOf (serviceTelegram s master point xs)
 service-left s master point n xs a h e l =
     let p : master + 128 < 256 = omega arith in
     let q : s .address + 128 < 256 = omega arith in
     let u : n + 2 < 256 = omega arith in
     let v : n + 2 ≡ length (0x3E ∷ point ∷ xs) = omega arith in
     rw (mod-eq-of-lt p, mod-eq-of-lt q, mod-eq-of-lt u, v)
-    (begins (sd2 (master + 128) (s .address + 128) 0x08 (0x3E ∷ point ∷ xs)) (omega arith, omega arith, inr (omega arith, omega arith, omega arith)))
+    (begins (serviceTelegram s master point xs) (omega arith, omega arith, inr (omega arith, omega arith, omega arith)))
 
 service-count : (n : ℕ) (xs : List ℕ) (point : ℕ) → length xs ≡ n → n ≤ 244 → length (0x3E ∷ point ∷ xs) ≡ (n + 2) % 256
 service-count n xs point e l =

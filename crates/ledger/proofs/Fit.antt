@@ -36,14 +36,14 @@ use Rattle.ledger.specs.Bus.{telegramOn, requestBy, dataBy, outcomeOf, a
 use Rattle.ledger.specs.User.{handOver, acknowledgeEvents, leaveMaster, writtenOctet}
 use Rattle.rules.specs.Call.{Call, octet, gap, send, tick, take, read, write, hand-over, new-diagnosis, judge-parameters, judge-configuration, events, acknowledge, pending, leave}
 use Rattle.ledger.specs.Calls.{step, after}
-use Rattle.ledger.specs.ReadBack.{StartTakes, OutputsFit, InputsFit, SetsFit, DiagnosesFit, ListsFit, CountsFit, Left, Fit, Draws, Fixes, RepliesRead}
+use Rattle.ledger.specs.ReadBack.{StartTakes, OutputsFit, InputsFit, SetsFit, DiagnosesFit, ListsFit, CountsFit, Left, Fit, drawnBy, Draws, Fixes, RepliesRead}
 use Rattle.ledger.proofs.Settling.{settle-line}
 use Rattle.ledger.proofs.ByCases.{take-cases, read-cases, write-cases, diagnosis-cases, parameters-cases, configuration-cases}
 use Rattle.ledger.proofs.Hearing.{last-heard}
 use Rattle.rules.proofs.Served.{Publishes, Receives, Lawful, Quiet, clear-quiet, clear-noted-quiet, ticked-quiet, parameters-quiet, configuration-quiet, Served, served}
 use Rattle.state.proofs.Choice.{by-test, and-left, and-right}
 use Rattle.state.proofs.Tests.{within-true}
-use Rattle.ledger.proofs.ReadBack.{reply-reads, reply-left}
+use Rattle.ledger.proofs.ReadBack.{ValidReply, reply-valid, reply-reads, reply-left}
 
 -- ---------------------------------------------------------------------------------------------------
 -- The lists after an outcome.
@@ -171,13 +171,17 @@ module _ {l : Ledger} (f : Fit l) (t : Telegram) where
   outcome-fit : Fit (carried l (outcomeOf l (requestBy t) (payloadOf t)) (payloadOf t))
   outcome-fit = carried-fit f (payloadOf t) (outcome-served l t .lawful)
 
+  -- what it draws is valid
+  drawn-valid : ValidReply (drawnBy l t)
+  drawn-valid =
+      let o = outcomeOf l (requestBy t) (payloadOf t) in
+      reply-valid (l .setup) (l .slice) (o .control) (carried l o (payloadOf t) .buffers) (masterOf (requestBy t)) (f .start-takes) (outcome-fit .lists) (outcome-fit .counts) (master-low (requestBy t)) (o .drawn)
+
   completed-fit : Fit (completed l t)
   unfolding answered
   completed-fit =
-      let o = outcomeOf l (requestBy t) (payloadOf t) in
-      let m = carried l o (payloadOf t) in
       on-line outcome-fit (completed l t .line)
-      (reply-left (l .setup) (l .slice) (o .control) (m .buffers) (masterOf (requestBy t)) (f .start-takes) (outcome-fit .lists) (outcome-fit .counts) (master-low (requestBy t)) (o .drawn))
+      (reply-left (drawnBy l t) drawn-valid)
 
 -- the master of a telegram that acts is at most 126
 pub acts-master : (s : Setup) (r : Request) → acts s r ≡ true → masterOf r ≤ 126
@@ -307,14 +311,11 @@ after-fit l (c ∷ cs) f = after-fit (step l c .ledger) cs (step-fit l c f)
 
 draws : {l : Ledger} → Fit l → (t : Telegram) → Draws l t
 unfolding answered
-draws {l} f t =
-    let o = outcomeOf l (requestBy t) (payloadOf t) in
-    let g = outcome-fit f t in
-    record {
-      reads-back =
-          reply-reads (l .setup) (l .slice) (o .control) (onBuffers o (l .setup) (payloadOf t) (l .buffers)) (masterOf (requestBy t)) (f .start-takes) (g .lists) (g .counts) (master-low (requestBy t)) (o .drawn);
-      master = draws-master l t;
-    }
+draws {l} f t = record {
+  octets-are = refl;
+  reads-back = reply-reads (drawnBy l t) (drawn-valid f t);
+  master = draws-master l t;
+}
 
 fixes : (l : Ledger) (b : ℕ) (bad : Bool) → Fixes l b bad
 fixes l b bad i e =

@@ -1,26 +1,23 @@
 -- Every reply but E5 is a telegram with the fields that the rules gave, and what every ledger keeps for that (demand 2).
-use Prim.Native.Nat.{ℕ, _+_, _≤_}
+use Prim.Native.Nat.{ℕ, _≤_}
 use mathlib.Core.Path.{_≡_}
-use mathlib.Core.Bool.{Bool, true, false}
+use mathlib.Core.Bool.{Bool, false}
 use mathlib.Core.List.{List, [], _∷_, _++_}
 use mathlib.Core.Logic.{_⊎_}
 use lib.ListN.{length}
 use Rattle.telegram.specs.declared.reader.Status.the-variants.{Complete}
-use Rattle.telegram.specs.Telegram.{Telegram, sd1, sd2, kindOf, octetsOf, payloadOf, Valid, IsTelegram}
+use Rattle.telegram.specs.Telegram.{Telegram, kindOf, octetsOf, payloadOf, Valid, IsTelegram}
 use Rattle.telegram.specs.Reading.{start, run, readerAfter, status, gathered, finished, telegramOf}
 use Rattle.telegram.specs.Sending.{startOctet}
 use Rattle.state.specs.declared.setup.Setup.{Setup}
 use Rattle.state.specs.declared.control.Diagnosis.{Diagnosis as DiagnosisCounts}
-use Rattle.state.specs.declared.control.Control.{Control}
-use Rattle.state.specs.declared.state.Drawn.{Drawn}
 use Rattle.state.specs.declared.state.Drawn.the-variants as drawn
 use Rattle.state.specs.Sound.{Within, NoneOr, Ranged}
 use Rattle.rules.specs.Requests.{masterOf}
 use Rattle.ledger.specs.Lists.{Outputs, Inputs, Sets, Diagnoses, Buffers}
 use Rattle.ledger.specs.Ledger.{Ledger, fresh}
 use Rattle.ledger.specs.Outcome.{onBuffers}
-use Rattle.ledger.specs.Replies.{diagnosisOctets}
-use Rattle.rules.specs.Replies.{exchangeFc}
+use Rattle.ledger.specs.Replies.{Reply, answer, replyBy, replyOctets}
 use Rattle.ledger.specs.Bus.{telegramOn, requestBy, outcomeOf, completed, heard}
 use Rattle.rules.specs.Call.{Call}
 use Rattle.ledger.specs.Calls.{after}
@@ -73,12 +70,12 @@ pub record CountsFit (s : Setup) (d : DiagnosisCounts) : Type 0 where
   pub flags : d .«delayed_flags» ≤ 7
 
 -- a reply is E5 or a telegram
-abbrev pub Reply : List ℕ → Type 0
-Reply xs = (xs ≡ 0xE5 ∷ []) ⊎ IsTelegram xs
+abbrev pub IsReply : List ℕ → Type 0
+IsReply xs = (xs ≡ 0xE5 ∷ []) ⊎ IsTelegram xs
 
 -- the octets left of a reply: none, or those behind the ones that were sent
 abbrev pub Left : List ℕ → Type 0
-Left xs = (xs ≡ []) ⊎ ((sent : List ℕ) × Reply (sent ++ xs))
+Left xs = (xs ≡ []) ⊎ ((sent : List ℕ) × IsReply (sent ++ xs))
 
 -- what every ledger keeps
 pub record Fit (l : Ledger) : Type 0 where
@@ -87,41 +84,13 @@ pub record Fit (l : Ledger) : Type 0 where
   pub counts : CountsFit (l .setup) (l .control .diagnosis)
   pub reply : Left (l .line .reply)
 
--- The telegram that a reply is ----------------------------------------------------------------------
+-- The reply that is drawn ----------------------------------------------------------------------
 
--- neither nothing nor E5 is drawn
-abbrev pub drawsTelegram : Drawn → Bool
-drawsTelegram drawn.Nothing = false
-drawsTelegram drawn.Acknowledge = false
-drawsTelegram drawn.Status = true
-drawsTelegram drawn.Rejected = true
-drawsTelegram drawn.Exchange = true
-drawsTelegram drawn.Inputs = true
-drawsTelegram drawn.Outputs = true
-drawsTelegram drawn.Configuration = true
-drawsTelegram drawn.Diagnosis = true
-
--- to the master, from this station; bit 7 in both addresses, 3E, DSAP, then the data
-abbrev pub serviceTelegram : Setup → ℕ → ℕ → List ℕ → Telegram
-serviceTelegram s master point ds = sd2 (master + 128) (s .address + 128) 0x08 (0x3E ∷ point ∷ ds)
-
--- the telegram drawn, by its fields DA, SA, FC and data; there is none for nothing and for E5, where this is not looked at
-abbrev pub replyTelegram : Drawn → Setup → List ℕ → Control → Buffers → ℕ → Telegram
-replyTelegram drawn.Nothing s slice c b master = sd1 master (s .address) 0x00
-replyTelegram drawn.Acknowledge s slice c b master = sd1 master (s .address) 0x00
-replyTelegram drawn.Status s slice c b master = sd1 master (s .address) 0x00
-replyTelegram drawn.Rejected s slice c b master = sd1 master (s .address) 0x03
-replyTelegram drawn.Exchange s slice c b master = sd2 master (s .address) (exchangeFc c) (b .inputs .sending)
-replyTelegram drawn.Inputs s slice c b master = serviceTelegram s master 56 (b .inputs .sending)
-replyTelegram drawn.Outputs s slice c b master = serviceTelegram s master 57 (b .outputs .held)
-replyTelegram drawn.Configuration s slice c b master = serviceTelegram s master 59 slice
-replyTelegram drawn.Diagnosis s slice c b master = serviceTelegram s master 60 (diagnosisOctets s c (b .diagnosis .own))
-
--- the telegram that a complete telegram t draws
-abbrev pub drawnBy : Ledger → Telegram → Telegram
+-- the reply that a complete telegram t draws
+abbrev pub drawnBy : Ledger → Telegram → Reply
 drawnBy l t =
     let o = outcomeOf l (requestBy t) (payloadOf t) in
-    replyTelegram (o .drawn) (l .setup) (l .slice) (o .control) (onBuffers o (l .setup) (payloadOf t) (l .buffers)) (masterOf (requestBy t))
+    replyBy (o .drawn) (l .setup) (l .slice) (o .control) (onBuffers o (l .setup) (payloadOf t) (l .buffers)) (masterOf (requestBy t))
 
 -- these octets are that telegram, and reading them gives it back with all its fields
 pub record ReadsBack (xs : List ℕ) (t : Telegram) : Type 0 where
@@ -131,9 +100,11 @@ pub record ReadsBack (xs : List ℕ) (t : Telegram) : Type 0 where
   pub data-are : gathered start xs ≡ payloadOf t
   pub telegram-is : telegramOf (run xs) (gathered start xs) ≡ t
 
--- of the reply that a complete telegram t fixes: a telegram drawn reads back, and who is answered has a master's address
+-- of the reply that a complete telegram t fixes: it is what the rules draw, a telegram drawn reads back, and who is answered has a
+-- master's address
 pub record Draws (l : Ledger) (t : Telegram) : Type 0 where
-  pub reads-back : drawsTelegram (outcomeOf l (requestBy t) (payloadOf t) .drawn) ≡ true → ReadsBack (completed l t .line .reply) (drawnBy l t)
+  pub octets-are : completed l t .line .reply ≡ replyOctets (drawnBy l t)
+  pub reads-back : (u : Telegram) → drawnBy l t ≡ answer u → ReadsBack (completed l t .line .reply) u
   pub master : ¬ (outcomeOf l (requestBy t) (payloadOf t) .drawn ≡ drawn.Nothing) → masterOf (requestBy t) ≤ 126
 
 -- a last octet fixes the reply whole

@@ -2,7 +2,7 @@
 use Prim.Native.Nat.{ℕ, _+_, _/_, _%_}
 use mathlib.Core.List.{List, [], _∷_, _++_}
 use lib.ListN.{take, drop}
-use Rattle.telegram.specs.Telegram.{sd1, sd2, octetsOf}
+use Rattle.telegram.specs.Telegram.{Telegram, sd1, sd2, octetsOf}
 use Rattle.state.specs.declared.setup.Setup.{Setup}
 use Rattle.state.specs.declared.control.Control.{Control}
 use Rattle.state.specs.declared.state.Header.{Header}
@@ -20,22 +20,38 @@ headerOctets h ident = h .status1 ∷ h .status2 ∷ h .status3 ∷ h .master �
 abbrev pub diagnosisOctets : Setup → Control → List ℕ → List ℕ
 diagnosisOctets s c own = headerOctets (headerOf c) (s .ident) ++ drop 6 (take (c .diagnosis .count) own)
 
--- 10 SA own FC FCS 16
-abbrev pub shortReply : Setup → ℕ → ℕ → List ℕ
-shortReply s master fc = octetsOf (sd1 master (s .address) fc)
+-- what a telegram draws: no reply, the single octet E5, or a telegram
+pub data Reply : Type 0 where
+  silence : Reply
+  acknowledgement : Reply
+  answer : (t : Telegram) → Reply
+
+-- 10 SA own FC FCS 16: to the master, from this station
+abbrev pub shortTelegram : Setup → ℕ → ℕ → Telegram
+shortTelegram s master fc = sd1 master (s .address) fc
 
 -- SD2, FC 08, bit 7 in both addresses, data 3E, DSAP, then the data
-abbrev pub serviceReply : Setup → ℕ → ℕ → List ℕ → List ℕ
-serviceReply s master point ds = octetsOf (sd2 (master + 128) (s .address + 128) 0x08 (0x3E ∷ point ∷ ds))
+abbrev pub serviceTelegram : Setup → ℕ → ℕ → List ℕ → Telegram
+serviceTelegram s master point ds = sd2 (master + 128) (s .address + 128) 0x08 (0x3E ∷ point ∷ ds)
 
--- the reply to a master, whole
+-- the reply to a master, by its fields DA, SA, FC and data
+abbrev pub replyBy : Drawn → Setup → List ℕ → Control → Buffers → ℕ → Reply
+replyBy Nothing s slice c b master = silence
+replyBy Acknowledge s slice c b master = acknowledgement
+replyBy Status s slice c b master = answer (shortTelegram s master 0x00)
+replyBy Rejected s slice c b master = answer (shortTelegram s master 0x03)
+replyBy Exchange s slice c b master = answer (sd2 master (s .address) (exchangeFc c) (b .inputs .sending))
+replyBy Inputs s slice c b master = answer (serviceTelegram s master 56 (b .inputs .sending))
+replyBy Outputs s slice c b master = answer (serviceTelegram s master 57 (b .outputs .held))
+replyBy Configuration s slice c b master = answer (serviceTelegram s master 59 slice)
+replyBy Diagnosis s slice c b master = answer (serviceTelegram s master 60 (diagnosisOctets s c (b .diagnosis .own)))
+
+-- its octets, whole
+abbrev pub replyOctets : Reply → List ℕ
+replyOctets silence = []
+replyOctets acknowledgement = 0xE5 ∷ []
+replyOctets (answer t) = octetsOf t
+
+-- the octets of the reply to a master
 abbrev pub replyOf : Drawn → Setup → List ℕ → Control → Buffers → ℕ → List ℕ
-replyOf Nothing s slice c b master = []
-replyOf Acknowledge s slice c b master = 0xE5 ∷ []
-replyOf Status s slice c b master = shortReply s master 0x00
-replyOf Rejected s slice c b master = shortReply s master 0x03
-replyOf Exchange s slice c b master = octetsOf (sd2 master (s .address) (exchangeFc c) (b .inputs .sending))
-replyOf Inputs s slice c b master = serviceReply s master 56 (b .inputs .sending)
-replyOf Outputs s slice c b master = serviceReply s master 57 (b .outputs .held)
-replyOf Configuration s slice c b master = serviceReply s master 59 slice
-replyOf Diagnosis s slice c b master = serviceReply s master 60 (diagnosisOctets s c (b .diagnosis .own))
+replyOf d s slice c b master = replyOctets (replyBy d s slice c b master)
