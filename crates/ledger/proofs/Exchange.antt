@@ -25,7 +25,7 @@ use Rattle.ledger.specs.User.{Told, told, refusing, absent, octetsOfKind
 use Rattle.rules.specs.Kinds.{inRange, writable}
 use Rattle.rules.specs.Call.{Call, octet, gap, send, tick, take, read, write, hand-over, new-diagnosis, judge-parameters, judge-configuration, events, acknowledge, pending, leave}
 use Rattle.ledger.specs.Calls.{step, answers, after}
-use Rattle.ledger.specs.Exchange.{MidTelegram, Inner, ofUser, Exchanged, Exchange}
+use Rattle.ledger.specs.Exchange.{MidTelegram, Inner, ofUser, Exchanged, PlacesChange}
 use Rattle.ledger.proofs.Runs.{after-append, answers-append, answers-length}
 use Rattle.ledger.proofs.Settling.{settle-line}
 
@@ -110,7 +110,7 @@ came [] e = let z : _≡_ {A = ℕ} 0 1 = cc in absurd (omega arith)
 came (x ∷ xs) e = refl
 
 -- with an octet something has begun
-not-fresh : (xs : List ℕ) (b : ℕ) (bad : Bool) → status (readerAfter (run xs) b bad) ≡ Fresh → ⊥
+pub not-fresh : (xs : List ℕ) (b : ℕ) (bad : Bool) → status (readerAfter (run xs) b bad) ≡ Fresh → ⊥
 not-fresh xs b true e = let z : _≡_ {A = ℕ} 0 1 = cc in omega arith
 not-fresh xs b false e = none xs (framing (xs ++ b ∷ []) .nothing .0 (ap status (run-snoc xs b) ∙ e))
   where
@@ -184,7 +184,7 @@ exchanged l pre post b bad c u x =
           ∙ ap (λ (k : Ledger). answers l pre ++ step m c .answer ∷ Value 0 ∷ answers k post) (call-then-octet m b bad c u x);
     }
 
-pub exchange : (l : Ledger) (pre post : List Call) (b : ℕ) (bad : Bool) (c : Call) → Exchange l pre post b bad c
+pub exchange : PlacesChange
 exchange l pre post b bad c = record {
   inner-first = λ u i. exchanged l pre post b bad c u (inner-lengthens (after l pre) b bad i);
   inner-second = λ u i.

@@ -36,7 +36,7 @@ use Rattle.ledger.specs.Bus.{telegramOn, requestBy, dataBy, outcomeOf, a
 use Rattle.ledger.specs.User.{handOver, acknowledgeEvents, leaveMaster, writtenOctet}
 use Rattle.rules.specs.Call.{Call, octet, gap, send, tick, take, read, write, hand-over, new-diagnosis, judge-parameters, judge-configuration, events, acknowledge, pending, leave}
 use Rattle.ledger.specs.Calls.{step, after}
-use Rattle.ledger.specs.ReadBack.{StartTakes, OutputsFit, InputsFit, SetsFit, DiagnosesFit, ListsFit, CountsFit, Left, Fit, drawnBy, Draws, Fixes, RepliesRead}
+use Rattle.ledger.specs.ReadBack.{StartTakes, OutputsFit, InputsFit, SetsFit, DiagnosesFit, ListsFit, CountsFit, Left, Fit, drawnBy, Draws, Fixes, ReadingBack}
 use Rattle.ledger.proofs.Settling.{settle-line}
 use Rattle.ledger.proofs.ByCases.{take-cases, read-cases, write-cases, diagnosis-cases, parameters-cases, configuration-cases}
 use Rattle.ledger.proofs.Hearing.{last-heard}
@@ -322,7 +322,7 @@ fixes l b bad i e =
     ap (λ (m : Ledger). m .line .reply) (last-heard l b bad i e)
     ∙ ap (λ (n : Line). n .reply) (settle-line (completed l (telegramOn (l .line .telegram ++ b ∷ []))))
 
-pub replies-read : (s : Setup) (slice : List ℕ) (cs : List Call) → StartTakes s slice → RepliesRead s slice cs
+pub replies-read : ReadingBack
 replies-read s slice cs a =
     let f = after-fit (fresh s slice) cs (fresh-fit s slice a) in
     record {

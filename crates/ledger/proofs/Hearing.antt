@@ -12,7 +12,7 @@ use Rattle.telegram.specs.Telegram.{Telegram, sd1, sd2, sd3, sd4, kindOf, octet
 use Rattle.telegram.specs.Reading.{run, readerAfter, status, readerStep as reads}
 use Rattle.telegram.specs.Sending.{startOctet}
 use Rattle.telegram.proofs.Run.{broken-complete, run-snoc}
-use Rattle.telegram.proofs.Framing.{framing, told}
+use Rattle.telegram.proofs.Framing.{framing}
 use Rattle.ledger.specs.Ledger.{Line, Ledger, withLine}
 use Rattle.ledger.specs.Outcome.{settle}
 use Rattle.ledger.specs.Bus.{telegramOn, answered, completed, lengthened, beginning, heard, sendTold, sendLeft, afterSend}
@@ -38,7 +38,8 @@ unfinished x xs y ys w = go (status (run (x ∷ xs))) refl
     go Broken e =
         absurd (broken-complete (sym (framing (x ∷ xs) .stays e (y ∷ ys)) ∙ framing ((x ∷ xs) ++ y ∷ ys) .whole .1 w))
 
-one-more : {s : Status} (xs : List ℕ) (y : ℕ) → status (run (xs ++ y ∷ [])) ≡ s → status (reads (run xs) y) ≡ s
+-- one octet more, for the reader
+pub one-more : {s : Status} (xs : List ℕ) (y : ℕ) → status (run (xs ++ y ∷ [])) ≡ s → status (reads (run xs) y) ≡ s
 one-more xs y e = ap status (sym (run-snoc xs y)) ∙ e
 
 -- what comes of a telegram does not look at the line
@@ -62,7 +63,7 @@ module _ (t : Telegram) (v : Valid t) where
       last-heard l y false i (rw e s)
       ∙ ap (λ (u : List ℕ). settle (completed l (telegramOn (u ++ y ∷ [])))) e
       ∙ ap (λ (u : List ℕ). settle (completed l (telegramOn u))) (sym o)
-      ∙ ap (λ (u : Telegram). settle (completed l u)) (told t v)
+      ∙ ap (λ (u : Telegram). settle (completed l u)) (framing (octetsOf t) .told t v refl)
   rest-heard l x xs y (z ∷ zs) i e o =
       let w : octetsOf t ≡ (x ∷ (xs ++ y ∷ [])) ++ z ∷ zs = o ∙ sym (append-assoc (x ∷ xs) (y ∷ []) (z ∷ zs)) in
       let s = one-more (x ∷ xs) y (unfinished x (xs ++ y ∷ []) z zs (t, v, w)) in
@@ -78,7 +79,8 @@ opens (sd2 da sa fc ds) = (_, _, refl)
 opens (sd3 da sa fc ds) = (_, _, refl)
 opens (sd4 da sa) = (_, _, refl)
 
-begun-heard : (l : Ledger) (b : ℕ) → l .line .ignored ≡ false → l .line .telegram ≡ [] → status (run (b ∷ [])) ≡ Inside
+-- the first octet
+pub begun-heard : (l : Ledger) (b : ℕ) → l .line .ignored ≡ false → l .line .telegram ≡ [] → status (run (b ∷ [])) ≡ Inside
     → heard l b false ≡ begunBy l b
 unfolding heard
 begun-heard l b i e s = rw (i, e, s)

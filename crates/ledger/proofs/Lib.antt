@@ -1,10 +1,12 @@
 pub mod Runs
+pub mod Some
 pub mod Settling
 pub mod ByCases
 pub mod Kept
 pub mod Exchange
 pub mod History
 pub mod Hearing
+pub mod ByGrammar
 pub mod ReadBack
 pub mod Fit
 pub mod Scripts

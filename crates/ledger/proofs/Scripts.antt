@@ -13,8 +13,7 @@ use Rattle.telegram.specs.Telegram.{Telegram, kindOf, IsTelegram}
 use Rattle.telegram.specs.Reading.{run, status}
 use Rattle.telegram.specs.Sending.{startOctet}
 use Rattle.telegram.proofs.Run.{no-true}
-use Rattle.telegram.proofs.Framing.{framing, told}
-use Rattle.ledger.specs.Lists.{some}
+use Rattle.telegram.proofs.Framing.{framing}
 use Rattle.ledger.specs.Ledger.{Ledger, begun}
 use Rattle.ledger.specs.Outcome.{settle}
 use Rattle.ledger.specs.Bus.{telegramOn, completed}
@@ -22,6 +21,7 @@ use Rattle.ledger.specs.Calls.{step, answers, after}
 use Rattle.ledger.specs.Hearing.{hear, begunBy, sendsOf}
 use Rattle.ledger.specs.Script.{Part, hears, sends, does, refuses, callsOf, answersOf, Answers}
 use Rattle.ledger.proofs.Runs.{answers-append}
+use Rattle.ledger.proofs.Some.{nothing-in}
 use Rattle.state.proofs.Choice.{and-left, and-right}
 use Rattle.ledger.proofs.Hearing.{hear-answers, hears as whole}
 
@@ -57,10 +57,6 @@ is-complete Inside e = no-true e
 is-complete Complete e = refl
 is-complete Broken e = no-true e
 
-none : (xs : List ℕ) → some xs ≡ false → xs ≡ []
-none [] e = refl
-none (x ∷ xs) e = no-true (sym e)
-
 heard-is : (l : Ledger) (xs : List ℕ) → after l (hear xs) ≡ heardBy (atOnce l xs) l xs
 heard-is l xs = go (atOnce l xs) refl
   where
@@ -74,13 +70,13 @@ heard-is l xs = go (atOnce l xs) refl
     by w i e =
         ap (λ (u : List ℕ). after l (hear u)) (sym (w .2))
         ∙ whole l (w .0) .ledger-is i e (w .1)
-        ∙ ap (heardWhole l) (sym (told (w .0) (w .1)) ∙ ap telegramOn (w .2))
+        ∙ ap (heardWhole l) (sym (framing xs .told (w .0) (w .1) (w .2)))
 
     go : (t : Bool) → atOnce l xs ≡ t → after l (hear xs) ≡ heardBy t l xs
     go true e =
         by (framing xs .whole .0 (is-complete (status (run xs)) (and-right (p && q) _ e)))
         (not-true _ (and-left p q (and-left (p && q) _ e)))
-        (none (l .line .telegram) (not-true _ (and-right p q (and-left (p && q) _ e))))
+        (nothing-in (l .line .telegram) (not-true _ (and-right p q (and-left (p && q) _ e))))
     go false e = refl
 
 quick-is : (l : Ledger) (ps : List Part) → answers l (callsOf ps) ≡ quick l ps

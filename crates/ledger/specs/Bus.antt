@@ -1,4 +1,5 @@
--- The calls of the bus: octet, gap, send and tick (document 01, Telegrams, Services, and the Tick in User calls).
+-- The calls of the bus: octet, gap, send and tick (document 01, Telegrams, Services, and the Tick in User calls). Octets are heard by
+-- the reader's status; what that comes to is told by the grammar alone in ByGrammar.antt, for every ledger and octet.
 use Prim.Native.Nat.{ℕ}
 use mathlib.Core.Bool.{Bool, true, false, cond, _||_}
 use mathlib.Core.List.{List, [], _∷_, _++_}
@@ -19,7 +20,7 @@ use Rattle.ledger.specs.Replies.{replyOf}
 use Rattle.rules.specs.Replies.{diagnoses}
 use Rattle.ledger.specs.Outcome.{carried, onBuffers, settle}
 
--- the telegram with these octets
+-- the telegram with these octets: where they are those of a valid telegram, that one (ByGrammar.antt: HeardAsFramed .whole)
 abbrev pub telegramOn : List ℕ → Telegram
 telegramOn xs = telegramOf (run xs) (gathered start xs)
 
@@ -75,7 +76,8 @@ lengthened n b = record { ignored = false; telegram = n .telegram ++ b ∷ []; r
 abbrev pub beginning : ℕ → Line
 beginning b = record { ignored = false; telegram = b ∷ []; reply = []; diagnosing = false }
 
--- by what the octets are with this one
+-- by what the octets are with this one: none yet, some that lack octets, a telegram, or some that none can result from
+-- (ByGrammar.antt: HeardAsFramed, each case by the grammar)
 abbrev pub heardAs : Status → Ledger → ℕ → Ledger
 heardAs Fresh l b = l
 heardAs Inside l b = cond (begun l) (withLine l (lengthened (l .line) b)) (settle (withLine l (beginning b)))

@@ -55,3 +55,7 @@ pub record Exchanged (l : Ledger) (pre post : List Call) (b : ℕ) (bad : Bool) 
 pub record Exchange (l : Ledger) (pre post : List Call) (b : ℕ) (bad : Bool) (c : Call) : Type 0 where
   pub inner-first : ofUser c ≡ true → Inner (after l pre) b bad → Exchanged l pre post b bad c
   pub inner-second : ofUser c ≡ true → Inner (after l (pre ++ c ∷ [])) b bad → Exchanged l pre post b bad c
+
+-- so it is from every ledger on
+abbrev pub PlacesChange : Type 0
+PlacesChange = (l : Ledger) (pre post : List Call) (b : ℕ) (bad : Bool) (c : Call) → Exchange l pre post b bad c

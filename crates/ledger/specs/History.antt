@@ -97,3 +97,7 @@ pub record OutputsRead (s : Setup) (slice : List ℕ) (cs : List Call) (index : 
       → answers (fresh s slice) (cs ++ read 1 index ∷ rest)
       ≡ answers (fresh s slice) cs
       ++ Value (getD (readable (s .«output_len») (history (fresh s slice) cs)) index 0) ∷ answers (after (fresh s slice) cs) rest
+
+-- so it is of every list of calls, with any calls behind the read
+abbrev pub OutputsReadable : Type 0
+OutputsReadable = (s : Setup) (slice : List ℕ) (cs : List Call) (index : ℕ) (rest : List Call) → OutputsRead s slice cs index rest

@@ -8,5 +8,7 @@ pub mod Calls
 pub mod Exchange
 pub mod History
 pub mod Hearing
+pub mod ByGrammar
 pub mod Script
+pub mod Bench
 pub mod ReadBack

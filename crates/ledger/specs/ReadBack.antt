@@ -119,3 +119,7 @@ pub record RepliesRead (s : Setup) (slice : List ℕ) (cs : List Call) : Type 0 
   pub fixes : (b : ℕ) (bad : Bool) → Fixes (after (fresh s slice) cs) b bad
   pub completes : (t : Telegram) → Draws (after (fresh s slice) cs) t
   pub heard-whole : (t : Telegram) → Draws (begunBy (after (fresh s slice) cs) (startOctet (kindOf t))) t
+
+-- reading back: so it is of every list of calls from a station with what Start takes
+abbrev pub ReadingBack : Type 0
+ReadingBack = (s : Setup) (slice : List ℕ) (cs : List Call) → StartTakes s slice → RepliesRead s slice cs

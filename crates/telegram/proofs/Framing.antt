@@ -15,7 +15,7 @@ use Rattle.telegram.specs.declared.reader.Status.{Status}
 use Rattle.telegram.specs.declared.reader.Status.the-variants.{Fresh, Inside, Complete, Broken}
 use Rattle.telegram.specs.Telegram.{Telegram, sd1, sd2, sd3, sd4, octetsOf, payloadOf, Addresses, Valid, IsTelegram, Octets}
 use Rattle.telegram.specs.Reading.{off, start, okAt, readerStep, runFrom, run, status, statusAt, gathered, finished, telegramOf}
-use Rattle.telegram.specs.Framing.{Continues, Framing}
+use Rattle.telegram.specs.Framing.{Continues, FramingPromise}
 use Rattle.telegram.proofs.Run.{no-true, broken-complete, on, off-stays, run-append}
 use Rattle.telegram.proofs.Accepts.{accepted}
 use Rattle.telegram.proofs.ReadBack.{reads, gathers}
@@ -80,7 +80,7 @@ back (sd2 da sa fc ds) v = ap (λ (l : List ℕ). sd2 da sa fc l) (points-back d
 back (sd3 da sa fc ds) v = ap (λ (l : List ℕ). sd3 da sa fc l) (points-back ds 8 da sa (v .1) (v .0))
 back (sd4 da sa) v = refl
 
-pub told : (t : Telegram) → Valid t → telegramOf (run (octetsOf t)) (gathered start (octetsOf t)) ≡ t
+told : (t : Telegram) → Valid t → telegramOf (run (octetsOf t)) (gathered start (octetsOf t)) ≡ t
 told t v = rw (reads t v, gathers t v) (back t v)
 
 unique : (xs : List ℕ) (t u : Telegram) → Valid t → Valid u → octetsOf t ≡ xs → octetsOf u ≡ xs → t ≡ u
@@ -116,7 +116,7 @@ module _ (xs : List ℕ) where
   no-telegram : (s : Status) → status (run xs) ≡ s → (s ≡ Complete → ⊥) → ¬ IsTelegram xs
   no-telegram s e n w = n (sym e ∙ completes xs w)
 
-pub framing : (xs : List ℕ) → Framing xs
+pub framing : FramingPromise
 framing xs = record {
   nothing = (begun xs, λ e. ap (λ (l : List ℕ). status (run l)) e);
   whole = (accepted xs, completes xs);
@@ -129,6 +129,7 @@ framing xs = record {
     λ w. neither-back xs (w .0) (w .1),
   );
   fields = λ t v e. (rw (← e) (reads t v), rw (← e) (gathers t v));
+  told = λ t v e. rw (← e) (told t v);
   only = λ t u v w e f. unique xs t u v w e f;
   stays = still xs;
   ends = λ w y ys. (stops xs (ap goesOn (completes xs w)) y ys, ap status (breaks xs (ap goesOn (completes xs w)) y ys));

@@ -18,7 +18,7 @@ use Rattle.telegram.specs.declared.sender.Stage.the-variants.{Start, Le,
 use Rattle.telegram.specs.declared.sender.Sender.{Sender}
 use Rattle.telegram.specs.Telegram.{Telegram, sd1, sd2, sd3, sd4, dataOf, octetsOf, Valid}
 use Rattle.telegram.specs.Reading.{start, run, gathered}
-use Rattle.telegram.specs.Sending.{sn, single, senderOf, left, leftAt, asks, asksAt, octetAt, onto, afterAt, sent, sentUpTo, Sending}
+use Rattle.telegram.specs.Sending.{sn, single, senderOf, left, leftAt, asks, asksAt, octetAt, onto, afterAt, sent, sentUpTo, SendingPromise}
 use Rattle.telegram.specs.ToSend.{toSend, toSendAt}
 use Rattle.telegram.proofs.Run.{no-true}
 use Rattle.telegram.proofs.Checksum.{running-total}
@@ -185,7 +185,7 @@ sends-all (suc n) s ds e l =
         ap (λ (l : List ℕ). (sent s (getD ds (s .at) 0)) .octet ∷ l) (ih (e ∙ sym (keeps-count s (getD ds (s .at) 0))) (omega arith)) ∙ sym o
     go false h ih = sym (none s ds h)
 
-pub sending : (t : Telegram) → Valid t → Sending t
+pub sending : SendingPromise
 sending t v = record {
   octets = all;
   fields = λ n l. ap run (all n l) ∙ reads t v;

@@ -7,7 +7,7 @@ use mathlib.Core.Logic.{_↔_}
 use Rattle.telegram.specs.declared.reader.Status.the-variants.{Fresh, Inside, Complete, Broken}
 use Rattle.telegram.specs.Checksum.{checksum}
 use Rattle.telegram.specs.Telegram.{Telegram, headOf, coveredOf, octetsOf, payloadOf, Valid, IsTelegram, Octets}
-use Rattle.telegram.specs.Reading.{start, readerAfter, run, runFrom, status, gathered, finished}
+use Rattle.telegram.specs.Reading.{start, readerAfter, run, runFrom, status, gathered, finished, telegramOf}
 
 -- some octets that come after xs complete a telegram
 abbrev pub Continues : List ℕ → Type 0
@@ -25,6 +25,8 @@ pub record Framing (xs : List ℕ) : Type 0 where
   pub neither : (status (run xs) ≡ Broken) ↔ (¬ IsTelegram xs × ¬ Continues xs)
   -- complete with the telegram's fields, and the octets told of as data are its data, in order
   pub fields : (t : Telegram) → Valid t → octetsOf t ≡ xs → (run xs ≡ finished t) × (gathered start xs ≡ payloadOf t)
+  -- that telegram is told by the reader's fields and the data gathered
+  pub told : (t : Telegram) → Valid t → octetsOf t ≡ xs → telegramOf (run xs) (gathered start xs) ≡ t
   -- octets are those of one telegram only
   pub only : (t u : Telegram) → Valid t → Valid u → octetsOf t ≡ xs → octetsOf u ≡ xs → t ≡ u
   -- broken off stays so
@@ -35,3 +37,7 @@ pub record Framing (xs : List ℕ) : Type 0 where
   pub flagged : (b : ℕ) (ys : List ℕ) → status (runFrom (readerAfter (run xs) b true) ys) ≡ Broken
   -- while DA up to the last data octet of a telegram come, the running checksum is their sum modulo 256
   pub sums : (t : Telegram) (ps qs : List ℕ) → Valid t → coveredOf t ≡ ps ++ qs → headOf t ++ ps ≡ xs → (run xs) .sum ≡ checksum ps
+
+-- the framing promise, for every list of octets
+abbrev pub FramingPromise : Type 0
+FramingPromise = (xs : List ℕ) → Framing xs

@@ -13,7 +13,7 @@ use Rattle.telegram.specs.declared.sender.Stage.{Stage}
 use Rattle.telegram.specs.declared.sender.Stage.the-variants.{Start, Le, LeAgain, SdAgain, Da, Sa, Fc, Body, End, Single, Empty}
 use Rattle.telegram.specs.declared.sender.Sender.{Sender}
 use Rattle.telegram.specs.declared.sender.Sent.{Sent}
-use Rattle.telegram.specs.Telegram.{Telegram, kindOf, daOf, saOf, fcOf, dataOf, octetsOf, payloadOf}
+use Rattle.telegram.specs.Telegram.{Telegram, kindOf, daOf, saOf, fcOf, dataOf, octetsOf, payloadOf, Valid}
 use Rattle.telegram.specs.Reading.{start, run, gathered, finished}
 
 -- a sender at a stage
@@ -152,9 +152,12 @@ sentUpTo (suc n) s ds =
     ((sent s (getD ds (s .at) 0)) .octet ∷ sentUpTo n ((sent s (getD ds (s .at) 0)) .sender) ds)
     []
 
--- The sending promise, for every telegram of the grammar: asked again and again a sender gives exactly its octets,
--- so that they are read back with the same fields.
+-- asked again and again a sender gives exactly the telegram's octets, so that they are read back with the same fields
 pub record Sending (t : Telegram) : Type 0 where
   pub octets : (n : ℕ) → length (octetsOf t) ≤ n → sentUpTo n (senderOf t) (dataOf t) ≡ octetsOf t
   pub fields : (n : ℕ) → length (octetsOf t) ≤ n → run (sentUpTo n (senderOf t) (dataOf t)) ≡ finished t
   pub payload : (n : ℕ) → length (octetsOf t) ≤ n → gathered start (sentUpTo n (senderOf t) (dataOf t)) ≡ payloadOf t
+
+-- the sending promise, for every telegram of the grammar
+abbrev pub SendingPromise : Type 0
+SendingPromise = (t : Telegram) → Valid t → Sending t
