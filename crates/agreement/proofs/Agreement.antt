@@ -22,7 +22,8 @@ use Rattle.ledger.proofs.Fit.{replies-read}
 use Rattle.ledger.proofs.History.{outputs-read}
 use Rattle.agreement.specs.Agreement.{memoryOf, PlacesChanged, Agreement}
 use Rattle.agreement.proofs.StartAgrees.{start-related}
-use Rattle.steps.proofs.Guarded.{LengthIn, holds-well, called-steps, Begins, started-begins, begins-started}
+use Rattle.steps.specs.Demand1.{LengthIn, Begins}
+use Rattle.steps.proofs.Guarded.{holds-well, called-steps, started-begins, begins-started}
 use Rattle.agreement.proofs.StepAgrees.{On, Does, does}
 
 -- a memory of the right length that holds the state s, which the ledger l is about

@@ -27,7 +27,7 @@ use Rattle.ledger.proofs.Runs.{answers-append}
 use Rattle.ledger.proofs.Settling.{settle-outputs}
 use Rattle.ledger.proofs.Kept.{step-kept, after-kept}
 use Rattle.ledger.proofs.ByCases.{take-cases, read-cases, write-cases, diagnosis-cases, parameters-cases, configuration-cases}
-use Rattle.ledger.specs.History.{Deed, accepted, zeroed, outputsTaken, newest, readable, publishes, clears, heardDeeds, deedsOf, history, OutputsRead}
+use Rattle.ledger.specs.History.{Deed, accepted, zeroed, outputsTaken, newest, readable, publishes, clears, heardDeeds, deedsOf, history, OutputsRead, OutputsReadable}
 
 -- ---------------------------------------------------------------------------------------------------
 -- The outputs as the deeds make them, the newest deed first.
@@ -181,10 +181,13 @@ module _ (s : Setup) (slice : List ℕ) (cs : List Call) where
   in-range index i =
       ap (λ (t : Setup). ltb index (t .«output_len»)) (after-kept (fresh s slice) cs .0) ∙ lt-ltb index (s .«output_len») i
 
-  pub outputs-read : (index : ℕ) (rest : List Call) → OutputsRead s slice cs index rest
+  read-so : (index : ℕ) (rest : List Call) → OutputsRead s slice cs index rest
   unfolding readOctet
-  outputs-read index rest = record {
+  read-so index rest = record {
     answers-are = λ i.
         answers-append (fresh s slice) cs (read 1 index ∷ rest)
         ∙ rw (in-range index i, le-leb 0 index (omega arith), held-readable);
   }
+
+pub outputs-read : OutputsReadable
+outputs-read = read-so

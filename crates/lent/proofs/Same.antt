@@ -31,7 +31,8 @@ use Rattle.agreement.specs.Agreement.{memoryOf}
 use Rattle.steps.proofs.KeepsSafe.{safe-heard, safe-paused, safe-elapsed}
 use Rattle.steps.proofs.KeepsSetup.{step-keeps}
 use Rattle.steps.proofs.Holding.{holds-safe, step-whole}
-use Rattle.steps.proofs.Guarded.{LengthIn, holds-well, called-steps}
+use Rattle.steps.specs.Demand1.{LengthIn}
+use Rattle.steps.proofs.Guarded.{holds-well, called-steps}
 use Rattle.agreement.proofs.Agreement.{Ready, calls-of, ready-again, begins-ready, agreement}
 use Rattle.agreement.proofs.StepAgrees.{does}
 use Rattle.lent.specs.Run.{Beat, octet, gap, tick, beat, runBeats, callOf, calls, memoryAfter, Same, CarriesOver}

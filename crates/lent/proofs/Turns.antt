@@ -14,7 +14,8 @@ use Rattle.steps.specs.Safe.{Safe}
 use Rattle.steps.specs.Stepped.{Stepped, Steps}
 use Rattle.steps.specs.Bus.{paused}
 use Rattle.steps.proofs.KeepsSafe.{safe-steps}
-use Rattle.steps.proofs.Guarded.{LengthIn, called-damaged}
+use Rattle.steps.specs.Demand1.{LengthIn}
+use Rattle.steps.proofs.Guarded.{called-damaged}
 use Rattle.lent.specs.Run.{Beat, gap, runBeats, calls, memoryAfter}
 use Rattle.lent.proofs.Partly.{run-append}
 use Rattle.lent.proofs.Same.{safe-run, lent-image}

@@ -16,7 +16,8 @@ use Rattle.state.specs.Unpack.{unpacked}
 use Rattle.rules.specs.Call.{Call}
 use Rattle.steps.specs.Step.{stepOver}
 use Rattle.steps.specs.Calls.{wellMemory, called}
-use Rattle.steps.proofs.Guarded.{LengthIn, well-length, well-holds, called-steps, called-damaged}
+use Rattle.steps.specs.Demand1.{LengthIn}
+use Rattle.steps.proofs.Guarded.{well-length, well-holds, called-steps, called-damaged}
 
 -- r is what the check told of m
 module _ (m : List ℕ) (r : Bool) where

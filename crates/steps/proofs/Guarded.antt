@@ -19,7 +19,6 @@ use Rattle.state.specs.declared.state.State.{State}
 use Rattle.state.specs.Answer.{Called, refused}
 use Rattle.state.specs.Layout.{endOf}
 use Rattle.state.specs.Memory.{holdsState, Holds}
-use Rattle.state.specs.Sound.{Within, Ranged}
 use Rattle.state.specs.Start.{asked, laidOut}
 use Rattle.state.specs.Unpack.{unpacked}
 use Rattle.state.specs.Well.{within}
@@ -28,14 +27,10 @@ use Rattle.state.proofs.Damage.{holds-passes, passes-holds}
 use Rattle.state.proofs.Tests.{all-at, within-true, within-holds}
 use Rattle.rules.specs.Call.{Call}
 use Rattle.steps.specs.Step.{stepOver}
+use Rattle.steps.specs.Demand1.{LengthIn, Begins}
 use Rattle.steps.specs.Calls.{lengthOk, startedIn, startedAs, started, wellMemory, called}
 
 -- ---- the length
-
--- 1,536 to 4,096, a multiple of 8
-pub record LengthIn (n : ℕ) : Type 0 where
-  pub within : Within 1536 n 4096
-  pub by-8 : n % 8 ≡ 0
 
 pub length-says : (n : ℕ) → lengthOk n ≡ true → LengthIn n
 unfolding lengthOk
@@ -59,10 +54,14 @@ pub well-length : (m : List ℕ) → wellMemory m ≡ true → LengthIn (length 
 unfolding wellMemory
 well-length m e = length-says (length m) (all-at (lengthOk (length m) ∷ holdsState m ∷ []) 0 e)
 
+-- and a state in front
+pub well-state : (m : List ℕ) → wellMemory m ≡ true → holdsState m ≡ true
+unfolding wellMemory
+well-state m e = all-at (lengthOk (length m) ∷ holdsState m ∷ []) 1 e
+
 -- and, being of octets, holds the state that it unpacks to
 pub well-holds : (m : List ℕ) → ((i : ℕ) → Fits w8 (getD m i 0)) → wellMemory m ≡ true → Holds m (unpacked m)
-unfolding wellMemory
-well-holds m octets e = passes-holds m (λ i. octets i .fits) (all-at (lengthOk (length m) ∷ holdsState m ∷ []) 1 e)
+well-holds m octets e = passes-holds m (λ i. octets i .fits) (well-state m e)
 
 -- a call on it makes its step
 pub called-steps : (m : List ℕ) (c : Call) → wellMemory m ≡ true → called m c ≡ stepOver m c
@@ -75,12 +74,6 @@ unfolding called
 called-damaged m c e = ap (λ (t : Bool). cond t (stepOver m c) (refused m Damaged)) e
 
 -- ---- Start
-
--- what Start is given keeps the rules
-pub record Begins (m : List ℕ) (s : Setup) : Type 0 where
-  pub length-in : LengthIn (length m)
-  pub ranged : Ranged s
-  pub room : endOf s ≤ length m
 
 -- what it answers and leaves then
 abbrev pub answeredZero : List ℕ → Setup → List ℕ → Called

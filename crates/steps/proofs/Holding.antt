@@ -5,7 +5,7 @@ use mathlib.Core.Bool.{Bool, cond, not, _&&_}
 use mathlib.Core.List.{List}
 use lib.Dec.{leb}
 use Rattle.state.specs.declared.answer.Refusal.{Refusal}
-use Rattle.state.specs.declared.answer.Refusal.the-variants.{Judging, Range, Absent, Delayed}
+use Rattle.state.specs.declared.answer.Refusal.the-variants.{MemoryLength, Address, Length, Room, Damaged, Judging, Range, Absent, Delayed}
 use Rattle.state.specs.declared.state.State.{State}
 use Rattle.state.specs.Answer.{Called, refused}
 use Rattle.state.specs.Memory.{kept, Holds}
@@ -48,40 +48,53 @@ whole t = record { answer = t .answer; memory = kept (t .state) (t .memory) }
 record Packs (m : List ℕ) (t : Told) : Type 0 where
   packed-so : packed m t ≡ whole t
 
-module _ (s : State) (m : List ℕ) (same : m ≡ kept s m) where
-  refuses : (why : Refusal) → Packs m (refusing why s m)
-  refuses why = record { packed-so = ap (λ (l : List ℕ). refused l why) same }
+-- the refusals that the vat program causes
+abbrev pub ByUser : Refusal → Type 0
+ByUser MemoryLength = ⊥
+ByUser Address = ⊥
+ByUser Length = ⊥
+ByUser Room = ⊥
+ByUser Damaged = ⊥
+ByUser Judging = Unit
+ByUser Range = Unit
+ByUser Absent = Unit
+ByUser Delayed = Unit
 
-  tells : (n : ℕ) (t : State) (x : List ℕ) → Packs m (told n t x)
-  tells n t x = record { packed-so = refl }
-
+-- a step answers a value, or is refused because of the vat program and leaves state and memory as they were
+module _ (s : State) (m : List ℕ) (P : Told → Type 0) (tells : (n : ℕ) (t : State) (x : List ℕ) → P (told n t x))
+    (refuses : (why : Refusal) → ByUser why → P (refusing why s m)) where
   -- two tests in front of a step
-  tested : (b : Bool) (why : Refusal) (c : Bool) (then : Refusal) (t : Told) → Packs m t
-      → Packs m (cond b (refusing why s m) (cond c (refusing then s m) t))
-  tested b why c then t p = either (Packs m) b (refuses why) (either (Packs m) c (refuses then) p)
+  tested : (b : Bool) (why : Refusal) (c : Bool) (then : Refusal) (t : Told) → ByUser why → ByUser then → P t
+      → P (cond b (refusing why s m) (cond c (refusing then s m) t))
+  tested b why c then t u v p = either P b (refuses why u) (either P c (refuses then v) p)
 
-  -- where a step is refused, state and memory are as they were
-  packs : (c : Call) → Packs m (step s m c)
+  pub step-cases : (c : Call) → P (step s m c)
   unfolding takeOutputs readOctet writeOctet handOver newDiagnosis judgeParameters judgeConfiguration acknowledgeEvents leaveMaster
-  packs (calls.octet b bad) = tells _ _ _
-  packs calls.gap = tells _ _ _
-  packs calls.send = tells _ _ _
-  packs calls.tick = tells _ _ _
-  packs calls.take = either (Packs m) (not (s .outputs .set .fresh)) (tells _ _ _) (tells _ _ _)
-  packs (calls.read kind index) = tested (not (inRange (s .setup) kind index)) Range (absent s kind index) Absent _ (tells _ _ _)
-  packs (calls.write kind index x) =
-      tested (not (writable kind && inRange (s .setup) kind index)) Range (absent s kind index) Absent _ (tells _ _ _)
-  packs calls.hand-over = tells _ _ _
-  packs (calls.new-diagnosis count flags) =
-      tested (not (within 6 count (s .setup .«diagnosis_len») && leb flags 7)) Range (delayed (s .control)) Delayed _
-      (either (Packs m) (diagnosisLeaves s) (tells _ _ _) (tells _ _ _))
-  packs (calls.judge-parameters j) = tested (not (isOpen (s .parameters))) Judging (not (leb j 1)) Range _ (tells _ _ _)
-  packs (calls.judge-configuration j) =
-      tested (not (isOpen (s .configuration) && s .control .flags .«parameters_good»)) Judging (not (leb j 1)) Range _ (tells _ _ _)
-  packs calls.events = tells _ _ _
-  packs (calls.acknowledge mask) = tells _ _ _
-  packs calls.pending = tells _ _ _
-  packs calls.leave = tells _ _ _
+  step-cases (calls.octet b bad) = tells _ _ _
+  step-cases calls.gap = tells _ _ _
+  step-cases calls.send = tells _ _ _
+  step-cases calls.tick = tells _ _ _
+  step-cases calls.take = either P (not (s .outputs .set .fresh)) (tells _ _ _) (tells _ _ _)
+  step-cases (calls.read kind index) = tested (not (inRange (s .setup) kind index)) Range (absent s kind index) Absent _ tt tt (tells _ _ _)
+  step-cases (calls.write kind index x) =
+      tested (not (writable kind && inRange (s .setup) kind index)) Range (absent s kind index) Absent _ tt tt (tells _ _ _)
+  step-cases calls.hand-over = tells _ _ _
+  step-cases (calls.new-diagnosis count flags) =
+      tested (not (within 6 count (s .setup .«diagnosis_len») && leb flags 7)) Range (delayed (s .control)) Delayed _ tt tt
+      (either P (diagnosisLeaves s) (tells _ _ _) (tells _ _ _))
+  step-cases (calls.judge-parameters j) = tested (not (isOpen (s .parameters))) Judging (not (leb j 1)) Range _ tt tt (tells _ _ _)
+  step-cases (calls.judge-configuration j) =
+      tested (not (isOpen (s .configuration) && s .control .flags .«parameters_good»)) Judging (not (leb j 1)) Range _ tt tt (tells _ _ _)
+  step-cases calls.events = tells _ _ _
+  step-cases (calls.acknowledge mask) = tells _ _ _
+  step-cases calls.pending = tells _ _ _
+  step-cases calls.leave = tells _ _ _
+
+-- where a step is refused, state and memory are as they were
+packs : (s : State) (m : List ℕ) → m ≡ kept s m → (c : Call) → Packs m (step s m c)
+packs s m same =
+    step-cases s m (Packs m) (λ n t x. record { packed-so = refl })
+    (λ why _. record { packed-so = ap (λ (l : List ℕ). refused l why) same })
 
 -- ---- over the memory
 

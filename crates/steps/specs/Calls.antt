@@ -49,3 +49,8 @@ called m c = cond (wellMemory m) (stepOver m c) (refused m Damaged)
 abbrev pub answers : List ℕ → List Call → List Answer
 answers m [] = []
 answers m (c ∷ cs) = called m c .answer ∷ answers (called m c .memory) cs
+
+-- and the memory that they leave
+abbrev pub memoryAfter : List ℕ → List Call → List ℕ
+memoryAfter m [] = m
+memoryAfter m (c ∷ cs) = memoryAfter (called m c .memory) cs

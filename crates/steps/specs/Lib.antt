@@ -8,3 +8,4 @@ pub mod Bus
 pub mod User
 pub mod Step
 pub mod Calls
+pub mod Demand1

@@ -1,0 +1,107 @@
+-- Demand 1 (specs/Demand1.antt): refusal 5 is the damage check's alone, and a refusal leaves the memory.
+use Prim.Native.Nat.{ℕ, zero, suc, _<_}
+use native.Mathlib.Omega.{arith}
+use mathlib.Core.Path.{_≡_, refl, sym, ap, subst, _∙_}
+use mathlib.Core.Logic.{_↔_}
+use mathlib.Core.Bool.{Bool, true, false, not}
+use mathlib.Core.List.{List, [], _∷_}
+use lib.Dec.{ltb}
+use lib.ListN.{length, getD}
+use Rattle.telegram.specs.Telegram.{Octets}
+use Rattle.state.specs.declared.answer.Answer.{Answer}
+use Rattle.state.specs.declared.answer.Answer.the-variants.{Value, Refused}
+use Rattle.state.specs.declared.answer.Refusal.{Refusal}
+use Rattle.state.specs.declared.answer.Refusal.the-variants.{MemoryLength, Address, Length, Room, Damaged, Judging, Range, Absent, Delayed}
+use Rattle.state.specs.declared.setup.Setup.{Setup}
+use Rattle.state.specs.Answer.{Called}
+use Rattle.state.specs.declared.start.Asked.{Asked}
+use Rattle.state.specs.Layout.{endOf}
+use Rattle.state.specs.Unpack.{unpacked}
+use Rattle.state.specs.Start.{lengthsOk, asked}
+use Rattle.state.proofs.Choice.{by-test, either}
+use Rattle.state.proofs.Damage.{passes-holds}
+use Rattle.rules.specs.Call.{Call}
+use Rattle.steps.specs.Stepped.{Told}
+use Rattle.steps.specs.Step.{packed, stepOver}
+use Rattle.steps.specs.Calls.{lengthOk, startedIn, startedAs, started, wellMemory, called}
+use Rattle.steps.specs.Demand1.{Undamaged, Demand1}
+use Rattle.steps.proofs.Holding.{ByUser, step-cases}
+use Rattle.steps.proofs.Guarded.{well-length, well-state, holds-well, called-steps, called-damaged, started-begins, begins-started, refused-same}
+
+-- an answer that a step may give
+abbrev ByStep : Answer → Type 0
+ByStep (Value n) = Unit
+ByStep (Refused why) = ByUser why
+
+by-step : (m : List ℕ) (c : Call) → ByStep (stepOver m c .answer)
+unfolding stepOver
+by-step m c = step-cases (unpacked m) m (λ (t : Told). ByStep (packed m t .answer)) (λ n t x. tt) (λ why u. u) c
+
+-- ---- the damage check
+
+-- each of a list of octets
+octet-at : (m : List ℕ) → Octets m → (i : ℕ) → getD m i 0 < 256
+octet-at [] o i = omega arith
+octet-at (x ∷ m) o zero = o .0
+octet-at (x ∷ m) o (suc i) = octet-at m (o .1) i
+
+-- no call on a memory that is well answers 5
+well-answers : (m : List ℕ) (c : Call) → wellMemory m ≡ true → ¬ (called m c .answer ≡ Refused Damaged)
+well-answers m c w e = subst ByStep (ap (λ (x : Called). x .answer) (sym (called-steps m c w)) ∙ e) (by-step m c)
+
+exactly : (m : List ℕ) (c : Call) → Octets m → (called m c .answer ≡ Refused Damaged) ↔ ¬ Undamaged m
+exactly m c o = (λ e u. well-answers m c (holds-well m (u .state) (u .length-in) (u .holds)) e, refuses)
+  where
+    refuses : ¬ Undamaged m → called m c .answer ≡ Refused Damaged
+    refuses n = go (wellMemory m) refl
+      where
+        go : (t : Bool) → wellMemory m ≡ t → called m c .answer ≡ Refused Damaged
+        go true e = absurd (n (record { length-in = well-length m e; state = unpacked m; holds = passes-holds m (octet-at m o) (well-state m e) }))
+        go false e = ap (λ (x : Called). x .answer) (called-damaged m c e)
+
+-- ---- Start
+
+-- an answer that Start may give
+abbrev ByStart : Answer → Type 0
+ByStart (Value n) = Unit
+ByStart (Refused MemoryLength) = Unit
+ByStart (Refused Address) = Unit
+ByStart (Refused Length) = Unit
+ByStart (Refused Room) = Unit
+ByStart (Refused Damaged) = ⊥
+ByStart (Refused Judging) = ⊥
+ByStart (Refused Range) = ⊥
+ByStart (Refused Absent) = ⊥
+ByStart (Refused Delayed) = ⊥
+
+by-start : (m : List ℕ) (s : Setup) (slice : List ℕ) → ByStart (started m s slice .answer)
+unfolding started asked startedIn
+by-start m s slice =
+    either May (not (lengthOk (length m))) tt
+    (either May-as (ltb 126 (s .address)) tt
+    (either May-as (not (lengthsOk s)) tt (either May (ltb (length m) (endOf s)) tt tt)))
+  where
+    May : Called → Type 0
+    May x = ByStart (x .answer)
+
+    May-as : Asked → Type 0
+    May-as a = ByStart (startedAs m slice a .answer)
+
+-- ---- a refusal leaves the memory
+
+step-same : (m : List ℕ) (c : Call) (why : Refusal) → stepOver m c .answer ≡ Refused why → stepOver m c .memory ≡ m
+unfolding stepOver
+step-same m c why =
+    step-cases (unpacked m) m (λ (t : Told). packed m t .answer ≡ Refused why → packed m t .memory ≡ m)
+    (λ n t x e. let z : _≡_ {A = ℕ} 0 1 = cc in absurd (omega arith)) (λ other u e. refl) c
+
+called-same : (m : List ℕ) (c : Call) (why : Refusal) → called m c .answer ≡ Refused why → called m c .memory ≡ m
+unfolding called
+called-same m c why = by-test (λ (x : Called). x .answer ≡ Refused why → x .memory ≡ m) (wellMemory m) _ _ (λ _. step-same m c why) (λ _ e. refl)
+
+pub demand-1 : Demand1
+demand-1 = record {
+  damage-check = record { exactly = exactly; not-by-start = λ m s slice e. subst ByStart e (by-start m s slice) };
+  refusals-leave = record { of-call = called-same; of-start = refused-same };
+  start-answers = λ m s slice. (started-begins m s slice, λ b. ap (λ (x : Called). x .answer) (begins-started m s slice b));
+}

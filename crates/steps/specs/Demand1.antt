@@ -1,0 +1,56 @@
+-- Demand 1: what is promised of every call and of Start on any memory, well or damaged. That each call has an answer, and which, and
+-- that the exported functions give it with no condition on the caller, are their contracts (card/src/lib.rt), which cite `called`
+-- and `started`.
+use Prim.Native.Nat.{ℕ, _%_, _≤_}
+use mathlib.Core.Path.{_≡_}
+use mathlib.Core.List.{List}
+use mathlib.Core.Logic.{_↔_}
+use lib.ListN.{length}
+use Rattle.telegram.specs.Telegram.{Octets}
+use Rattle.state.specs.declared.answer.Answer.the-variants.{Value, Refused}
+use Rattle.state.specs.declared.answer.Refusal.{Refusal}
+use Rattle.state.specs.declared.answer.Refusal.the-variants.{Damaged}
+use Rattle.state.specs.declared.setup.Setup.{Setup}
+use Rattle.state.specs.declared.state.State.{State}
+use Rattle.state.specs.Layout.{endOf}
+use Rattle.state.specs.Memory.{Holds}
+use Rattle.state.specs.Sound.{Within, Ranged}
+use Rattle.rules.specs.Call.{Call}
+use Rattle.steps.specs.Calls.{started, called}
+
+-- "1,536 to 4,096 octets, a multiple of 8"
+pub record LengthIn (n : ℕ) : Type 0 where
+  pub within : Within 1536 n 4096
+  pub by-8 : n % 8 ≡ 0
+
+-- a memory that nobody damaged: it has such a length, and holds a state whose roles, lengths and counts keep the rules
+pub record Undamaged (m : List ℕ) : Type 0 where
+  pub length-in : LengthIn (length m)
+  pub state : State
+  pub holds : Holds m state
+
+-- what Start is given keeps the rules: the memory's length, address and lengths in their ranges, the buffers end in the memory
+pub record Begins (m : List ℕ) (s : Setup) : Type 0 where
+  pub length-in : LengthIn (length m)
+  pub ranged : Ranged s
+  pub room : endOf s ≤ length m
+
+-- the damage check: a call on a memory of octets answers 5 exactly if the memory is damaged, and Start never does
+pub record DamageCheck : Type 0 where
+  pub exactly : (m : List ℕ) (c : Call) → Octets m → (called m c .answer ≡ Refused Damaged) ↔ ¬ Undamaged m
+  pub not-by-start : (m : List ℕ) (s : Setup) (slice : List ℕ) → ¬ (started m s slice .answer ≡ Refused Damaged)
+
+-- "each leaves memory unchanged": a refusal of a call, and of Start
+pub record RefusalsLeave : Type 0 where
+  pub of-call : (m : List ℕ) (c : Call) (why : Refusal) → called m c .answer ≡ Refused why → called m c .memory ≡ m
+  pub of-start : (m : List ℕ) (s : Setup) (slice : List ℕ) (why : Refusal) → started m s slice .answer ≡ Refused why → started m s slice .memory ≡ m
+
+-- Start answers 0 exactly if what it is given keeps the rules
+abbrev pub StartAnswersZero : Type 0
+StartAnswersZero = (m : List ℕ) (s : Setup) (slice : List ℕ) → (started m s slice .answer ≡ Value 0) ↔ Begins m s
+
+-- all of it
+pub record Demand1 : Type 0 where
+  pub damage-check : DamageCheck
+  pub refusals-leave : RefusalsLeave
+  pub start-answers : StartAnswersZero
