@@ -10,7 +10,7 @@ use Rattle.state.specs.declared.setup.Setup.{Setup}
 use Rattle.state.specs.declared.state.State.{State}
 use Rattle.state.specs.Answer.{Called}
 use Rattle.state.specs.Start.{initialState, laidOut}
-use Rattle.steps.specs.Calls.{started, called, answers}
+use Rattle.steps.specs.Calls.{started, called, answers, memoryAfter}
 use Rattle.state.proofs.LaidOut.{laid-holds, laid-length}
 use Rattle.ledger.specs.Ledger.{Ledger, fresh}
 use Rattle.ledger.specs.Calls as ledger
@@ -20,7 +20,7 @@ use Rattle.ledger.specs.History.{readable, history}
 use Rattle.ledger.proofs.Exchange.{exchange}
 use Rattle.ledger.proofs.Fit.{replies-read}
 use Rattle.ledger.proofs.History.{outputs-read}
-use Rattle.agreement.specs.Agreement.{memoryOf, PlacesChanged, Agreement}
+use Rattle.agreement.specs.Agreement.{memoryOf, PlacesChanged, Agreement, Demand3}
 use Rattle.agreement.proofs.StartAgrees.{start-related}
 use Rattle.steps.specs.Demand1.{LengthIn, Begins}
 use Rattle.steps.proofs.Guarded.{holds-well, called-steps, started-begins, begins-started}
@@ -50,6 +50,14 @@ agrees-on (c ∷ cs) m s l r =
     ap (λ (x : Called). x .answer ∷ answers (x .memory) cs) (calls-of m s l r c)
     ∙ ap (λ (xs : List Answer). ledger.step l c .answer ∷ xs) (agrees-on cs (d .memory-after) (d .state-after) (ledger.step l c .ledger) (ready-again m s l r c))
 
+-- after them the memory holds a state that the ledger is about
+pub ready-after : (cs : List Call) (m : List ℕ) (s : State) (l : Ledger) → Ready m s l → (x : State) × Ready (memoryAfter m cs) x (ledger.after l cs)
+ready-after [] m s l r = (s, r)
+ready-after (c ∷ cs) m s l r =
+    let d = does m s l (r .on) c in
+    subst (λ (p : List ℕ). (x : State) × Ready (memoryAfter p cs) x (ledger.after (ledger.step l c .ledger) cs)) (sym (ap (λ (x : Called). x .memory) (calls-of m s l r c)))
+    (ready-after cs (d .memory-after) (d .state-after) (ledger.step l c .ledger) (ready-again m s l r c))
+
 module _ (m : List ℕ) (s : Setup) (slice : List ℕ) (long : s .«get_cfg_len» ≡ length slice) (zero : started m s slice .answer ≡ Value 0) where
   begins : Begins m s
   begins = started-begins m s slice zero
@@ -74,6 +82,12 @@ module _ (m : List ℕ) (s : Setup) (slice : List ℕ) (long : s .«get_cfg_len�
   agree : (cs : List Call) → answers (memoryOf m s slice) cs ≡ ledger.answers (fresh s slice) cs
   agree cs = agrees-on cs (memoryOf m s slice) (initialState s) (fresh s slice) begins-ready
 
+  -- after some calls the others answer as the ledger does after them
+  pub later : (cs rest : List Call) → answers (memoryAfter (memoryOf m s slice) cs) rest ≡ ledger.answers (ledger.after (fresh s slice) cs) rest
+  later cs rest =
+      let r = ready-after cs (memoryOf m s slice) (initialState s) (fresh s slice) begins-ready in
+      agrees-on rest (memoryAfter (memoryOf m s slice) cs) (r .0) (ledger.after (fresh s slice) cs) (r .1)
+
   -- what the ledger says of changed places holds of the memory
   places : (pre post : List Call) (b : ℕ) (bad : Bool) (c : Call) → Exchanged (fresh s slice) pre post b bad c
       → PlacesChanged (memoryOf m s slice) pre post b bad c
@@ -87,12 +101,17 @@ module _ (m : List ℕ) (s : Setup) (slice : List ℕ) (long : s .«get_cfg_len�
     call-first = agree (pre ++ c ∷ octet b bad ∷ post) ∙ x .call-first;
   }
 
-  pub agreement : Agreement m s slice
-  agreement = record {
+  agreed : Agreement m s slice
+  agreed = record {
     agree = agree;
     octet-then-call = λ pre post b bad c u i. places pre post b bad c (exchange (fresh s slice) pre post b bad c .inner-first u i);
     call-then-octet = λ pre post b bad c u i. places pre post b bad c (exchange (fresh s slice) pre post b bad c .inner-second u i);
-    outputs = λ cs index h.
-        agree (cs ++ read 1 index ∷ []) ∙ outputs-read s slice cs index [] .answers-are h
-        ∙ ap (λ (xs : List Answer). xs ++ Value (getD (readable (s .«output_len») (history (fresh s slice) cs)) index 0) ∷ []) (sym (agree cs));
+    outputs = λ cs index rest h.
+        let x = Value (getD (readable (s .«output_len») (history (fresh s slice) cs)) index 0) in
+        agree (cs ++ read 1 index ∷ rest)
+        ∙ outputs-read s slice cs index rest .answers-are h
+        ∙ (λ i. sym (agree cs) i ++ x ∷ sym (later cs rest) i);
   }
+
+pub demand-3 : Demand3
+demand-3 = agreed

@@ -32,6 +32,7 @@
 --   PackedAgrees: the state packed in front of the memory again: both sides still agree, and the state is sound
 --   StepAgrees: one step over a memory that holds a state does what the ledger does
 --   Agreement: with the check in front, the same of every list of calls over the lent memory: the theorem
+--   Bench: document 01's bench list over the memory
 mod Relation
 mod Steady
 mod OtherBuffersStay
@@ -59,3 +60,4 @@ mod EveryCallAgrees
 mod PackedAgrees
 pub mod StepAgrees
 pub mod Agreement
+pub mod Bench

@@ -13,7 +13,7 @@ use Rattle.telegram.specs.declared.reader.Status.the-variants.{Fresh, Inside, C
 use Rattle.telegram.specs.Telegram.{Telegram}
 use Rattle.telegram.specs.Reading.{before, off, start, okAt, readerStep, readerAfter, run, status, takesData, gathered, finished}
 use Rattle.telegram.proofs.Run.{no-true, inside-complete, broken-complete, run-snoc}
-use Rattle.telegram.proofs.Framing.{framing, told}
+use Rattle.telegram.proofs.Framing.{framing}
 use Rattle.state.specs.declared.state.State.{State}
 use Rattle.ledger.specs.Ledger as ledger
 use Rattle.ledger.specs.Ledger.{Ledger, withLine}
@@ -100,7 +100,7 @@ module _ (s : State) (m : List ℕ) (l : Ledger) (b : ℕ) (d : Steady l) (w : R
         let whole = framing ys .whole .0 (ap status (sym went) ∙ ap status (sym steps) ∙ e) in
         let t = whole .0 in
         let fields = framing ys .fields t (whole .1) (whole .2) in
-        let is : bus.telegramOn ys ≡ t = ap bus.telegramOn (sym (whole .2)) ∙ told t (whole .1) in
+        let is : bus.telegramOn ys ≡ t = framing ys .told t (whole .1) (whole .2) in
         let stored = gathered-on s m xs b read (rw read at (no-data e)) (λ z. broken-complete (sym z ∙ ap status (sym steps) ∙ e)) (a .reading .stored ignoring) in
         let moved = subst (λ (x : Reader). Gathered (readBy s x) m (gathered start ys)) (went ∙ fields .0) stored in
         let g = subst (λ (ds : List ℕ). Gathered (readBy s (finished t)) m ds) (fields .1) moved in

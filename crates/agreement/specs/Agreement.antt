@@ -7,7 +7,7 @@ use lib.ListN.{length, getD}
 use Rattle.state.specs.declared.answer.Answer.{Answer}
 use Rattle.state.specs.declared.answer.Answer.the-variants.{Value}
 use Rattle.state.specs.declared.setup.Setup.{Setup}
-use Rattle.steps.specs.Calls.{started, answers}
+use Rattle.steps.specs.Calls.{started, answers, memoryAfter}
 use Rattle.ledger.specs.Ledger.{fresh}
 use Rattle.ledger.specs.Calls as ledger
 use Rattle.rules.specs.Call.{Call, octet, read}
@@ -38,7 +38,13 @@ pub record Agreement (m : List ℕ) (s : Setup) (slice : List ℕ) : Type 0 wher
       → Inner (after (fresh s slice) pre) b bad → PlacesChanged (memoryOf m s slice) pre post b bad c
   pub call-then-octet : (pre post : List Call) (b : ℕ) (bad : Bool) (c : Call) → ofUser c ≡ true
       → Inner (after (fresh s slice) (pre ++ c ∷ [])) b bad → PlacesChanged (memoryOf m s slice) pre post b bad c
-  -- outputs read are those of the newest telegram accepted before the latest take, or zeros
-  pub outputs : (cs : List Call) (index : ℕ) → index < s .«output_len»
-      → answers (memoryOf m s slice) (cs ++ read 1 index ∷ [])
-      ≡ answers (memoryOf m s slice) cs ++ Value (getD (readable (s .«output_len») (history (fresh s slice) cs)) index 0) ∷ []
+  -- outputs read are those of the newest telegram accepted before the latest take, or zeros, whatever calls come behind the read
+  pub outputs : (cs : List Call) (index : ℕ) (rest : List Call) → index < s .«output_len»
+      → answers (memoryOf m s slice) (cs ++ read 1 index ∷ rest)
+      ≡ answers (memoryOf m s slice) cs
+      ++ Value (getD (readable (s .«output_len») (history (fresh s slice) cs)) index 0) ∷ answers (memoryAfter (memoryOf m s slice) cs) rest
+
+-- demand 3 whole: for every memory, setup and slice of the setup's Get_Cfg length for which Start answers 0
+abbrev pub Demand3 : Type 0
+Demand3 =
+    (m : List ℕ) (s : Setup) (slice : List ℕ) → s .«get_cfg_len» ≡ length slice → started m s slice .answer ≡ Value 0 → Agreement m s slice

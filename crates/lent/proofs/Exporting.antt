@@ -4,9 +4,8 @@ use mathlib.Core.Path.{_≡_, sym, ap, _∙_}
 use mathlib.Core.Bool.{Bool, cond}
 use mathlib.Core.List.{List}
 use lib.IntN.{pos}
-use Rattle.steps.specs.Calls.{wellMemory}
+use Rattle.steps.specs.Calls.{wellMemory, memoryAfter}
 use Rattle.rules.specs.Call.{Call}
-use Rattle.lent.specs.Run.{memoryAfter}
 use Rattle.lent.specs.Exports.{Returns}
 
 pub exported : {m out : List ℕ} {cs : List Call} {r : Bool} (b : Bool) → (r ≡ wellMemory m) × (out ≡ memoryAfter m cs) → r ≡ b → Returns m cs (pos (cond b 1 0)) out

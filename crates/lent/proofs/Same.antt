@@ -4,8 +4,7 @@ use native.Mathlib.Omega.{arith}
 use mathlib.Core.Path.{_≡_, refl, sym, ap, subst, _∙_}
 use mathlib.Core.Bool.{true}
 use mathlib.Core.List.{List, [], _∷_, _++_}
-use lib.ListN.{length, drop, replicate}
-use lib.Seq.{drop-at}
+use lib.ListN.{length, replicate}
 use Rattle.state.specs.declared.answer.Answer.{Answer}
 use Rattle.state.specs.declared.answer.Answer.the-variants.{Value}
 use Rattle.state.specs.declared.setup.Setup.{Setup}
@@ -15,15 +14,14 @@ use Rattle.state.specs.Image.{image}
 use Rattle.state.specs.Layout.{stateLength}
 use Rattle.state.specs.Memory.{kept, Holds}
 use Rattle.state.specs.Start.{initialState}
-use Rattle.steps.specs.Calls.{started, wellMemory, called, answers}
+use Rattle.steps.specs.Calls.{started, wellMemory, called, answers, memoryAfter}
 use Rattle.state.specs.Unpack.{unpacked}
 use Rattle.state.proofs.Damage.{holds-unpacked, kept-holds, fronted-same}
 use Rattle.state.proofs.Front.{kept-drop, kept-length}
-use Rattle.ledger.specs.Ledger.{Ledger, fresh}
+use Rattle.ledger.specs.Ledger.{fresh}
 use Rattle.rules.specs.Call as call
 use Rattle.ledger.specs.Calls as ledger
 use Rattle.rules.specs.Call.{Call}
-use Rattle.ledger.specs.Calls.{after}
 use Rattle.ledger.proofs.Runs as ledger-runs
 use Rattle.steps.specs.Safe.{Safe}
 use Rattle.steps.specs.Step.{stepOver}
@@ -33,9 +31,9 @@ use Rattle.steps.proofs.KeepsSetup.{step-keeps}
 use Rattle.steps.proofs.Holding.{holds-safe, step-whole}
 use Rattle.steps.specs.Demand1.{LengthIn}
 use Rattle.steps.proofs.Guarded.{holds-well, called-steps}
-use Rattle.agreement.proofs.Agreement.{Ready, calls-of, ready-again, begins-ready, agreement}
-use Rattle.agreement.proofs.StepAgrees.{does}
-use Rattle.lent.specs.Run.{Beat, octet, gap, tick, beat, runBeats, callOf, calls, memoryAfter, Same, CarriesOver}
+use Rattle.agreement.proofs.Agreement.{begins-ready, ready-after, later}
+use Rattle.steps.proofs.Runs.{memory-append}
+use Rattle.lent.specs.Run.{Beat, octet, gap, tick, beat, runBeats, callOf, calls, Same, LentSame, CarriesOver, Demand3CarriesOver}
 use Rattle.lent.proofs.Behind.{behind, alike-beat}
 use Rattle.lent.proofs.Keeps.{sound-beat}
 
@@ -124,7 +122,7 @@ ends (x ∷ bs) p s m b =
     }
 
 -- for every memory of the right length that holds a state
-pub lent-same : (m : List ℕ) (s : State) → LengthIn (length m) → Holds m s → (bs : List Beat) → Same m bs
+pub lent-same : LentSame
 lent-same m s n h bs =
     let g : Holds m (unpacked m) = subst (Holds m) (sym (holds-unpacked m s h)) h in
     let r = ends bs m (unpacked m) m (record { length-in = n; holds = g; safe = holds-safe m (unpacked m) g; bodies = refl }) in
@@ -136,45 +134,19 @@ lent-image m s n h bs = ends bs m s m (record { length-in = n; holds = h; safe =
 
 -- ---- from a freshly started station
 
--- after any calls the memory holds a state that the ledger is about
-reach : (cs : List Call) (m : List ℕ) (s : State) (l : Ledger) → Ready m s l → (x : State) × Ready (memoryAfter m cs) x (after l cs)
-reach [] m s l r = (s, r)
-reach (c ∷ cs) m s l r =
-    let d = does m s l (r .on) c in
-    subst (λ (p : List ℕ). (x : State) × Ready (memoryAfter p cs) x (after (ledger.step l c .ledger) cs)) (sym (ap (λ (x : Called). x .memory) (calls-of m s l r c)))
-    (reach cs (d .memory-after) (d .state-after) (ledger.step l c .ledger) (ready-again m s l r c))
-
--- what a list of calls leaves and answers, by its parts
-memory-append : (xs ys : List Call) (m : List ℕ) → memoryAfter m (xs ++ ys) ≡ memoryAfter (memoryAfter m xs) ys
-memory-append [] ys m = refl
-memory-append (c ∷ xs) ys m = memory-append xs ys (called m c .memory)
-
-answers-append : (xs ys : List Call) (m : List ℕ) → answers m (xs ++ ys) ≡ answers m xs ++ answers (memoryAfter m xs) ys
-answers-append [] ys m = refl
-answers-append (c ∷ xs) ys m = ap (λ (more : List Answer). called m c .answer ∷ more) (answers-append xs ys (called m c .memory))
-
--- lists with the same beginning have the same end
-same-end : (p q p′ q′ : List Answer) → p ++ q ≡ p′ ++ q′ → p ≡ p′ → q ≡ q′
-same-end p q p′ q′ e f =
-    sym (drop-at p q (length p) refl) ∙ ap (drop (length p)) e ∙ drop-at p′ q′ (length p) (ap length (sym f))
-
 module _ (m : List ℕ) (s : Setup) (slice : List ℕ) (long : s .«get_cfg_len» ≡ length slice) (zero : started m s slice .answer ≡ Value 0) where
-  -- the calls after some others answer as the ledger does after them
-  later : (xs ys : List Call) → answers (memoryAfter (memoryOf m s slice) xs) ys ≡ ledger.answers (after (fresh s slice) xs) ys
-  later xs ys =
-      let agree = agreement m s slice long zero .agree in
-      same-end (answers (memoryOf m s slice) xs) _ (ledger.answers (fresh s slice) xs) _
-      (sym (answers-append xs ys (memoryOf m s slice)) ∙ agree (xs ++ ys) ∙ ledger-runs.answers-append (fresh s slice) xs ys) (agree xs)
-
   same : (pre : List Call) (bs : List Beat) → Same (memoryAfter (memoryOf m s slice) pre) bs
   same pre bs =
-      let r = reach pre (memoryOf m s slice) (initialState s) (fresh s slice) (begins-ready m s slice long zero) in
+      let r = ready-after pre (memoryOf m s slice) (initialState s) (fresh s slice) (begins-ready m s slice long zero) in
       lent-same (memoryAfter (memoryOf m s slice) pre) (r .0) (r .1 .length-in) (r .1 .on .holds) bs
 
-  pub carries-over : CarriesOver m s slice
-  carries-over = record {
+  carried-over : CarriesOver m s slice
+  carried-over = record {
     same = same;
     agree = λ pre bs cs.
         ap (λ (p : List ℕ). answers p cs) (same pre bs .image-is ∙ sym (memory-append pre (calls bs) (memoryOf m s slice)))
-        ∙ later (pre ++ calls bs) cs;
+        ∙ later m s slice long zero (pre ++ calls bs) cs;
   }
+
+pub carries-over : Demand3CarriesOver
+carries-over = carried-over

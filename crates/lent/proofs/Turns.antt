@@ -8,7 +8,7 @@ use borrow.Author.Tests.{not-true, not-false}
 use Rattle.state.specs.declared.state.State.{State}
 use Rattle.state.specs.Answer.{Called}
 use Rattle.state.specs.Memory.{kept, Holds}
-use Rattle.steps.specs.Calls.{wellMemory}
+use Rattle.steps.specs.Calls.{wellMemory, memoryAfter}
 use Rattle.rules.specs.Call.{Call}
 use Rattle.steps.specs.Safe.{Safe}
 use Rattle.steps.specs.Stepped.{Stepped, Steps}
@@ -16,7 +16,7 @@ use Rattle.steps.specs.Bus.{paused}
 use Rattle.steps.proofs.KeepsSafe.{safe-steps}
 use Rattle.steps.specs.Demand1.{LengthIn}
 use Rattle.steps.proofs.Guarded.{called-damaged}
-use Rattle.lent.specs.Run.{Beat, gap, runBeats, calls, memoryAfter}
+use Rattle.lent.specs.Run.{Beat, gap, runBeats, calls}
 use Rattle.lent.proofs.Partly.{run-append}
 use Rattle.lent.proofs.Same.{safe-run, lent-image}
 

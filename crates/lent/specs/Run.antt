@@ -17,7 +17,8 @@ use Rattle.ledger.specs.Calls.{after}
 use Rattle.steps.specs.Stepped.{Stepped, unchanged}
 use Rattle.steps.specs.Reading.{heard}
 use Rattle.steps.specs.Bus.{paused, elapsed}
-use Rattle.steps.specs.Calls.{wellMemory, called, answers}
+use Rattle.steps.specs.Calls.{started, wellMemory, answers, memoryAfter}
+use Rattle.steps.specs.Demand1.{LengthIn}
 use Rattle.agreement.specs.Agreement.{memoryOf}
 
 -- what the bus does
@@ -61,11 +62,6 @@ callOf tick = call.tick
 abbrev pub calls : List Beat → List Call
 calls = map callOf
 
--- the memory that a list of exported calls leaves
-abbrev pub memoryAfter : List ℕ → List Call → List ℕ
-memoryAfter m [] = m
-memoryAfter m (c ∷ cs) = memoryAfter (called m c .memory) cs
-
 -- the unpacked run from the state in the memory m, packed at its end
 abbrev pub packedRun : List ℕ → List Beat → List ℕ
 packedRun m bs = kept (runBeats (unpacked m) m bs .state) (runBeats (unpacked m) m bs .memory)
@@ -77,9 +73,18 @@ pub record Same (m : List ℕ) (bs : List Beat) : Type 0 where
   pub well-still : wellMemory (packedRun m bs) ≡ true
   pub holds-still : Holds (packedRun m bs) (runBeats (unpacked m) m bs .state)
 
+-- so it is on every memory that nobody damaged
+abbrev pub LentSame : Type 0
+LentSame = (m : List ℕ) (s : State) → LengthIn (length m) → Holds m s → (bs : List Beat) → Same m bs
+
 -- demand 3 carries over: after Start and any calls the state is unpacked, lent for any octets, gaps and Ticks and packed
 -- again, and every call from then on answers as the ledger does
 pub record CarriesOver (m : List ℕ) (s : Setup) (slice : List ℕ) : Type 0 where
   pub same : (pre : List Call) (bs : List Beat) → Same (memoryAfter (memoryOf m s slice) pre) bs
   pub agree : (pre : List Call) (bs : List Beat) (cs : List Call)
       → answers (packedRun (memoryAfter (memoryOf m s slice) pre) bs) cs ≡ ledger.answers (after (fresh s slice) (pre ++ calls bs)) cs
+
+-- so it is where demand 3 is claimed
+abbrev pub Demand3CarriesOver : Type 0
+Demand3CarriesOver =
+    (m : List ℕ) (s : Setup) (slice : List ℕ) → s .«get_cfg_len» ≡ length slice → started m s slice .answer ≡ Value 0 → CarriesOver m s slice

@@ -9,10 +9,10 @@ use station::bus::pause;
 use station::memory::is_well;
 ghost use mathlib.Core.Path.{_≡_};
 ghost use mathlib.Core.List.{_++_};
-ghost use Rattle.steps.specs.Calls.{wellMemory};
+ghost use Rattle.steps.specs.Calls.{wellMemory, memoryAfter};
 ghost use Rattle.steps.specs.Safe.{Safe};
 ghost use Rattle.steps.specs.Stepped.{Steps};
-ghost use Rattle.lent.specs.Run.{runBeats, wellReceived, ticks, turn, calls, memoryAfter};
+ghost use Rattle.lent.specs.Run.{runBeats, wellReceived, ticks, turn, calls};
 
 // Octets.
 pub fn listen(state: State, memory: &mut [u8], octets: &[u8]) -> State

@@ -1,0 +1,19 @@
+-- The bench list a to j over the memory.
+use Prim.Native.Nat.{ℕ}
+use mathlib.Core.Path.{_≡_}
+use mathlib.Core.List.{List}
+use lib.ListN.{length}
+use Rattle.state.specs.declared.answer.Answer.the-variants.{Value}
+use Rattle.ledger.specs.Script.{callsOf, answersOf}
+use Rattle.ledger.specs.Bench.{benchSetup, benchSlice, bench}
+use Rattle.steps.specs.Calls.{started, answers}
+use Rattle.steps.specs.Demand1.{LengthIn}
+use Rattle.agreement.specs.Agreement.{memoryOf}
+
+-- on every memory of a length that Start takes it answers 0, and the list behind it is answered as written down
+pub record BenchOverMemory (m : List ℕ) : Type 0 where
+  pub starts : started m benchSetup benchSlice .answer ≡ Value 0
+  pub answers-are : answers (memoryOf m benchSetup benchSlice) (callsOf bench) ≡ answersOf bench
+
+abbrev pub BenchOnEveryMemory : Type 0
+BenchOnEveryMemory = (m : List ℕ) → LengthIn (length m) → BenchOverMemory m
