@@ -20,9 +20,7 @@ use Rattle.state.proofs.Damage.{holds-unpacked, kept-holds, fronted-same}
 use Rattle.state.proofs.Front.{kept-drop, kept-length}
 use Rattle.ledger.specs.Ledger.{fresh}
 use Rattle.rules.specs.Call as call
-use Rattle.ledger.specs.Calls as ledger
 use Rattle.rules.specs.Call.{Call}
-use Rattle.ledger.proofs.Runs as ledger-runs
 use Rattle.steps.specs.Safe.{Safe}
 use Rattle.steps.specs.Step.{stepOver}
 use Rattle.agreement.specs.Agreement.{memoryOf}

@@ -1,0 +1,33 @@
+-- Demand 2: the station takes exactly the telegrams of the grammar, acts on each as the service rules say, and sends exactly the reply
+-- that they give. The rules are the definitions of the crate rules, carried out on lists in Outcome.antt; demand 3 ties them to the memory.
+use Rattle.telegram.specs.Telegram.{Telegram}
+use Rattle.telegram.specs.Framing.{FramingPromise}
+use Rattle.telegram.specs.Sending.{SendingPromise}
+use Rattle.ledger.specs.Ledger.{Ledger}
+use Rattle.ledger.specs.Hearing.{Hears, Dialogue}
+use Rattle.ledger.specs.ByGrammar.{ByGrammar, Sd4WithoutEffect}
+use Rattle.ledger.specs.ReadBack.{ReadingBack}
+use Rattle.ledger.specs.Octets.{SentOctets}
+use Rattle.ledger.specs.EventsFollow.{EventsOpen, PublishingRaises}
+
+pub record Demand2 : Type 0 where
+  -- of every list of octets the reader tells what the grammar says
+  pub framing : FramingPromise
+  -- every ledger hears by the grammar, octet by octet, whatever calls come between
+  pub by-grammar : ByGrammar
+  -- SD4 is without effect
+  pub sd4 : Sd4WithoutEffect
+  -- a telegram heard after a gap acts whole
+  pub hears : (l : Ledger) (t : Telegram) → Hears l t
+  -- and is replied to whole, then 256
+  pub dialogue : (l : Ledger) (t : Telegram) → Dialogue l t
+  -- events 10 and 11 are set exactly while a set of that kind is open
+  pub events-open : EventsOpen
+  -- whatever publishes raises 13, and nothing else does
+  pub publishing-raises : PublishingRaises
+  -- the sender of a telegram sends its octets
+  pub sending : SendingPromise
+  -- every reply but E5 reads back as a telegram with the same fields
+  pub reading-back : ReadingBack
+  -- what is sent are octets, and 256 says that none is left
+  pub sent-octets : SentOctets
