@@ -8,6 +8,7 @@ use mathlib.Core.List.{List, _++_}
 use lib.ListN.{length, drop}
 use Rattle.buffers.proofs.Roles.{initial-permutation}
 use Rattle.octets.specs.Part.{part}
+use Rattle.telegram.proofs.Counts.{off-counts, empty-counts}
 use Rattle.state.specs.declared.setup.Setup.{Setup}
 use Rattle.state.specs.Image.{image}
 use Rattle.state.specs.Layout.{stateLength, getCfgRow, rowCount, rowLength, startOf, getCfgAt, endOf}
@@ -37,9 +38,13 @@ initial-sound s r =
       configuration-waiting = omega arith;
       parameters-fresh = refl;
       configuration-fresh = refl;
+      parameters-behind = λ _. refl;
+      configuration-behind = λ _. refl;
       diagnosis-count = (omega arith, r .diagnosis-len .0);
       delayed-count = inl refl;
       delayed-flags = omega arith;
+      reading = off-counts;
+      sending = empty-counts;
       place = omega arith;
     }
 

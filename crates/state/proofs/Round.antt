@@ -18,10 +18,11 @@ use Rattle.state.specs.Layout.{stateLength}
 use Rattle.state.specs.Image.{bitOf, flagsOf, marksOf, image}
 use Rattle.state.specs.Unpack.{wordAt, bitAt, marksIn, setupIn, flagsIn, readerIn, senderIn, unpacked}
 use Rattle.state.specs.Sound.{Sound}
-use Rattle.state.specs.Well.{all, setupTests, caseTests, roleTests, setTests, diagnosisTests, unusedTests, imageTests, wellImage}
+use Rattle.state.specs.Well.{all, setupTests, caseTests, roleTests, setTests, diagnosisTests, lineTests, unusedTests, imageTests, wellImage}
 use Rattle.state.proofs.Numbers.{reading-back, reading-counted, reading-le, kind-back, kind-counted, kind-le, stage-back, stage-counted, stage-le, phase-back, phase-counted, phase-le, drawn-back, drawn-counted, drawn-le}
 use Rattle.state.proofs.Asking.{tests-ranged, ranged-tests}
-use Rattle.state.proofs.Tests.{all-at, within-true, within-holds, none-or-true, none-or-holds, beq-true, beq-holds}
+use Rattle.state.proofs.Tests.{all-at, within-true, within-holds, none-or-true, none-or-holds, behind-true, behind-holds, beq-true, beq-holds}
+use Rattle.state.proofs.LineCounts.{reading-before, reading-numbered, stage-before, stage-numbered, none-yet-true, none-yet-holds}
 use Rattle.state.proofs.Bits.{bit-le, Marked, marked, sum-marks}
 
 -- the image has its length
@@ -192,6 +193,8 @@ module _ (s : State) (h : Sound s) (r : List ℕ) where
       ∷ le-leb (c .waiting) (s .setup .«configuration_len») (h .configuration-waiting) i
       ∷ beq-holds (bitAt (marksOf s) 8) (not (eqb (p .waiting) 0)) (marks-back s .bit₃ ∙ h .parameters-fresh) i
       ∷ beq-holds (bitAt (marksOf s) 16) (not (eqb (c .waiting) 0)) (marks-back s .bit₄ ∙ h .configuration-fresh) i
+      ∷ behind-holds (p .shown) (p .waiting) (h .parameters-behind) i
+      ∷ behind-holds (c .shown) (c .waiting) (h .configuration-behind) i
       ∷ [])
 
   -- diagnosis passes
@@ -206,10 +209,26 @@ module _ (s : State) (h : Sound s) (r : List ℕ) where
       ∷ le-leb (d .«delayed_flags») 7 (h .delayed-flags) i
       ∷ [])
 
+  -- the counts of the telegram and of the reply pass
+  line-well : all (lineTests (image s ++ r)) ≡ true
+  unfolding image
+  line-well =
+      let a = s .incoming .reader in
+      let b = s .reply .sender in
+      λ i.
+      all
+      (le-leb (a .count) 246 (h .reading .count) i
+      ∷ le-leb (a .at) (a .count) (h .reading .read) i
+      ∷ none-yet-holds 9 (readingNumber (a .phase)) (a .at) (reading-before (a .phase)) (h .reading .none-yet) i
+      ∷ le-leb (b .count) 246 (h .sending .count) i
+      ∷ le-leb (b .at) (b .count) (h .sending .sent) i
+      ∷ none-yet-holds 7 (stageNumber (b .stage)) (b .at) (stage-before (b .stage)) (h .sending .none-yet) i
+      ∷ [])
+
   -- it passes the tests
   pub image-well : wellImage (image s ++ r) ≡ true
   unfolding image wellImage
-  image-well = λ i. all (setup-well i ∷ cases-well i ∷ roles-well i ∷ sets-well i ∷ diagnosis-well i ∷ true ∷ [])
+  image-well = λ i. all (setup-well i ∷ cases-well i ∷ roles-well i ∷ sets-well i ∷ diagnosis-well i ∷ line-well i ∷ true ∷ [])
 
 -- a memory whose first octets are the image of a sound state passes the tests
 pub front-well : (m : List ℕ) (s : State) → Sound s → image s ≡ take stateLength m → wellImage m ≡ true
@@ -222,9 +241,11 @@ pub well-sound : (m : List ℕ) → wellImage m ≡ true → Sound (unpacked m)
 unfolding wellImage unpacked
 well-sound m h =
     let setup = all-at (imageTests m) 0 h in
+    let cases = all-at (imageTests m) 1 h in
     let roles = all-at (imageTests m) 2 h in
     let sets = all-at (imageTests m) 3 h in
     let diagnosis = all-at (imageTests m) 4 h in
+    let line = all-at (imageTests m) 5 h in
     record {
       setup = tests-ranged (setupIn m (wordAt m 1)) setup;
       outputs = places-permutation (getD m 19 0);
@@ -237,9 +258,23 @@ well-sound m h =
       configuration-waiting = leb-true (getD m 26 0) (getD m 6 0) (all-at (setTests m) 3 sets);
       parameters-fresh = beq-true (bitAt (marksIn m) 8) (not (eqb (getD m 24 0) 0)) (all-at (setTests m) 4 sets);
       configuration-fresh = beq-true (bitAt (marksIn m) 16) (not (eqb (getD m 26 0) 0)) (all-at (setTests m) 5 sets);
+      parameters-behind = behind-true (getD m 23 0) (getD m 24 0) (all-at (setTests m) 6 sets);
+      configuration-behind = behind-true (getD m 25 0) (getD m 26 0) (all-at (setTests m) 7 sets);
       diagnosis-count = within-true 6 (getD m 27 0) (getD m 7 0) (all-at (diagnosisTests m) 0 diagnosis);
       delayed-count = none-or-true 6 (getD m 28 0) (getD m 7 0) (all-at (diagnosisTests m) 1 diagnosis);
       delayed-flags = leb-true (getD m 29 0) 7 (all-at (diagnosisTests m) 2 diagnosis);
+      reading =
+          record {
+            count = leb-true (getD m 34 0) 246 (all-at (lineTests m) 0 line);
+            read = leb-true (getD m 35 0) (getD m 34 0) (all-at (lineTests m) 1 line);
+            none-yet = none-yet-true 9 (getD m 32 0) (getD m 35 0) (reading-numbered (getD m 32 0) (leb-true (getD m 32 0) 12 (all-at (caseTests m) 1 cases))) (all-at (lineTests m) 2 line);
+          };
+      sending =
+          record {
+            count = leb-true (getD m 46 0) 246 (all-at (lineTests m) 3 line);
+            sent = leb-true (getD m 47 0) (getD m 46 0) (all-at (lineTests m) 4 line);
+            none-yet = none-yet-true 7 (getD m 44 0) (getD m 47 0) (stage-numbered (getD m 44 0) (leb-true (getD m 44 0) 10 (all-at (caseTests m) 3 cases))) (all-at (lineTests m) 5 line);
+          };
       place = leb-true (getD m 53 0) 2 (all-at (roleTests m) 5 roles);
     }
 
@@ -285,7 +320,7 @@ unfolding image wellImage unpacked
 image-spread m small h =
     let cases = all-at (imageTests m) 1 h in
     let roles = all-at (imageTests m) 2 h in
-    let rest = all-at (imageTests m) 5 h in
+    let rest = all-at (imageTests m) 6 h in
     λ i.
     spread m 0 1
     ++ low-at m 1 (small 1) i

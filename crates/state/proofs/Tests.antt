@@ -9,7 +9,8 @@ use lib.Dec.{leb, eqb}
 use lib.ListN.{getD}
 use borrow.Author.Tests.{leb-true, le-leb, eqb-true, eq-eqb, not-false}
 use Rattle.state.specs.Sound.{Within, NoneOr}
-use Rattle.state.specs.Well.{allFrom, all, within, noneOr}
+use Rattle.state.specs.Well.{allFrom, all, within, noneOr, behind}
+use Rattle.state.proofs.Choice.{or-other, or-holds}
 
 -- the first of tests that all hold
 from-first : (a : Bool) (l : List Bool) → allFrom a l ≡ true → a ≡ true
@@ -79,11 +80,16 @@ none-or-true lo x hi h = go (eqb x 0) refl h
 -- and back
 pub none-or-holds : (lo x hi : ℕ) → NoneOr lo x hi → noneOr lo x hi ≡ true
 none-or-holds lo x hi h =
-    ⊎-elim (λ e. λ i. eq-eqb x 0 e i || within lo x hi) (λ w. later (eqb x 0) (within-holds lo x hi w)) h
-  where
-    later : (t : Bool) {b : Bool} → b ≡ true → (t || b) ≡ true
-    later true e = refl
-    later false e = e
+    ⊎-elim (λ e. λ i. eq-eqb x 0 e i || within lo x hi) (λ w. or-holds (eqb x 0) (within lo x hi) (λ _. within-holds lo x hi w)) h
+
+-- no set waits where the test finds that none is shown
+pub behind-true : (shown waiting : ℕ) → behind shown waiting ≡ true → shown ≡ 0 → waiting ≡ 0
+behind-true shown waiting h e = eqb-true waiting 0 (or-other (not (eqb shown 0)) (eqb waiting 0) h (ap not (eq-eqb shown 0 e)))
+
+-- and back
+pub behind-holds : (shown waiting : ℕ) → (shown ≡ 0 → waiting ≡ 0) → behind shown waiting ≡ true
+behind-holds shown waiting f =
+    or-holds (not (eqb shown 0)) (eqb waiting 0) (λ e. eq-eqb waiting 0 (f (eqb-true shown 0 (not-false (eqb shown 0) e))))
 
 -- marks that the test finds the same are the same
 pub beq-true : (a b : Bool) → Bool·beq a b ≡ true → a ≡ b

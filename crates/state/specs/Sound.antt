@@ -5,6 +5,7 @@ use mathlib.Core.Logic.{_⊎_}
 use mathlib.Core.Bool.{not}
 use lib.Dec.{eqb}
 use Rattle.buffers.specs.Triple.{Permutation}
+use Rattle.telegram.specs.Counts.{ReadCounts, SentCounts}
 use Rattle.state.specs.declared.setup.Setup.{Setup}
 use Rattle.state.specs.declared.state.State.{State}
 
@@ -57,11 +58,19 @@ pub record Sound (s : State) : Type 0 where
   pub parameters-fresh : s .parameters .set .fresh ≡ not (eqb (s .parameters .waiting) 0)
   -- a configuration waits exactly if its count is not 0
   pub configuration-fresh : s .configuration .set .fresh ≡ not (eqb (s .configuration .waiting) 0)
+  -- parameters wait only behind some that are shown
+  pub parameters-behind : s .parameters .shown ≡ 0 → s .parameters .waiting ≡ 0
+  -- and so does a configuration
+  pub configuration-behind : s .configuration .shown ≡ 0 → s .configuration .waiting ≡ 0
   -- diagnosis counts 6 octets to the set length
   pub diagnosis-count : Within 6 (s .control .diagnosis .count) (s .setup .«diagnosis_len»)
   -- and so does a delayed one
   pub delayed-count : NoneOr 6 (s .control .diagnosis .«delayed_count») (s .setup .«diagnosis_len»)
   -- the flags of a delayed diagnosis are three bits
   pub delayed-flags : s .control .diagnosis .«delayed_flags» ≤ 7
+  -- the telegram that is read counts its data octets and those that were read
+  pub reading : ReadCounts (s .incoming .reader)
+  -- the reply counts its data octets and those that were sent
+  pub sending : SentCounts (s .reply .sender)
   -- the buffer that a reply leaves from is one of three
   pub place : s .reply .place ≤ 2

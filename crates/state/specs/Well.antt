@@ -25,6 +25,10 @@ within lo x hi = leb lo x && leb x hi
 abbrev pub noneOr : ℕ → ℕ → ℕ → Bool
 noneOr lo x hi = eqb x 0 || within lo x hi
 
+-- a set waits only behind one that is shown
+abbrev pub behind : ℕ → ℕ → Bool
+behind shown waiting = not (eqb shown 0) || eqb waiting 0
+
 -- "lengths for outputs and inputs (1 to 244), parameters (7 to 244), configuration (1 to 244), diagnosis (6 to 244), and a slice of 1 to 244 octets"
 abbrev pub lengthTests : Setup → List Bool
 lengthTests s =
@@ -71,6 +75,8 @@ setTests m =
     ∷ leb (getD m 26 0) (getD m 6 0)
     ∷ Bool·beq (bitAt (marksIn m) 8) (not (eqb (getD m 24 0) 0))
     ∷ Bool·beq (bitAt (marksIn m) 16) (not (eqb (getD m 26 0) 0))
+    ∷ behind (getD m 23 0) (getD m 24 0)
+    ∷ behind (getD m 25 0) (getD m 26 0)
     ∷ []
 
 -- diagnosis, its count and the delayed one
@@ -79,6 +85,17 @@ diagnosisTests m =
     within 6 (getD m 27 0) (getD m 7 0)
     ∷ noneOr 6 (getD m 28 0) (getD m 7 0)
     ∷ leb (getD m 29 0) 7
+    ∷ []
+
+-- the counts of the telegram that is read and of the reply: at most 246 data octets, of which some came or went, none before the data
+abbrev pub lineTests : List ℕ → List Bool
+lineTests m =
+    leb (getD m 34 0) 246
+    ∷ leb (getD m 35 0) (getD m 34 0)
+    ∷ (leb 9 (getD m 32 0) || eqb (getD m 35 0) 0)
+    ∷ leb (getD m 46 0) 246
+    ∷ leb (getD m 47 0) (getD m 46 0)
+    ∷ (leb 7 (getD m 44 0) || eqb (getD m 47 0) 0)
     ∷ []
 
 -- the octets that are not used
@@ -100,6 +117,7 @@ imageTests m =
     ∷ all (roleTests m)
     ∷ all (setTests m)
     ∷ all (diagnosisTests m)
+    ∷ all (lineTests m)
     ∷ all (unusedTests m)
     ∷ []
 

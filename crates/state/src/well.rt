@@ -5,7 +5,7 @@ ghost use Prim.Native.Nat.{_≤_};
 ghost use lib.ListN.{length};
 ghost use Rattle.state.specs.Layout.{stateLength};
 ghost use Rattle.state.specs.Unpack.{setupIn};
-ghost use Rattle.state.specs.Well.{all, noneOr, setupTests, caseTests, roleTests, setTests, diagnosisTests, unusedTests, wellImage};
+ghost use Rattle.state.specs.Well.{all, noneOr, setupTests, caseTests, roleTests, setTests, diagnosisTests, lineTests, unusedTests, wellImage};
 
 // 0 for none, or lo to hi.
 fn none_or(lo: u8, x: u8, hi: u8) -> bool
@@ -121,6 +121,12 @@ fn well_sets(mem: &[u8]) -> bool
     if !((mem[18] / 16 % 2 == 1) == (mem[26] != 0)) {
         return false;
     }
+    if !((mem[23] != 0) | (mem[24] == 0)) {
+        return false;
+    }
+    if !((mem[25] != 0) | (mem[26] == 0)) {
+        return false;
+    }
     true
 }
 
@@ -136,6 +142,32 @@ fn well_diagnosis(mem: &[u8]) -> bool
         return false;
     }
     if !(mem[29] <= 7) {
+        return false;
+    }
+    true
+}
+
+// The counts of the telegram that is read and of the reply.
+fn well_line(mem: &[u8]) -> bool
+    requires { ⌜ stateLength ≤ length (now mem) ⌝ }
+    ensures { λ r. ⌜ r ≡ all (lineTests (now (mem .entry))) ⌝ }
+{
+    if !(mem[34] <= 246) {
+        return false;
+    }
+    if !(mem[35] <= mem[34]) {
+        return false;
+    }
+    if !((9 <= mem[32]) | (mem[35] == 0)) {
+        return false;
+    }
+    if !(mem[46] <= 246) {
+        return false;
+    }
+    if !(mem[47] <= mem[46]) {
+        return false;
+    }
+    if !((7 <= mem[44]) | (mem[47] == 0)) {
         return false;
     }
     true
@@ -172,6 +204,9 @@ pub fn well(mem: &[u8]) -> bool
         return false;
     }
     if !well_diagnosis(mem) {
+        return false;
+    }
+    if !well_line(mem) {
         return false;
     }
     if !well_unused(mem) {

@@ -11,3 +11,4 @@ pub mod Framing
 pub mod Sends
 mod Bench
 pub mod Onward
+pub mod Counts

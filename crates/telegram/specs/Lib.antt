@@ -4,3 +4,4 @@ pub mod Reading
 pub mod Framing
 pub mod Sending
 pub mod ToSend
+pub mod Counts

@@ -44,16 +44,23 @@ returns-5 : tie.Need-returns-5
 unfolding wellImage
 returns-5 c = all-fails (imageTests (now (c .before .before .before .before .before .before .before .before .before .before .before .args .mem))) 4 (sym (c .before .well-diagnosis .ensures) ∙ not-true _ (c .if5 .taken))
 
-well-unused-requires : tie.Need-well-unused-requires
-well-unused-requires c κs = search needs
+well-line-requires : tie.Need-well-line-requires
+well-line-requires c κs = search needs
 
 returns-6 : tie.Need-returns-6
 unfolding wellImage
-returns-6 c = all-fails (imageTests (now (c .before .before .before .before .before .before .before .before .before .before .before .before .before .args .mem))) 5 (sym (c .before .well-unused .ensures) ∙ not-true _ (c .if6 .taken))
+returns-6 c = all-fails (imageTests (now (c .before .before .before .before .before .before .before .before .before .before .before .before .before .args .mem))) 5 (sym (c .before .well-line .ensures) ∙ not-true _ (c .if6 .taken))
+
+well-unused-requires : tie.Need-well-unused-requires
+well-unused-requires c κs = search needs
 
 returns-7 : tie.Need-returns-7
 unfolding wellImage
-returns-7 c = all-hold (imageTests (now (c .before .before .before .before .before .before .before .before .before .before .before .before .before .args .mem))) (ap not (sym (c .before .before .before .before .before .before .before .before .before .before .before .well-setup .ensures)) ∙ c .before .before .before .before .before .before .before .before .before .before .if1 .left, (ap not (sym (c .before .before .before .before .before .before .before .before .before .well-cases .ensures)) ∙ c .before .before .before .before .before .before .before .before .if2 .left, (ap not (sym (c .before .before .before .before .before .before .before .well-roles .ensures)) ∙ c .before .before .before .before .before .before .if3 .left, (ap not (sym (c .before .before .before .before .before .well-sets .ensures)) ∙ c .before .before .before .before .if4 .left, (ap not (sym (c .before .before .before .well-diagnosis .ensures)) ∙ c .before .before .if5 .left, (ap not (sym (c .before .well-unused .ensures)) ∙ c .if6 .left, tt))))))
+returns-7 c = all-fails (imageTests (now (c .before .before .before .before .before .before .before .before .before .before .before .before .before .before .before .args .mem))) 6 (sym (c .before .well-unused .ensures) ∙ not-true _ (c .if7 .taken))
+
+returns-8 : tie.Need-returns-8
+unfolding wellImage
+returns-8 c = all-hold (imageTests (now (c .before .before .before .before .before .before .before .before .before .before .before .before .before .before .before .args .mem))) (ap not (sym (c .before .before .before .before .before .before .before .before .before .before .before .before .before .well-setup .ensures)) ∙ c .before .before .before .before .before .before .before .before .before .before .before .before .if1 .left, (ap not (sym (c .before .before .before .before .before .before .before .before .before .before .before .well-cases .ensures)) ∙ c .before .before .before .before .before .before .before .before .before .before .if2 .left, (ap not (sym (c .before .before .before .before .before .before .before .before .before .well-roles .ensures)) ∙ c .before .before .before .before .before .before .before .before .if3 .left, (ap not (sym (c .before .before .before .before .before .before .before .well-sets .ensures)) ∙ c .before .before .before .before .before .before .if4 .left, (ap not (sym (c .before .before .before .before .before .well-diagnosis .ensures)) ∙ c .before .before .before .before .if5 .left, (ap not (sym (c .before .before .before .well-line .ensures)) ∙ c .before .before .if6 .left, (ap not (sym (c .before .well-unused .ensures)) ∙ c .if7 .left, tt)))))))
 
 pub well-spec : {M : Type 1} → statement M
 well-spec =
@@ -69,6 +76,8 @@ well-spec =
     returns-4
     well-diagnosis-requires
     returns-5
-    well-unused-requires
+    well-line-requires
     returns-6
-    returns-7)
+    well-unused-requires
+    returns-7
+    returns-8)

@@ -69,8 +69,26 @@ shared-slice-read-if6-2 c = search needs
 returns-6 : tie.Need-returns-6
 returns-6 c = all-fails (setTests (now (c .before .before .before .before .before .before .before .before .before .before .before .before .before .before .before .before .before .before .before .before .before .args .mem))) 5 (not-true _ (c .if6 .taken))
 
+shared-slice-read-if7 : tie.Need-shared-slice-read-if7
+shared-slice-read-if7 c = search needs
+
+shared-slice-read-if7-2 : tie.Need-shared-slice-read-if7-2
+shared-slice-read-if7-2 c = search needs
+
 returns-7 : tie.Need-returns-7
-returns-7 c = all-hold (setTests (now (c .before .before .before .before .before .before .before .before .before .before .before .before .before .before .before .before .before .before .before .before .before .args .mem))) (ap not (sym (c .before .before .before .before .before .before .before .before .before .before .before .before .before .before .before .before .before .none-or .ensures)) ∙ c .before .before .before .before .before .before .before .before .before .before .before .before .before .before .before .before .if1 .left, (ap not (sym (c .before .before .before .before .before .before .before .before .before .before .before .before .before .none-or2 .ensures)) ∙ c .before .before .before .before .before .before .before .before .before .before .before .before .if2 .left, (c .before .before .before .before .before .before .before .before .before .if3 .left, (c .before .before .before .before .before .before .if4 .left, (c .before .before .before .if5 .left, (c .if6 .left, tt))))))
+returns-7 c = all-fails (setTests (now (c .before .before .before .before .before .before .before .before .before .before .before .before .before .before .before .before .before .before .before .before .before .before .before .before .args .mem))) 6 (not-true _ (c .if7 .taken))
+
+shared-slice-read-if8 : tie.Need-shared-slice-read-if8
+shared-slice-read-if8 c = search needs
+
+shared-slice-read-if8-2 : tie.Need-shared-slice-read-if8-2
+shared-slice-read-if8-2 c = search needs
+
+returns-8 : tie.Need-returns-8
+returns-8 c = all-fails (setTests (now (c .before .before .before .before .before .before .before .before .before .before .before .before .before .before .before .before .before .before .before .before .before .before .before .before .before .before .before .args .mem))) 7 (not-true _ (c .if8 .taken))
+
+returns-9 : tie.Need-returns-9
+returns-9 c = all-hold (setTests (now (c .before .before .before .before .before .before .before .before .before .before .before .before .before .before .before .before .before .before .before .before .before .before .before .before .before .before .before .args .mem))) (ap not (sym (c .before .before .before .before .before .before .before .before .before .before .before .before .before .before .before .before .before .before .before .before .before .before .before .none-or .ensures)) ∙ c .before .before .before .before .before .before .before .before .before .before .before .before .before .before .before .before .before .before .before .before .before .before .if1 .left, (ap not (sym (c .before .before .before .before .before .before .before .before .before .before .before .before .before .before .before .before .before .before .before .none-or2 .ensures)) ∙ c .before .before .before .before .before .before .before .before .before .before .before .before .before .before .before .before .before .before .if2 .left, (c .before .before .before .before .before .before .before .before .before .before .before .before .before .before .before .if3 .left, (c .before .before .before .before .before .before .before .before .before .before .before .before .if4 .left, (c .before .before .before .before .before .before .before .before .before .if5 .left, (c .before .before .before .before .before .before .if6 .left, (c .before .before .before .if7 .left, (c .if8 .left, tt))))))))
 
 pub well-sets-spec : {M : Type 1} → statement M
 well-sets-spec =
@@ -96,4 +114,10 @@ well-sets-spec =
     shared-slice-read-if6
     shared-slice-read-if6-2
     returns-6
-    returns-7)
+    shared-slice-read-if7
+    shared-slice-read-if7-2
+    returns-7
+    shared-slice-read-if8
+    shared-slice-read-if8-2
+    returns-8
+    returns-9)
