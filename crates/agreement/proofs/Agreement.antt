@@ -18,7 +18,6 @@ use Rattle.rules.specs.Call.{Call, octet, read}
 use Rattle.ledger.specs.Exchange.{Exchanged}
 use Rattle.ledger.specs.History.{readable, history}
 use Rattle.ledger.proofs.Exchange.{exchange}
-use Rattle.ledger.proofs.Fit.{replies-read}
 use Rattle.ledger.proofs.History.{outputs-read}
 use Rattle.agreement.specs.Agreement.{memoryOf, PlacesChanged, Agreement, Demand3}
 use Rattle.agreement.proofs.StartAgrees.{start-related}
@@ -75,7 +74,6 @@ module _ (m : List ℕ) (s : Setup) (slice : List ℕ) (long : s .«get_cfg_len�
         on = record {
           holds = laid-holds m s slice long (b .room) (b .ranged);
           related = start-related m s slice long (b .room) (b .ranged);
-          fit = replies-read s slice [] (record { ranged = b .ranged; slice-is = sym long }) .fit;
         };
       })
 

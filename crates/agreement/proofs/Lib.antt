@@ -29,7 +29,7 @@
 -- every list of calls
 --   StartAgrees: behind a setup that Start laid out both sides are related
 --   EveryCallAgrees: every call is told alike and leaves both sides related
---   PackedAgrees: the state packed in front of the memory again: both sides still agree, and the state is sound
+--   PackedAgrees: the state packed in front of the memory again: both sides still agree
 --   StepAgrees: one step over a memory that holds a state does what the ledger does
 --   Agreement: with the check in front, the same of every list of calls over the lent memory: the theorem
 --   Bench: document 01's bench list over the memory

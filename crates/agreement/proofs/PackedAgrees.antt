@@ -1,29 +1,20 @@
--- The state packed in front of the memory again: every buffer is as it was, and the state is sound.
+-- The state packed in front of the memory again: every buffer is as it was.
 use Prim.Native.Nat.{ℕ, _≤_, _<_}
 use native.Mathlib.Omega.{arith}
-use mathlib.Core.Path.{_≡_, refl, sym, ap, _∙_}
-use mathlib.Core.Bool.{not}
-use mathlib.Core.List.{List, [], _∷_}
-use mathlib.Core.Logic.{inl, inr}
-use lib.Dec.{eqb}
-use borrow.Author.Tests.{ne-eqb}
+use mathlib.Core.Path.{_≡_, refl, _∙_}
+use mathlib.Core.List.{List}
 use lib.ListN.{length}
 use Rattle.buffers.specs.Triple.{fillOf, nextOf, heldOf}
 use Rattle.octets.specs.Part.{part}
 use Rattle.state.specs.declared.setup.Setup.{Setup}
-use Rattle.state.specs.declared.state.Sets as station-sets
 use Rattle.state.specs.declared.state.State.{State}
 use Rattle.state.specs.Layout.{stateLength, outputRow, inputRow, parameterRow, configurationRow, diagnosisRow, rowCount, startOf, getCfgAt}
 use Rattle.state.specs.Memory.{kept}
-use Rattle.state.specs.Sound.{NoneOr, Sound}
 use Rattle.state.proofs.Places.{inside, get-cfg-inside}
 use Rattle.state.proofs.Front.{kept-part, kept-length}
-use Rattle.ledger.specs.Lists.{some, Sets}
 use Rattle.ledger.specs.Ledger.{Ledger}
-use Rattle.ledger.specs.ReadBack as ledger
-use Rattle.ledger.specs.ReadBack.{Fit}
 use Rattle.steps.specs.Replies.{ownPlace, userPlace}
-use Rattle.agreement.proofs.Relation.{SetsAgree, Agrees}
+use Rattle.agreement.proofs.Relation.{Agrees}
 use Rattle.agreement.proofs.LineStays.{SameSource, SameFills, reply-stays, reading-stays}
 use Rattle.steps.proofs.KeepsSafe.{own-in, user-in, safe-length}
 
@@ -92,43 +83,4 @@ kept-agrees {s} {m} {l} long a = record {
       outputs = λ _. same outputRow (s .reply .place) (g .«output_len») (let h = a .safe .reply in omega arith);
       slice = in-slice;
       diagnosis = λ _. same diagnosisRow (ownPlace (s .swapped)) (g .«diagnosis_len») (own-in (s .swapped));
-    }
-
--- ---- the state is sound
-
-waits : (xs : List ℕ) → some xs ≡ not (eqb (length xs) 0)
-waits [] = refl
-waits (x ∷ xs) = sym (ap not (ne-eqb (length (x ∷ xs)) 0 (λ e. omega arith)))
-
-counted : {low high n : ℕ} (xs : List ℕ) → n ≡ length xs → ledger.NoSetOr low xs high → NoneOr low n high
-counted xs e (inl z) = inl (e ∙ z)
-counted xs e (inr w) = inr (rw e w)
-
-at-most : {low high n : ℕ} (xs : List ℕ) → n ≡ length xs → ledger.NoSetOr low xs high → n ≤ high
-at-most xs e (inl z) = omega arith
-at-most xs e (inr w) = omega arith
-
-marked : {base : ℕ → ℕ} {m : List ℕ} {x : station-sets.Sets} {y : Sets} → SetsAgree base m x y → x .set .fresh ≡ not (eqb (x .waiting) 0)
-marked {y = y} a = a .fresh ∙ waits (y .waiting) ∙ ap (λ (n : ℕ). not (eqb n 0)) (sym (a .waiting-count))
-
-pub agrees-sound : {s : State} {m : List ℕ} {l : Ledger} → Agrees s m l → Fit l → Sound s
-agrees-sound {s} {m} {l} a f =
-    let g = a .setup in
-    let c = a .control in
-    record {
-      setup = rw g (f .start-takes .ranged);
-      outputs = a .safe .outputs;
-      inputs = a .safe .inputs;
-      parameters = a .safe .parameters;
-      configuration = a .safe .configuration;
-      parameters-shown = rw g (counted (l .buffers .parameters .shown) (a .parameters .shown-count) (f .lists .parameters .shown));
-      parameters-waiting = rw g (counted (l .buffers .parameters .waiting) (a .parameters .waiting-count) (f .lists .parameters .waiting));
-      configuration-shown = rw g (at-most (l .buffers .configuration .shown) (a .configuration .shown-count) (f .lists .configuration .shown));
-      configuration-waiting = rw g (at-most (l .buffers .configuration .waiting) (a .configuration .waiting-count) (f .lists .configuration .waiting));
-      parameters-fresh = marked (a .parameters);
-      configuration-fresh = marked (a .configuration);
-      diagnosis-count = rw (g, c) (f .counts .count);
-      delayed-count = rw (g, c) (f .counts .delayed);
-      delayed-flags = rw c (f .counts .flags);
-      place = a .safe .reply;
     }

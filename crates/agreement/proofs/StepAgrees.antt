@@ -1,32 +1,31 @@
 -- One step over a memory that holds a state does what the ledger does, and the memory holds the state after it.
 use Prim.Native.Nat.{ℕ, _≤_}
-use mathlib.Core.Path.{_≡_, ap, _∙_}
+use mathlib.Core.Path.{_≡_, ap, subst, _∙_}
 use mathlib.Core.List.{List}
 use lib.ListN.{length}
 use Rattle.state.specs.declared.answer.Answer.{Answer}
 use Rattle.state.specs.declared.state.State.{State}
 use Rattle.state.specs.Memory.{Holds, kept}
 use Rattle.state.specs.Layout.{stateLength}
+use Rattle.state.specs.Sound.{Ranged}
 use Rattle.state.proofs.Damage.{kept-holds}
 use Rattle.state.proofs.Front.{kept-length}
 use Rattle.ledger.specs.Ledger.{Ledger}
 use Rattle.ledger.specs.Calls as ledger
 use Rattle.rules.specs.Call.{Call}
-use Rattle.ledger.specs.ReadBack.{Fit}
-use Rattle.ledger.proofs.Fit.{step-fit}
 use Rattle.steps.specs.Stepped.{Told}
 use Rattle.steps.specs.Step.{step, stepOver}
 use Rattle.agreement.proofs.Steady.{Related}
 use Rattle.agreement.proofs.EveryCallAgrees.{Follows, all-follow}
-use Rattle.agreement.proofs.PackedAgrees.{kept-agrees, agrees-sound}
+use Rattle.agreement.proofs.PackedAgrees.{kept-agrees}
 use Rattle.steps.proofs.Holding.{step-whole}
 use Rattle.steps.proofs.KeepsSetup.{step-keeps}
+use Rattle.steps.proofs.KeepsSound.{step-sound}
 
 -- the memory m holds the state s, which the ledger l is about
 pub record On (m : List ℕ) (s : State) (l : Ledger) : Type 0 where
   pub holds : Holds m s
   pub related : Related s m l
-  pub fit : Fit l
 
 -- what a call's step over the memory does
 pub record Does (m : List ℕ) (l : Ledger) (c : Call) : Type 0 where
@@ -41,10 +40,7 @@ module _ (m : List ℕ) (s : State) (l : Ledger) (o : On m s l) (c : Call) where
   t = step s m c
 
   follow : Follows s m l c
-  follow = all-follow (o .related) (o .fit .start-takes .ranged) c
-
-  after-fit : Fit (ledger.step l c .ledger)
-  after-fit = step-fit l c (o .fit)
+  follow = all-follow (o .related) (subst Ranged (o .related .agrees .setup) (o .holds .sound .setup)) c
 
   after-length : length (t .memory) ≡ length m
   unfolding t
@@ -59,9 +55,8 @@ module _ (m : List ℕ) (s : State) (l : Ledger) (o : On m s l) (c : Call) where
   packs =
       let r = follow .again in
       record {
-        holds = kept-holds (t .state) (t .memory) (agrees-sound (r .agrees) after-fit) (r .agrees .safe .room);
+        holds = kept-holds (t .state) (t .memory) (step-sound s m c (o .holds .sound)) (r .agrees .safe .room);
         related = record { agrees = kept-agrees long (r .agrees); steady = r .steady; reply-steady = r .reply-steady };
-        fit = after-fit;
       }
 
   pub does : Does m l c

@@ -3,7 +3,6 @@ pub mod Again
 pub mod Local
 pub mod OnLocal
 pub mod Behind
-pub mod Keeps
 pub mod Same
 pub mod Loops
 pub mod Partly

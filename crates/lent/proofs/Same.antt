@@ -13,6 +13,7 @@ use Rattle.state.specs.Answer.{Called}
 use Rattle.state.specs.Image.{image}
 use Rattle.state.specs.Layout.{stateLength}
 use Rattle.state.specs.Memory.{kept, Holds}
+use Rattle.state.specs.Sound.{Sound}
 use Rattle.state.specs.Start.{initialState}
 use Rattle.steps.specs.Calls.{started, wellMemory, called, answers, memoryAfter}
 use Rattle.state.specs.Unpack.{unpacked}
@@ -26,6 +27,7 @@ use Rattle.steps.specs.Step.{stepOver}
 use Rattle.agreement.specs.Agreement.{memoryOf}
 use Rattle.steps.proofs.KeepsSafe.{safe-heard, safe-paused, safe-elapsed}
 use Rattle.steps.proofs.KeepsSetup.{step-keeps}
+use Rattle.steps.proofs.KeepsSound.{step-sound}
 use Rattle.steps.proofs.Holding.{holds-safe, step-whole}
 use Rattle.steps.specs.Demand1.{LengthIn}
 use Rattle.steps.proofs.Guarded.{holds-well, called-steps}
@@ -33,7 +35,6 @@ use Rattle.agreement.proofs.Agreement.{begins-ready, ready-after, later}
 use Rattle.steps.proofs.Runs.{memory-append}
 use Rattle.lent.specs.Run.{Beat, octet, gap, tick, beat, runBeats, callOf, calls, Same, LentSame, CarriesOver, Demand3CarriesOver}
 use Rattle.lent.proofs.Behind.{behind, alike-beat}
-use Rattle.lent.proofs.Keeps.{sound-beat}
 
 -- ---- one octet, gap or Tick
 
@@ -62,11 +63,17 @@ calls-beat p s n h x = called-steps p (callOf x) (holds-well p s n h) ∙ steps 
     steps gap = step-whole p s call.gap h
     steps tick = step-whole p s call.tick h
 
--- and the memory that it leaves holds the state after it
+-- the state after it is sound
+sound-beat : (s : State) (m : List ℕ) → Sound s → (x : Beat) → Sound (beat s m x .state)
+sound-beat s m h (octet b bad) = step-sound s m (call.octet b bad) h
+sound-beat s m h gap = step-sound s m call.gap h
+sound-beat s m h tick = step-sound s m call.tick h
+
+-- and the memory that it leaves holds it
 holds-beat : (p : List ℕ) (s : State) → Holds p s → (x : Beat) → Holds (kept (beat s p x .state) (beat s p x .memory)) (beat s p x .state)
 holds-beat p s h x =
     let safe = holds-safe p s h in
-    kept-holds (beat s p x .state) (beat s p x .memory) (sound-beat s p safe (h .sound) x) (safe-beat s p safe x .room)
+    kept-holds (beat s p x .state) (beat s p x .memory) (sound-beat s p (h .sound) x) (safe-beat s p safe x .room)
 
 -- ---- all of them
 

@@ -13,10 +13,11 @@ use Rattle.state.specs.Memory.{kept, holdsState, Holds}
 use Rattle.state.specs.Sound.{Sound}
 use Rattle.state.specs.Unpack.{unpacked}
 use Rattle.state.specs.Well.{wellImage}
+use Rattle.state.proofs.Choice.{and-left, and-right}
 use Rattle.state.proofs.Front.{kept-take, kept-length}
 use Rattle.state.proofs.Places.{end-behind}
 use Rattle.state.proofs.Round.{round, image-well, well-sound, well-image}
-use Rattle.state.proofs.Tests.{all-at, all-fails}
+use Rattle.state.proofs.Tests.{all-fails}
 
 -- a memory with the same octets in front as one that holds a state stays as it is where that state is packed again
 pub fronted : (m n : List ℕ) (s : State) → Holds m s → take stateLength n ≡ take stateLength m → n ≡ kept s n
@@ -40,17 +41,26 @@ holds-passes m s h =
     in
     λ i. image-is i && room-is i
 
--- a memory of octets that passes holds the state that it unpacks to
+-- a memory that passes unpacks to a sound state
+pub passes-sound : (m : List ℕ) → holdsState m ≡ true → Sound (unpacked m)
+unfolding holdsState
+passes-sound m e = well-sound m (and-left (wellImage m) _ e)
+
+-- whose buffers end in it
+pub passes-room : (m : List ℕ) → holdsState m ≡ true → endOf (unpacked m .setup) ≤ length m
+unfolding holdsState
+passes-room m e = leb-true (endOf (unpacked m .setup)) (length m) (and-right (wellImage m) _ e)
+
+-- and, being of octets, holds it
 pub passes-holds : (m : List ℕ) → ((i : ℕ) → getD m i 0 < 256) → holdsState m ≡ true → Holds m (unpacked m)
 unfolding holdsState
 passes-holds m small e =
-    let tests = wellImage m ∷ leb (endOf (unpacked m .setup)) (length m) ∷ [] in
-    let room = leb-true (endOf (unpacked m .setup)) (length m) (all-at tests 1 e) in
+    let room = passes-room m e in
     let behind = end-behind (unpacked m .setup) in
     record {
       long = omega arith;
-      sound = well-sound m (all-at tests 0 e);
-      front = sym (well-image m (omega arith) small (all-at tests 0 e));
+      sound = passes-sound m e;
+      front = sym (well-image m (omega arith) small (and-left (wellImage m) _ e));
       room = room;
     }
 

@@ -26,7 +26,9 @@ use Rattle.steps.specs.Step.{packed, stepOver}
 use Rattle.steps.specs.Calls.{lengthOk, startedIn, startedAs, started, wellMemory, called}
 use Rattle.steps.specs.Demand1.{Undamaged, Demand1}
 use Rattle.steps.proofs.Holding.{ByUser, step-cases}
-use Rattle.steps.proofs.Guarded.{well-length, well-state, holds-well, called-steps, called-damaged, started-begins, begins-started, refused-same}
+use Rattle.steps.proofs.KeepsSound.{step-sound}
+use Rattle.steps.proofs.StaysWell.{stays-well}
+use Rattle.steps.proofs.Guarded.{well-length, well-passes, holds-well, called-steps, called-damaged, started-begins, begins-started, refused-same}
 
 -- an answer that a step may give
 abbrev ByStep : Answer → Type 0
@@ -56,7 +58,7 @@ exactly m c o = (λ e u. well-answers m c (holds-well m (u .state) (u .length-in
     refuses n = go (wellMemory m) refl
       where
         go : (t : Bool) → wellMemory m ≡ t → called m c .answer ≡ Refused Damaged
-        go true e = absurd (n (record { length-in = well-length m e; state = unpacked m; holds = passes-holds m (octet-at m o) (well-state m e) }))
+        go true e = absurd (n (record { length-in = well-length m e; state = unpacked m; holds = passes-holds m (octet-at m o) (well-passes m e) }))
         go false e = ap (λ (x : Called). x .answer) (called-damaged m c e)
 
 -- ---- Start
@@ -103,5 +105,7 @@ pub demand-1 : Demand1
 demand-1 = record {
   damage-check = record { exactly = exactly; not-by-start = λ m s slice e. subst ByStart e (by-start m s slice) };
   refusals-leave = record { of-call = called-same; of-start = refused-same };
+  sound-kept = step-sound;
+  stays-well = stays-well;
   start-answers = λ m s slice. (started-begins m s slice, λ b. ap (λ (x : Called). x .answer) (begins-started m s slice b));
 }

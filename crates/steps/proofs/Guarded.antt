@@ -54,14 +54,14 @@ pub well-length : (m : List ℕ) → wellMemory m ≡ true → LengthIn (length 
 unfolding wellMemory
 well-length m e = length-says (length m) (all-at (lengthOk (length m) ∷ holdsState m ∷ []) 0 e)
 
--- and a state in front
-pub well-state : (m : List ℕ) → wellMemory m ≡ true → holdsState m ≡ true
+-- and passes the test of a state
+pub well-passes : (m : List ℕ) → wellMemory m ≡ true → holdsState m ≡ true
 unfolding wellMemory
-well-state m e = all-at (lengthOk (length m) ∷ holdsState m ∷ []) 1 e
+well-passes m e = all-at (lengthOk (length m) ∷ holdsState m ∷ []) 1 e
 
 -- and, being of octets, holds the state that it unpacks to
 pub well-holds : (m : List ℕ) → ((i : ℕ) → Fits w8 (getD m i 0)) → wellMemory m ≡ true → Holds m (unpacked m)
-well-holds m octets e = passes-holds m (λ i. octets i .fits) (well-state m e)
+well-holds m octets e = passes-holds m (λ i. octets i .fits) (well-passes m e)
 
 -- a call on it makes its step
 pub called-steps : (m : List ℕ) (c : Call) → wellMemory m ≡ true → called m c ≡ stepOver m c

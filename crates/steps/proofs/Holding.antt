@@ -1,14 +1,17 @@
 -- A step over a memory that holds a state: it may be made, a refusal leaves the memory, and what it leaves is packed again.
-use Prim.Native.Nat.{ℕ}
+use Prim.Native.Nat.{ℕ, _≤_}
 use mathlib.Core.Path.{_≡_, refl, ap, _∙_}
 use mathlib.Core.Bool.{Bool, cond, not, _&&_}
 use mathlib.Core.List.{List}
 use lib.Dec.{leb}
+use lib.ListN.{length}
 use Rattle.state.specs.declared.answer.Refusal.{Refusal}
 use Rattle.state.specs.declared.answer.Refusal.the-variants.{MemoryLength, Address, Length, Room, Damaged, Judging, Range, Absent, Delayed}
 use Rattle.state.specs.declared.state.State.{State}
 use Rattle.state.specs.Answer.{Called, refused}
+use Rattle.state.specs.Layout.{endOf}
 use Rattle.state.specs.Memory.{kept, Holds}
+use Rattle.state.specs.Sound.{Sound}
 use Rattle.state.proofs.Choice.{either}
 use Rattle.state.proofs.Damage.{fronted-same, holds-unpacked}
 use Rattle.state.specs.Well.{within}
@@ -25,19 +28,22 @@ use Rattle.steps.specs.Step.{step, packed, stepOver}
 
 -- ---- a memory that holds a state
 
--- the steps may be made on it
-pub holds-safe : (m : List ℕ) (s : State) → Holds m s → Safe s m
-holds-safe m s h =
-    let g = h .sound in
+-- the steps may be made from a sound state whose buffers end in the memory
+pub sound-safe : (m : List ℕ) (s : State) → Sound s → endOf (s .setup) ≤ length m → Safe s m
+sound-safe m s h room =
     record {
-      outputs = g .outputs;
-      inputs = g .inputs;
-      parameters = g .parameters;
-      configuration = g .configuration;
-      reply = g .place;
-      long = g .setup .parameter-len .0;
-      room = h .room;
+      outputs = h .outputs;
+      inputs = h .inputs;
+      parameters = h .parameters;
+      configuration = h .configuration;
+      reply = h .place;
+      long = h .setup .parameter-len .0;
+      room = room;
     }
+
+-- so they may be made on a memory that holds one
+pub holds-safe : (m : List ℕ) (s : State) → Holds m s → Safe s m
+holds-safe m s h = sound-safe m s (h .sound) (h .room)
 
 -- ---- a refusal leaves the memory
 

@@ -127,12 +127,12 @@ safe-beginning s m r h = safe-no-reply (readBy s r) m (safe-read-by s m r h)
 
 -- ---- an outcome carried out
 
-outputs-permute : (d : OutputsDeed) (o : Outputs) → Permutation (o .set .place) → Permutation (onOutputs d o .set .place)
+pub outputs-permute : (d : OutputsDeed) (o : Outputs) → Permutation (o .set .place) → Permutation (onOutputs d o .set .place)
 outputs-permute outputs-deed.Keep o p = p
 outputs-permute outputs-deed.Publish o p = published-permutes (o .set) p
 outputs-permute outputs-deed.Zeros o p = p
 
-inputs-permute : (d : OutputsDeed) (t : Triple) → Permutation (t .place) → Permutation (onInputs d t .place)
+pub inputs-permute : (d : OutputsDeed) (t : Triple) → Permutation (t .place) → Permutation (onInputs d t .place)
 inputs-permute outputs-deed.Keep t p = p
 inputs-permute outputs-deed.Publish t p = go (t .fresh)
   where
@@ -148,7 +148,7 @@ received-permutes s count p = go (isOpen s) _ _ (published-permutes (s .set) p) 
     go true x y g h = g
     go false x y g h = h
 
-sets-permute : (d : SetDeed) (s : Sets) (count : ℕ) → Permutation (s .set .place) → Permutation (onSets d s count .set .place)
+pub sets-permute : (d : SetDeed) (s : Sets) (count : ℕ) → Permutation (s .set .place) → Permutation (onSets d s count .set .place)
 sets-permute set-deed.Keep s count p = p
 sets-permute set-deed.Receive s count p = received-permutes s count p
 sets-permute set-deed.Advance s count p = taken-permutes (s .set) p

@@ -4,5 +4,9 @@ pub mod NothingWaits
 pub mod Holding
 pub mod Guarded
 pub mod OutcomeServed
+pub mod SetsCounted
+pub mod SoundWith
+pub mod KeepsSound
+pub mod StaysWell
 pub mod Runs
 pub mod Demand1

@@ -17,6 +17,7 @@ use Rattle.state.specs.Memory.{Holds}
 use Rattle.state.specs.Sound.{Within, Ranged}
 use Rattle.rules.specs.Call.{Call}
 use Rattle.steps.specs.Calls.{started, called}
+use Rattle.steps.specs.Kept.{SoundKept, StaysWell}
 
 -- "1,536 to 4,096 octets, a multiple of 8"
 pub record LengthIn (n : ℕ) : Type 0 where
@@ -54,3 +55,5 @@ pub record Demand1 : Type 0 where
   pub damage-check : DamageCheck
   pub refusals-leave : RefusalsLeave
   pub start-answers : StartAnswersZero
+  pub sound-kept : SoundKept
+  pub stays-well : StaysWell

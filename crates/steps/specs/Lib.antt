@@ -8,4 +8,5 @@ pub mod Bus
 pub mod User
 pub mod Step
 pub mod Calls
+pub mod Kept
 pub mod Demand1

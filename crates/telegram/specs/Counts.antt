@@ -1,5 +1,5 @@
 -- The counts of a telegram that is read or sent: how many data octets it has, and how many of them came or went.
-use Prim.Native.Nat.{ℕ, _≤_}
+use Prim.Native.Nat.{_≤_}
 use mathlib.Core.Path.{_≡_}
 use mathlib.Core.Bool.{Bool, true, false}
 use Rattle.telegram.specs.declared.reader.Phase.{Phase}
