@@ -1,4 +1,6 @@
 pub mod Alike
 pub mod Headed
 pub mod Served
+pub mod ByCases
+pub mod EventsFollow
 pub mod LookedAt

@@ -1,0 +1,232 @@
+-- The events follow what an outcome does: 13 is raised where outputs or zeros are published, 11 and 10 go with the sets of their kind.
+use Prim.Native.Nat.{ℕ, _<_}
+use native.Mathlib.Omega.{arith}
+use mathlib.Core.Path.{_≡_, refl, sym, ap, subst, _∙_}
+use mathlib.Core.Bool.{Bool, true, false, cond, _||_, or-true, or-false}
+use Rattle.buffers.specs.declared.events.Events.{Events}
+use Rattle.buffers.specs.Events.{width, bit, raised, cleared, dataExchangeEvent, configurationEvent, parametersEvent, outputsEvent}
+use Rattle.buffers.proofs.Word.{raised-same, raised-other, cleared-same, cleared-other}
+use Rattle.state.specs.declared.setup.Setup.{Setup}
+use Rattle.state.specs.declared.control.Flags.{Flags}
+use Rattle.state.specs.declared.control.Control.{Control}
+use Rattle.state.specs.declared.state.Drawn.{Drawn}
+use Rattle.rules.specs.declared.request.Request.{Request}
+use Rattle.rules.specs.declared.request.Data.{Data}
+use Rattle.rules.specs.declared.request.OpenSets.{OpenSets}
+use Rattle.rules.specs.declared.request.Prm.{Prm}
+use Rattle.rules.specs.declared.outcome.OutputsDeed.{OutputsDeed}
+use Rattle.rules.specs.declared.outcome.OutputsDeed.the-variants as outputs-deed
+use Rattle.rules.specs.declared.outcome.SetDeed.{SetDeed}
+use Rattle.rules.specs.declared.outcome.SetDeed.the-variants as set-deed
+use Rattle.rules.specs.declared.outcome.Outcome.{Outcome}
+use Rattle.rules.specs.Control.{inExchange, withFlags, withEvents, raise, clear}
+use Rattle.rules.specs.Phases.{drawing, leftExchange, waitPrm, enteringWaitPrm, waitCfg, dataExch, zerosIfLeft}
+use Rattle.rules.specs.Requests.{refilled, serviceOf}
+use Rattle.rules.specs.Services.{showing, parametrized, goodPrm, goodCfg, outcomeBy}
+use Rattle.rules.specs.Line.{clearOn, clearNoted, ticked}
+use Rattle.rules.specs.User.{changingSets, judgedParameters, judgedConfiguration}
+use Rattle.rules.proofs.ByCases.{Beside, publishing, clear-cases, noted-cases, ticked-cases, parameters-cases, configuration-cases, serve-cases, refilled-same}
+
+-- event n is set
+abbrev on : Events → ℕ → Bool
+on e n = bit (e .word) n
+
+-- what becomes of the event of a kind of sets. opened: a set of that kind is open, waits: a newer one waits
+abbrev pub Shows : SetDeed → Bool → Bool → Bool → Bool → Type 0
+Shows set-deed.Keep opened waits before after = after ≡ before
+Shows set-deed.Receive opened waits before after = after ≡ cond opened before true
+Shows set-deed.Advance opened waits before after = (waits ≡ true) × (after ≡ before)
+Shows set-deed.Drop opened waits before after = after ≡ false
+
+-- the events after an outcome, by those before and the sets that are open and that wait
+pub record Follows (e : Events) (opened waiting : OpenSets) (o : Outcome) : Type 0 where
+  pub outputs-raise : on (o .control .events) outputsEvent ≡ (on e outputsEvent || publishing (o .outputs))
+  pub parameters-show : Shows (o .parameters) (opened .parameters) (waiting .parameters) (on e parametersEvent) (on (o .control .events) parametersEvent)
+  pub configuration-show : Shows (o .configuration) (opened .configuration) (waiting .configuration) (on e configurationEvent) (on (o .control .events) configurationEvent)
+
+-- ---- a set shown, and DATA_EXCH left
+
+-- a set that is shown has its event
+showing-same : (e : Events) (opened : Bool) (n : ℕ) → n < width → on (showing e opened n) n ≡ cond opened (on e n) true
+showing-same e true n h = refl
+showing-same e false n h = raised-same e n h
+
+-- every other is as it was
+showing-other : (e : Events) (opened : Bool) (k n : ℕ) → (k ≡ n → ⊥) → on (showing e opened k) n ≡ on e n
+showing-other e true k n d = refl
+showing-other e false k n d = raised-other e k n d
+
+module _ (c : Control) where
+  -- leaving raises event 1 alone
+  left-other : (n : ℕ) → (dataExchangeEvent ≡ n → ⊥) → on (leftExchange c) n ≡ on (c .events) n
+  left-other n d = go (inExchange c)
+    where
+      go : (t : Bool) → on (cond t (raised (c .events) dataExchangeEvent) (c .events)) n ≡ on (c .events) n
+      go true = raised-other (c .events) dataExchangeEvent n d
+      go false = refl
+
+  -- WAIT_CFG entered raises 13 with the zeros that it publishes
+  wait-cfg-raises : on (waitCfg c .events) outputsEvent ≡ (on (c .events) outputsEvent || publishing (zerosIfLeft c))
+  unfolding waitCfg
+  wait-cfg-raises = go (inExchange c)
+    where
+      go : (t : Bool) → on (cond t (withEvents c (raised (leftExchange c) outputsEvent)) c .events) outputsEvent
+          ≡ (on (c .events) outputsEvent || publishing (cond t outputs-deed.Zeros outputs-deed.Keep))
+      go true = raised-same (leftExchange c) outputsEvent (omega arith) ∙ sym (or-true (on (c .events) outputsEvent))
+      go false = sym (or-false (on (c .events) outputsEvent))
+
+  -- and beside event 1 no other
+  wait-cfg-other : (n : ℕ) → (dataExchangeEvent ≡ n → ⊥) → (outputsEvent ≡ n → ⊥) → on (waitCfg c .events) n ≡ on (c .events) n
+  unfolding waitCfg
+  wait-cfg-other n d h = go (inExchange c)
+    where
+      go : (t : Bool) → on (cond t (withEvents c (raised (leftExchange c) outputsEvent)) c .events) n ≡ on (c .events) n
+      go true = raised-other (leftExchange c) outputsEvent n h ∙ left-other n d
+      go false = refl
+
+-- ---- each kind of outcome
+
+module _ (opened waiting : OpenSets) where
+  -- nothing but a reply
+  replies-follow : (c k : Control) (d : Drawn) → Beside c k → Follows (c .events) opened waiting (drawing k d)
+  replies-follow c k d s = record {
+    outputs-raise = s .untouched .outputs-same ∙ sym (or-false (on (c .events) outputsEvent));
+    parameters-show = s .untouched .parameters-same;
+    configuration-show = s .untouched .configuration-same;
+  }
+
+  -- WAIT_PRM clears 11 and 10 and raises 13, whatever was set
+  resets-follow : (e : Events) (k : Control) (d : Drawn) → Follows e opened waiting (enteringWaitPrm k d)
+  unfolding waitPrm
+  resets-follow e k d =
+      let x = leftExchange k in
+      let y = cleared x configurationEvent in
+      record {
+        outputs-raise = raised-same (cleared y parametersEvent) outputsEvent (omega arith) ∙ sym (or-true (on e outputsEvent));
+        parameters-show =
+            raised-other (cleared y parametersEvent) outputsEvent parametersEvent (λ q. omega arith) ∙ cleared-same y parametersEvent (omega arith);
+        configuration-show =
+            raised-other (cleared y parametersEvent) outputsEvent configurationEvent (λ q. omega arith)
+            ∙ cleared-other y parametersEvent configurationEvent (λ q. omega arith)
+            ∙ cleared-same x configurationEvent (omega arith);
+      }
+
+  module _ (c : Control) where
+    -- a good Set_Prm
+    prm-follows : (master : ℕ) (p : Prm) → Follows (c .events) opened waiting (goodPrm c (opened .parameters) master p)
+    unfolding parametrized
+    prm-follows master p =
+        let x = waitCfg c .events in
+        let y = cleared x configurationEvent in
+        record {
+          outputs-raise =
+              showing-other y (opened .parameters) parametersEvent outputsEvent (λ q. omega arith)
+              ∙ cleared-other x configurationEvent outputsEvent (λ q. omega arith)
+              ∙ wait-cfg-raises c;
+          parameters-show =
+              showing-same y (opened .parameters) parametersEvent (omega arith)
+              ∙ ap (λ (t : Bool). cond (opened .parameters) t true)
+              (cleared-other x configurationEvent parametersEvent (λ q. omega arith) ∙ wait-cfg-other c parametersEvent (λ q. omega arith) (λ q. omega arith));
+          configuration-show =
+              showing-other y (opened .parameters) parametersEvent configurationEvent (λ q. omega arith)
+              ∙ cleared-same x configurationEvent (omega arith);
+        }
+
+    -- a good Chk_Cfg
+    cfg-follows : Follows (c .events) opened waiting (goodCfg c (opened .configuration))
+    cfg-follows =
+        let x = waitCfg c .events in
+        record {
+          outputs-raise = showing-other x (opened .configuration) configurationEvent outputsEvent (λ q. omega arith) ∙ wait-cfg-raises c;
+          parameters-show =
+              showing-other x (opened .configuration) configurationEvent parametersEvent (λ q. omega arith)
+              ∙ wait-cfg-other c parametersEvent (λ q. omega arith) (λ q. omega arith);
+          configuration-show =
+              showing-same x (opened .configuration) configurationEvent (omega arith)
+              ∙ ap (λ (t : Bool). cond (opened .configuration) t true) (wait-cfg-other c configurationEvent (λ q. omega arith) (λ q. omega arith));
+        }
+
+    -- outputs or zeros published
+    publishing-follows : (k : Control) (u : OutputsDeed) (d : Drawn) → Beside c k → publishing u ≡ true
+        → Follows (c .events) opened waiting
+        (record { control = raise k outputsEvent; outputs = u; parameters = set-deed.Keep; configuration = set-deed.Keep; drawn = d })
+    publishing-follows k u d s h = record {
+      outputs-raise =
+          raised-same (k .events) outputsEvent (omega arith)
+          ∙ sym (ap (λ (t : Bool). on (c .events) outputsEvent || t) h ∙ or-true (on (c .events) outputsEvent));
+      parameters-show = raised-other (k .events) outputsEvent parametersEvent (λ q. omega arith) ∙ s .untouched .parameters-same;
+      configuration-show = raised-other (k .events) outputsEvent configurationEvent (λ q. omega arith) ∙ s .untouched .configuration-same;
+    }
+
+    -- a newer set shown instead
+    moves-follow : (p q : SetDeed)
+        → Shows p (opened .parameters) (waiting .parameters) (on (c .events) parametersEvent) (on (c .events) parametersEvent)
+        → Shows q (opened .configuration) (waiting .configuration) (on (c .events) configurationEvent) (on (c .events) configurationEvent)
+        → Follows (c .events) opened waiting (changingSets c p q)
+    moves-follow p q x y = record { outputs-raise = sym (or-false (on (c .events) outputsEvent)); parameters-show = x; configuration-show = y }
+
+    -- parameters judged good: the set is closed
+    prm-closed : (f : Flags) → Follows (c .events) opened waiting (changingSets (withFlags (clear c parametersEvent) f) set-deed.Drop set-deed.Keep)
+    prm-closed f = record {
+      outputs-raise = cleared-other (c .events) parametersEvent outputsEvent (λ q. omega arith) ∙ sym (or-false (on (c .events) outputsEvent));
+      parameters-show = cleared-same (c .events) parametersEvent (omega arith);
+      configuration-show = cleared-other (c .events) parametersEvent configurationEvent (λ q. omega arith);
+    }
+
+    -- configuration judged good: DATA_EXCH
+    cfg-closed : Follows (c .events) opened waiting (changingSets (dataExch (clear c configurationEvent)) set-deed.Keep set-deed.Drop)
+    unfolding dataExch
+    cfg-closed =
+        let x = cleared (c .events) configurationEvent in
+        record {
+          outputs-raise =
+              raised-other x dataExchangeEvent outputsEvent (λ q. omega arith)
+              ∙ cleared-other (c .events) configurationEvent outputsEvent (λ q. omega arith)
+              ∙ sym (or-false (on (c .events) outputsEvent));
+          parameters-show =
+              raised-other x dataExchangeEvent parametersEvent (λ q. omega arith)
+              ∙ cleared-other (c .events) configurationEvent parametersEvent (λ q. omega arith);
+          configuration-show =
+              raised-other x dataExchangeEvent configurationEvent (λ q. omega arith) ∙ cleared-same (c .events) configurationEvent (omega arith);
+        }
+
+    -- ---- every outcome
+
+    Here : Outcome → Type 0
+    Here o = Follows (c .events) opened waiting o
+
+    -- leave master
+    pub clear-follows : (busy : Bool) → Follows (c .events) opened waiting (clearOn busy c)
+    unfolding Here
+    clear-follows = clear-cases Here c (replies-follow c) (resets-follow (c .events))
+
+    -- a noted clear
+    pub noted-follows : (busy : Bool) → Follows (c .events) opened waiting (clearNoted busy c)
+    unfolding Here
+    noted-follows = noted-cases Here c (replies-follow c) (resets-follow (c .events))
+
+    -- a Tick
+    pub ticked-follows : (busy : Bool) → Follows (c .events) opened waiting (ticked busy c)
+    unfolding Here
+    ticked-follows = ticked-cases Here c (replies-follow c) (resets-follow (c .events))
+
+    -- the judgement of parameters
+    pub parameters-follow : (good : Bool) → Follows (c .events) opened waiting (judgedParameters c (waiting .parameters) good)
+    unfolding Here
+    parameters-follow good =
+        parameters-cases Here c (replies-follow c) (resets-follow (c .events)) (waiting .parameters) good
+        (λ w. moves-follow set-deed.Advance set-deed.Keep (w, refl) refl) prm-closed
+
+    -- and of configuration
+    pub configuration-follows : (good : Bool) → Follows (c .events) opened waiting (judgedConfiguration c (waiting .configuration) good)
+    unfolding Here
+    configuration-follows good =
+        configuration-cases Here c (replies-follow c) (resets-follow (c .events)) (waiting .configuration) good
+        (λ w. moves-follow set-deed.Keep set-deed.Advance refl (w, refl)) cfg-closed
+
+  -- a telegram
+  pub telegram-follows : (g : Setup) (c : Control) (r : Request) (octets : Data) → Follows (c .events) opened waiting (outcomeBy g c opened r octets)
+  telegram-follows g c r octets =
+      let k = refilled g c r in
+      subst (λ (e : Events). Follows e opened waiting (outcomeBy g c opened r octets)) (refilled-same g c r .1)
+      (serve-cases (λ o. Follows (k .events) opened waiting o) k (replies-follow k) (resets-follow (k .events)) g r opened (prm-follows k _) (cfg-follows k) (publishing-follows k) (serviceOf g r) octets)
