@@ -9,6 +9,8 @@ pub mod Hearing
 pub mod ByGrammar
 pub mod ReadBack
 pub mod Fit
+pub mod EventsCarried
+pub mod EventsFollow
 pub mod Scripts
 mod Computing
 pub mod Bench

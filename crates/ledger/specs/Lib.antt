@@ -12,3 +12,4 @@ pub mod ByGrammar
 pub mod Script
 pub mod Bench
 pub mod ReadBack
+pub mod EventsFollow

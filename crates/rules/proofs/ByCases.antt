@@ -119,6 +119,7 @@ module _ (P : Outcome → Type 0) (c : Control) (replies : (k : Control) (d : Dr
       (receives-cfg : P (goodCfg c (opened .configuration)))
       (publishes : (k : Control) (u : OutputsDeed) (d : Drawn) → Beside c k → publishing u ≡ true
       → P (record { control = raise k outputsEvent; outputs = u; parameters = set-deed.Keep; configuration = set-deed.Keep; drawn = d })) where
+    -- Set_Prm
     setPrm-cases : (p : Prm) → P (setPrm g c (opened .parameters) r p)
     unfolding setPrm
     setPrm-cases p =
@@ -129,23 +130,27 @@ module _ (P : Outcome → Type 0) (c : Control) (replies : (k : Control) (d : Dr
         (pick (bit (p .status) 5 || bit (p .status) 4) (resets _ drawn.Acknowledge)
         (pick (otherIdent g p || (wantsWatchdog p && badFactors p)) (resets _ drawn.Acknowledge) (receives-prm p))))))
 
+    -- Chk_Cfg
     chkCfg-cases : P (chkCfg g c (opened .configuration) r)
     unfolding chkCfg
     chkCfg-cases =
         pick (not (owns c (masterOf r))) (draws drawn.Rejected)
         (pick (not (within 1 (r .count) (g .«configuration_len»))) (resets _ drawn.Acknowledge) receives-cfg)
 
+    -- Data_Exchange
     dataExchange-cases : P (dataExchange g c r)
     unfolding dataExchange
     dataExchange-cases =
         pick (not (exchanges c r)) (draws drawn.Rejected)
         (pick (not (eqb (r .count) (g .«output_len»))) (resets _ drawn.Rejected) (publishes c outputs-deed.Publish drawn.Exchange (beside refl refl) refl))
 
+    -- Slave_Diag
     slaveDiag-cases : P (slaveDiag c r)
     unfolding slaveDiag
     slaveDiag-cases =
         pick (owns c (masterOf r) && not (c .flags .«stat_diag»)) (replies _ drawn.Diagnosis (beside refl refl)) (draws drawn.Diagnosis)
 
+    -- Global_Control
     globalControl-cases : (first second : ℕ) → P (globalControl c r first second)
     unfolding globalControl
     globalControl-cases first second =

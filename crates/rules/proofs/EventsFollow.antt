@@ -35,7 +35,7 @@ on e n = bit (e .word) n
 abbrev pub Shows : SetDeed → Bool → Bool → Bool → Bool → Type 0
 Shows set-deed.Keep opened waits before after = after ≡ before
 Shows set-deed.Receive opened waits before after = after ≡ cond opened before true
-Shows set-deed.Advance opened waits before after = (waits ≡ true) × (after ≡ before)
+Shows set-deed.Advance opened waits before after = (opened ≡ true) × (waits ≡ true) × (after ≡ before)
 Shows set-deed.Drop opened waits before after = after ≡ false
 
 -- the events after an outcome, by those before and the sets that are open and that wait
@@ -192,6 +192,7 @@ module _ (opened waiting : OpenSets) where
 
     -- ---- every outcome
 
+    -- what holds of each
     Here : Outcome → Type 0
     Here o = Follows (c .events) opened waiting o
 
@@ -210,19 +211,19 @@ module _ (opened waiting : OpenSets) where
     unfolding Here
     ticked-follows = ticked-cases Here c (replies-follow c) (resets-follow (c .events))
 
-    -- the judgement of parameters
-    pub parameters-follow : (good : Bool) → Follows (c .events) opened waiting (judgedParameters c (waiting .parameters) good)
+    -- the judgement of parameters, where a set is open
+    pub parameters-follow : (good : Bool) → opened .parameters ≡ true → Follows (c .events) opened waiting (judgedParameters c (waiting .parameters) good)
     unfolding Here
-    parameters-follow good =
+    parameters-follow good h =
         parameters-cases Here c (replies-follow c) (resets-follow (c .events)) (waiting .parameters) good
-        (λ w. moves-follow set-deed.Advance set-deed.Keep (w, refl) refl) prm-closed
+        (λ w. moves-follow set-deed.Advance set-deed.Keep (h, w, refl) refl) prm-closed
 
     -- and of configuration
-    pub configuration-follows : (good : Bool) → Follows (c .events) opened waiting (judgedConfiguration c (waiting .configuration) good)
+    pub configuration-follows : (good : Bool) → opened .configuration ≡ true → Follows (c .events) opened waiting (judgedConfiguration c (waiting .configuration) good)
     unfolding Here
-    configuration-follows good =
+    configuration-follows good h =
         configuration-cases Here c (replies-follow c) (resets-follow (c .events)) (waiting .configuration) good
-        (λ w. moves-follow set-deed.Keep set-deed.Advance refl (w, refl)) cfg-closed
+        (λ w. moves-follow set-deed.Keep set-deed.Advance refl (h, w, refl)) cfg-closed
 
   -- a telegram
   pub telegram-follows : (g : Setup) (c : Control) (r : Request) (octets : Data) → Follows (c .events) opened waiting (outcomeBy g c opened r octets)
