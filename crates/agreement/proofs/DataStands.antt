@@ -1,9 +1,10 @@
 -- The data octets that came stand where the header says, octet by octet.
 use Prim.Native.Nat.{ℕ, _+_, _≤_, _<_}
 use native.Mathlib.Omega.{arith}
-use mathlib.Core.Path.{_≡_, refl, sym, _∙_, subst}
-use mathlib.Core.Bool.{Bool, true, false}
-use mathlib.Core.List.{List, [], _∷_, _++_, append-nil}
+use mathlib.Core.Path.{_≡_, sym, subst}
+use mathlib.Core.Bool.{false}
+use mathlib.Core.List.{List, [], _∷_, _++_}
+use mathlib.Core.Logic.{_⊎_, inl, inr}
 use lib.ListN.{length}
 use lib.Seq.{take-nil}
 use borrow.Author.Tests.{lt-ltb, le-ltb, eq-eqb}
@@ -11,7 +12,7 @@ use Rattle.buffers.specs.Triple.{fillOf}
 use Rattle.telegram.specs.declared.reader.Reader.{Reader}
 use Rattle.telegram.specs.declared.reader.Status.the-variants.{Broken}
 use Rattle.telegram.specs.Reading.{start, readerStep, run, status, takesData, gathered}
-use Rattle.telegram.proofs.Gather.{gather-snoc}
+use Rattle.telegram.proofs.Above.{Onward, gathered-or-onward, gather-plain}
 use Rattle.state.specs.declared.state.State.{State}
 use Rattle.state.specs.Layout.{outputRow, parameterRow, configurationRow, rowCount, rowLength, startOf}
 use Rattle.state.proofs.Places.{inside}
@@ -19,7 +20,6 @@ use Rattle.steps.specs.Safe.{Safe}
 use Rattle.state.specs.With.{withIncoming}
 use Rattle.steps.specs.Reading.{storedData, keptOctets, readBy}
 use Rattle.agreement.proofs.Relation.{Gathered}
-use Rattle.telegram.proofs.Onward.{inHead, Onward, step-onward, none-gathered}
 use Rattle.agreement.proofs.DataOctetStored.{begins-more, kept-octet}
 
 -- none came
@@ -80,11 +80,9 @@ pub gathered-on : (s : State) (m : List ℕ) (xs : List ℕ) (b : ℕ) → s .in
     → ¬ (status (readerStep (run xs) b) ≡ Broken) → Gathered s m (gathered start xs)
     → Gathered (readBy s (readerStep (run xs) b)) m (gathered start (xs ++ b ∷ []))
 gathered-on s m xs b e t n g =
-    subst (λ (ds : List ℕ). Gathered (readBy s (readerStep (run xs) b)) m ds) (sym same) (go (inHead ((run xs) .phase)) refl)
+    let q = readerStep (run xs) b in
+    subst (λ (ds : List ℕ). Gathered (readBy s q) m ds) (sym (gather-plain xs b t)) (go (gathered-or-onward xs b n))
   where
-    same : gathered start (xs ++ b ∷ []) ≡ gathered start xs
-    same = gather-snoc xs b ∙ rw t (append-nil (gathered start xs))
-
-    go : (c : Bool) → inHead ((run xs) .phase) ≡ c → Gathered (readBy s (readerStep (run xs) b)) m (gathered start xs)
-    go true h = rw (none-gathered xs h) (gathered-none (readBy s (readerStep (run xs) b)) m)
-    go false h = gathered-onward s m (readerStep (run xs) b) (gathered start xs) (rw e (step-onward (run xs) b h n)) g
+    go : (gathered start xs ≡ []) ⊎ Onward (run xs) (readerStep (run xs) b) → Gathered (readBy s (readerStep (run xs) b)) m (gathered start xs)
+    go (inl none) = rw none (gathered-none (readBy s (readerStep (run xs) b)) m)
+    go (inr o) = gathered-onward s m (readerStep (run xs) b) (gathered start xs) (rw e o) g

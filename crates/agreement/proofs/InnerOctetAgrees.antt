@@ -1,17 +1,15 @@
 -- An inner octet only lengthens the telegram, on both sides.
 use Prim.Native.Nat.{ℕ}
-use native.Mathlib.Omega.{arith}
 use mathlib.Core.Path.{_≡_, refl, sym, ap, _∙_, subst}
-use mathlib.Core.Bool.{Bool, true, false, cond}
+use mathlib.Core.Bool.{true, false}
 use mathlib.Core.List.{List, [], _∷_, _++_}
 use lib.ListN.{length}
-use Rattle.telegram.specs.declared.Datum.the-variants.{Number, Nothing}
+use Rattle.telegram.specs.declared.Datum.{Datum}
 use Rattle.telegram.specs.declared.reader.Reader.{Reader}
-use Rattle.telegram.specs.declared.reader.Status.{Status}
-use Rattle.telegram.specs.declared.reader.Status.the-variants.{Inside, Broken}
+use Rattle.telegram.specs.declared.reader.Status.the-variants.{Inside}
 use Rattle.telegram.specs.Reading.{start, readerStep, run, status, takesData, datumOf, gathered}
-use Rattle.telegram.proofs.Run.{no-true, run-snoc}
-use Rattle.telegram.proofs.Gather.{gather-snoc, counts, data-inside}
+use Rattle.telegram.proofs.Run.{no-true, inside-broken, run-snoc}
+use Rattle.telegram.proofs.Above.{datum-case, data-onward, gather-data, counts}
 use Rattle.state.specs.declared.state.Incoming.{Incoming}
 use Rattle.state.specs.declared.state.State.{State}
 use Rattle.ledger.specs.Ledger.{Ledger, withLine, begun}
@@ -21,13 +19,9 @@ use Rattle.steps.specs.Reading.{isIgnored, storedData, keptOctets, readBy, stor
 use Rattle.agreement.proofs.Relation.{Gathered, Agrees, After}
 use Rattle.agreement.proofs.Steady.{Steady}
 use Rattle.agreement.proofs.LineStays.{reply-stays, reply-line}
-use Rattle.telegram.proofs.Onward.{step-onward, data-behind}
 use Rattle.agreement.proofs.ReadingChanges.{Beside, nowhere, data-beside, reread}
 use Rattle.agreement.proofs.SameLine.{nothing-left}
 use Rattle.agreement.proofs.DataStands.{gathered-more, gathered-on}
-
-inside-broken : {x : Status} → x ≡ Inside → x ≡ Broken → ⊥
-inside-broken e f = let z : _≡_ {A = ℕ} 0 1 = cc in omega arith
 
 module _ (s : State) (m : List ℕ) (l : Ledger) (b : ℕ) (d : Steady l) (a : Agrees s m l)
     (ignoring : l .line .ignored ≡ false) (coming : begun l ≡ true) (inside : status (readerStep (s .incoming .reader) b) ≡ Inside) where
@@ -58,23 +52,18 @@ module _ (s : State) (m : List ℕ) (l : Ledger) (b : ℕ) (d : Steady l) (a : A
   inner-plain : takesData r ≡ false → Agrees (readBy s (readerStep r b)) m (withLine l (lengthened (l .line) b))
   inner-plain t =
       longer (record { reader = readerStep r b; first = s .incoming .first; second = s .incoming .second }) m refl (nowhere s m)
-      (rw read (gathered-on s m xs b read (rw read at t) (inside-broken (rw read at inside)) (a .reading .stored ignoring)))
+      (rw read (gathered-on s m xs b read (rw read at t) (λ z. inside-broken (sym (rw read at inside) ∙ z)) (a .reading .stored ignoring)))
 
   -- it is data octet number r .at
   inner-data : takesData r ≡ true → Agrees (withIncoming s (keptOctets (s .incoming) (readerStep r b) (r .at) b)) (storedData s m (r .at) b) (withLine l (lengthened (l .line) b))
   inner-data t =
       let t′ : takesData (run xs) ≡ true = rw read at t in
-      let n : ¬ (status (run xs) ≡ Broken) = inside-broken (data-inside xs t′) in
-      let count : r .at ≡ length (gathered start xs) = ap (λ (x : Reader). x .at) read ∙ counts xs n in
-      let more : gathered start (xs ++ b ∷ []) ≡ gathered start xs ++ b ∷ [] = gather-snoc xs b ∙ rw t′ in
+      let count : r .at ≡ length (gathered start xs) = ap (λ (x : Reader). x .at) read ∙ counts xs t′ in
       longer (keptOctets (s .incoming) (readerStep r b) (r .at) b) (storedData s m (r .at) b) refl (data-beside s m (r .at) b (a .safe))
       (subst (λ (k : ℕ). Gathered (withIncoming s (keptOctets (s .incoming) (readerStep r b) k b)) (storedData s m k b) (gathered start (xs ++ b ∷ []))) (sym count)
-      (rw more
-      (gathered-more s m (readerStep r b) (gathered start xs) b (a .safe) (step-onward r b (data-behind r b t) (inside-broken inside)) (a .reading .stored ignoring))))
+      (rw (gather-data xs b t′)
+      (gathered-more s m (readerStep r b) (gathered start xs) b (a .safe) (data-onward r b t) (a .reading .stored ignoring))))
 
   pub inner-octet : After (storedAs (datumOf r) s m (readerStep r b) b) (withLine l (lengthened (l .line) b))
-  inner-octet = go (takesData r) refl
-    where
-      go : (c : Bool) → takesData r ≡ c → After (storedAs (cond c (Number (r .at)) Nothing) s m (readerStep r b) b) (withLine l (lengthened (l .line) b))
-      go true e = inner-data e
-      go false e = inner-plain e
+  inner-octet =
+      datum-case r (λ (d : Datum). After (storedAs d s m (readerStep r b) b) (withLine l (lengthened (l .line) b))) inner-data inner-plain

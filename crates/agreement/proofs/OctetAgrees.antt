@@ -4,16 +4,14 @@ use native.Mathlib.Omega.{arith}
 use mathlib.Core.Path.{_≡_, refl, sym, ap, _∙_, subst}
 use mathlib.Core.Bool.{Bool, true, false, cond}
 use mathlib.Core.List.{List, [], _∷_, _++_}
-use lib.Dec.{eqb}
-use Rattle.telegram.specs.declared.Kind.the-variants.{Sd1, Sd2, Sd3, Sd4}
-use Rattle.telegram.specs.declared.reader.Phase.the-variants.{Le, Da}
 use Rattle.telegram.specs.declared.reader.Reader.{Reader}
 use Rattle.telegram.specs.declared.reader.Status.{Status}
 use Rattle.telegram.specs.declared.reader.Status.the-variants.{Fresh, Inside, Complete, Broken}
 use Rattle.telegram.specs.Telegram.{Telegram}
-use Rattle.telegram.specs.Reading.{before, off, start, okAt, readerStep, readerAfter, run, status, takesData, gathered, finished}
+use Rattle.telegram.specs.Reading.{off, start, readerStep, readerAfter, run, status, takesData, gathered, finished}
 use Rattle.telegram.proofs.Run.{no-true, inside-complete, broken-complete, run-snoc}
 use Rattle.telegram.proofs.Framing.{framing}
+use Rattle.telegram.proofs.Above.{first-never, data-goes-on}
 use Rattle.state.specs.declared.state.State.{State}
 use Rattle.ledger.specs.Ledger as ledger
 use Rattle.ledger.specs.Ledger.{Ledger, withLine}
@@ -30,23 +28,10 @@ use Rattle.agreement.proofs.OnePartChanges.{reading-changed, reply-drop
 use Rattle.state.proofs.Choice.{both}
 use Rattle.agreement.proofs.SettleAgrees.{settle-agrees}
 use Rattle.agreement.proofs.OutcomesKeepOrder.{closed-list}
-use Rattle.telegram.proofs.Onward.{data-goes-on}
 use Rattle.agreement.proofs.LineStays.{ignored-agrees}
 use Rattle.agreement.proofs.DataStands.{gathered-none, gathered-on}
 use Rattle.agreement.proofs.InnerOctetAgrees.{inner-octet}
 use Rattle.agreement.proofs.LastOctetAgrees.{completes}
-
--- no telegram is complete with its first octet
-first-never : (b : ℕ) → status (readerStep start b) ≡ Complete → ⊥
-unfolding readerStep
-first-never b = go (okAt (start .phase) start b) (eqb b 0x10) (eqb b 0xA2) (eqb b 0xDC)
-  where
-    go : (c p q t : Bool) → status (cond c (cond p (before Da Sd1 0) (cond q (before Da Sd3 8) (cond t (before Da Sd4 0) (before Le Sd2 0)))) off) ≡ Complete → ⊥
-    go true true q t e = inside-complete e
-    go true false true t e = inside-complete e
-    go true false false true e = inside-complete e
-    go true false false false e = inside-complete e
-    go false p q t e = broken-complete e
 
 module _ (s : State) (m : List ℕ) (l : Ledger) (b : ℕ) (d : Steady l) (w : Ranged (l .setup)) (a : Agrees s m l) where
   -- broken off: octets are ignored until the next gap

@@ -2,7 +2,7 @@
 use Prim.Native.Nat.{ℕ}
 use Rattle.buffers.specs.declared.triple.Triple.{Triple}
 use Rattle.telegram.specs.declared.sender.Sender.{Sender}
-use Rattle.telegram.specs.Reading.{rd}
+use Rattle.telegram.specs.Reading.{readTo}
 use Rattle.state.specs.declared.control.Control.{Control}
 use Rattle.state.specs.declared.state.Outputs.{Outputs}
 use Rattle.state.specs.declared.state.Incoming.{Incoming}
@@ -83,9 +83,7 @@ withReply s x =
 -- with what a data octet changes of the telegram that is coming: how many were read, the checksum and the first two
 abbrev pub withData : State → ℕ → ℕ → ℕ → ℕ → State
 withData s at sum first second =
-    let r = s .incoming .reader in
-    withIncoming s
-    (record { reader = rd (r .phase) (r .kind) (r .count) at (r .da) (r .sa) (r .fc) (r .dsap) (r .ssap) sum; first = first; second = second })
+    withIncoming s (record { reader = readTo (s .incoming .reader) at sum; first = first; second = second })
 
 -- with the sender of the reply
 abbrev pub withSender : State → Sender → State

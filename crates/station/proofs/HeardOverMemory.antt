@@ -10,12 +10,14 @@ use lib.Seq.{take-set-le}
 use borrow.Author.Tests.{not-true}
 use Rattle.buffers.specs.Triple.{fillOf}
 use Rattle.octets.specs.Part.{storedIn}
-use Rattle.telegram.specs.declared.Datum.the-variants.{Number, Nothing}
+use Rattle.telegram.specs.declared.Datum.{Datum}
+use Rattle.telegram.specs.declared.Datum.the-variants.{Number}
 use Rattle.telegram.specs.declared.reader.Reader.{Reader}
 use Rattle.telegram.specs.declared.reader.Status.{Status}
 use Rattle.telegram.specs.declared.reader.Status.the-variants.{Fresh, Inside, Complete, Broken}
 use Rattle.telegram.specs.Reading.{readerStep, readerAfter, status, takesData, datumOf}
 use Rattle.telegram.proofs.Run.{no-true}
+use Rattle.telegram.proofs.Above.{datum-number, datum-nothing, data-inside, data-goes-on, data-changes}
 use Rattle.state.specs.declared.state.Incoming.{Incoming}
 use Rattle.state.specs.declared.state.State.{State}
 use Rattle.state.specs.Layout.{stateLength, rowCount, startOf, outputRow, parameterRow, configurationRow, outputsAt, parametersAt, configurationAt}
@@ -27,9 +29,9 @@ use Rattle.state.proofs.Places.{inside}
 use Rattle.steps.specs.Stepped.{Steps, unchanged, packedAfter}
 use Rattle.steps.specs.Line.{isInside}
 use Rattle.steps.specs.Outcome.{settle}
-use Rattle.steps.specs.Reading.{storedData, keptOctets, storedAs, readOn, readBy, beginning, heardAs, isIgnored, isPlain, heard}
+use Rattle.steps.specs.Reading.{storedData, keptOctets, storedAs, readOn, readBy, beginning, heardAs, isIgnored, heard}
 use Rattle.steps.proofs.Holding.{holds-safe}
-use Rattle.telegram.proofs.Onward.{data-inside, data-goes-on, data-changes}
+use Rattle.station.specs.Hearing.{isPlain}
 use Rattle.steps.proofs.KeepsSafe.{stored-data-length}
 use Rattle.state.proofs.Choice.{and-left, and-right}
 
@@ -58,7 +60,7 @@ module _ (s : State) (m : List ℕ) (b : ℕ) where
   heard-data : takesData old ≡ true → heard s m b false ≡ storedAs (Number (old .at)) s m (readerStep old b) b
   heard-data e =
       heard-inner false (data-inside old b e) (data-goes-on old b e)
-      ∙ (λ i. storedAs (cond (e i) (Number (old .at)) Nothing) s m (readerStep old b) b)
+      ∙ ap (λ (d : Datum). storedAs d s m (readerStep old b) b) (datum-number old e)
 
   -- no data
   heard-plain : (bad : Bool) → isPlain old (readerAfter old b bad) ≡ true
@@ -70,7 +72,7 @@ module _ (s : State) (m : List ℕ) (b : ℕ) where
       heard-inner bad
       (is-inside (status old) (and-left (isInside (status old)) (isInside (status next)) both))
       (is-inside (status next) (and-right (isInside (status old)) (isInside (status next)) both))
-      ∙ (λ i. storedAs (cond (none i) (Number (old .at)) Nothing) s m next b)
+      ∙ ap (λ (d : Datum). storedAs d s m next b) (datum-nothing old none)
 
   -- the others
   heard-other : (bad : Bool) → isIgnored (status old) ≡ false

@@ -19,7 +19,8 @@ ghost use Rattle.telegram.specs.Reading.{takesData};
 ghost use Rattle.state.specs.Memory.{Holds};
 ghost use Rattle.state.specs.Unpack.{unpacked};
 ghost use Rattle.steps.specs.Stepped.{packedAfter};
-ghost use Rattle.steps.specs.Reading.{storedData, isPlain, heard};
+ghost use Rattle.steps.specs.Reading.{storedData, heard};
+ghost use Rattle.station.specs.Hearing.{isPlain};
 
 // A data octet into the fill buffer of the set that the header names; no other set is read.
 fn store_received(mem: &mut [u8], k: u8, b: u8)

@@ -1,6 +1,6 @@
 -- The bus's octet: a telegram's data goes into the fill buffer that its header names, as it comes.
 use Prim.Native.Nat.{ℕ, _+_}
-use mathlib.Core.Bool.{Bool, true, false, cond, not, _&&_}
+use mathlib.Core.Bool.{Bool, true, false, cond}
 use mathlib.Core.List.{List}
 use lib.Dec.{eqb, ltb}
 use lib.ListN.{getD}
@@ -11,7 +11,7 @@ use Rattle.telegram.specs.declared.Datum.the-variants.{Number, Nothing}
 use Rattle.telegram.specs.declared.reader.Reader.{Reader}
 use Rattle.telegram.specs.declared.reader.Status.{Status}
 use Rattle.telegram.specs.declared.reader.Status.the-variants.{Fresh, Inside, Complete, Broken}
-use Rattle.telegram.specs.Reading.{off, readerAfter, status, takesData, datumOf}
+use Rattle.telegram.specs.Reading.{off, readerAfter, status, datumOf}
 use Rattle.state.specs.declared.state.Incoming.{Incoming}
 use Rattle.state.specs.declared.state.State.{State}
 use Rattle.state.specs.Layout.{outputsAt, parametersAt, configurationAt}
@@ -23,7 +23,7 @@ use Rattle.rules.specs.Requests.{masterOf}
 use Rattle.rules.specs.Services.{outcomeBy}
 use Rattle.state.specs.With.{withIncoming, withReply}
 use Rattle.steps.specs.Stepped.{Stepped, unchanged}
-use Rattle.steps.specs.Line.{isInside, begun}
+use Rattle.steps.specs.Line.{begun}
 use Rattle.steps.specs.Outcome.{openSets, carried, settle}
 use Rattle.state.specs.Start.{noReply}
 use Rattle.steps.specs.Replies.{replyFor}
@@ -129,10 +129,6 @@ isIgnored Fresh = false
 isIgnored Inside = false
 isIgnored Complete = true
 isIgnored Broken = true
-
--- an octet is inner and no data, by the reader before it and after it
-abbrev pub isPlain : Reader → Reader → Bool
-isPlain r next = isInside (status r) && isInside (status next) && not (takesData r)
 
 -- the bus's octet
 unfoldable pub heard : State → List ℕ → ℕ → Bool → Stepped

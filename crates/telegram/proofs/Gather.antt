@@ -1,21 +1,20 @@
--- What is gathered octet by octet, for a layer that stores each data octet as it comes.
-use Prim.Native.Nat.{ℕ, _+_, _%_, _<_}
-use native.Mathlib.Nat.{add-zero, zero-add}
+-- What is gathered over a list and over its parts, and how a reader counts it, phase by phase.
+use Prim.Native.Nat.{ℕ, _+_, _%_}
+use native.Mathlib.Nat.{add-zero}
 use native.Mathlib.Omega.{arith}
 use mathlib.Core.Path.{_≡_, refl, sym, ap, _∙_}
 use mathlib.Core.List.{List, [], _∷_, _++_}
 use mathlib.Core.Bool.{Bool, true, false, cond, _&&_}
-use borrow.Author.Tests.{ltb-true}
 use lib.Dec.{ltb, eqb}
 use lib.ListN.{length}
 use Rattle.telegram.specs.declared.Kind.the-variants.{Sd1, Sd2, Sd3, Sd4}
 use Rattle.telegram.specs.declared.reader.Phase.{Phase}
 use Rattle.telegram.specs.declared.reader.Phase.the-variants.{Start, Le, LeAgain, SdAgain, Da, Sa, Fc, Dsap, Ssap, Body, End, Done, Off}
 use Rattle.telegram.specs.declared.reader.Reader.{Reader}
-use Rattle.telegram.specs.declared.reader.Status.the-variants.{Inside, Broken}
-use Rattle.telegram.specs.Reading.{rd, before, moved, off, start, okAt, nextAt, readerStep, runFrom, run, status, statusAt, inBody, takesData, gathered}
+use Rattle.telegram.specs.declared.reader.Status.the-variants.{Broken}
+use Rattle.telegram.specs.Reading.{rd, before, moved, off, okAt, nextAt, readerStep, runFrom, status, inBody, takesData, gathered}
 use Rattle.telegram.proofs.Run.{no-true, off-stays}
-use Rattle.telegram.proofs.Continues.{small-run}
+use Rattle.telegram.proofs.Onward.{inHead}
 
 pub gather-append : (r : Reader) (xs ys : List ℕ) → gathered r (xs ++ ys) ≡ gathered r xs ++ gathered (runFrom r xs) ys
 gather-append r [] ys = refl
@@ -27,26 +26,7 @@ gather-append r (x ∷ xs) ys = go (takesData r) (gather-append (readerStep r x)
     go true e = ap (λ (l : List ℕ). x ∷ l) e
     go false e = e
 
--- an octet comes behind those gathered if it is data, and nothing changes if not
-pub gather-snoc : (xs : List ℕ) (b : ℕ) → gathered start (xs ++ b ∷ []) ≡ gathered start xs ++ cond (takesData (run xs)) (b ∷ []) []
-gather-snoc xs b = gather-append start xs (b ∷ [])
-
 -- before its data a reader has counted none
-abbrev inHead : Phase → Bool
-inHead Start = true
-inHead Le = true
-inHead LeAgain = true
-inHead SdAgain = true
-inHead Da = true
-inHead Sa = true
-inHead Fc = true
-inHead Dsap = true
-inHead Ssap = true
-inHead Body = false
-inHead End = false
-inHead Done = false
-inHead Off = false
-
 abbrev None : Reader → Type 0
 None r = inHead (r .phase) ≡ true → r .at ≡ 0
 
@@ -106,7 +86,8 @@ length-cond : (c : Bool) (x : ℕ) (l : List ℕ) → length (cond c (x ∷ l) l
 length-cond true x l = omega arith
 length-cond false x l = omega arith
 
-counts-from : (r : Reader) (xs : List ℕ) → None r → ¬ (status (runFrom r xs) ≡ Broken)
+-- as many data octets are gathered as the reader has counted
+pub counts-from : (r : Reader) (xs : List ℕ) → None r → ¬ (status (runFrom r xs) ≡ Broken)
     → (runFrom r xs) .at ≡ r .at + length (gathered r xs)
 unfolding readerStep
 counts-from r [] f n = sym (add-zero (r .at))
@@ -125,37 +106,3 @@ counts-from r (x ∷ xs) f n = go (okAt (r .phase) r x) refl n (counts-from (rea
         let l = length-cond (takesData r) x (gathered (nextAt (r .phase) r x) xs) in
         omega arith
     go false e m ih = absurd (m (ap status (off-stays xs)))
-
--- as many data octets are gathered as the reader has counted: the next one's number is r .at
-pub counts : (xs : List ℕ) → ¬ (status (run xs) ≡ Broken) → (run xs) .at ≡ length (gathered start xs)
-counts xs n = counts-from start xs (λ _. refl) n ∙ zero-add (length (gathered start xs))
-
--- and a data octet's number is below 246
-pub room : (xs : List ℕ) → takesData (run xs) ≡ true → (run xs) .at < 246
-room xs e =
-    let l = ltb-true ((run xs) .at) ((run xs) .count) (right (inBody ((run xs) .phase)) (ltb ((run xs) .at) ((run xs) .count)) e) in
-    let s = small-run start xs (omega arith) in
-    omega arith
-  where
-    right : (p q : Bool) → p && q ≡ true → q ≡ true
-    right true q h = h
-    right false q h = no-true h
-
--- where a data octet may come, a telegram is inside
-pub data-inside : (xs : List ℕ) → takesData (run xs) ≡ true → status (run xs) ≡ Inside
-data-inside xs e = at-phase ((run xs) .phase) (ltb ((run xs) .at) ((run xs) .count)) e
-  where
-    at-phase : (p : Phase) (c : Bool) → inBody p && c ≡ true → statusAt p ≡ Inside
-    at-phase Start c e = no-true e
-    at-phase Le c e = refl
-    at-phase LeAgain c e = refl
-    at-phase SdAgain c e = refl
-    at-phase Da c e = refl
-    at-phase Sa c e = refl
-    at-phase Fc c e = refl
-    at-phase Dsap c e = refl
-    at-phase Ssap c e = refl
-    at-phase Body c e = refl
-    at-phase End c e = refl
-    at-phase Done c e = no-true e
-    at-phase Off c e = no-true e

@@ -19,6 +19,9 @@ broken-complete e = let z : _≡_ {A = ℕ} 0 1 = cc in omega arith
 pub inside-complete : Inside ≡ Complete → ⊥
 inside-complete e = let z : _≡_ {A = ℕ} 0 1 = cc in omega arith
 
+pub inside-broken : Inside ≡ Broken → ⊥
+inside-broken e = let z : _≡_ {A = ℕ} 0 1 = cc in omega arith
+
 pub fresh-complete : Fresh ≡ Complete → ⊥
 fresh-complete e = let z : _≡_ {A = ℕ} 0 1 = cc in omega arith
 

@@ -171,9 +171,12 @@ in-body Done c e = no-true e
 in-body Off c e = no-true e
 
 module _ (r : Reader) (e : takesData r ≡ true) where
+  pub data-body : r .phase ≡ Body
+  data-body = in-body (r .phase) (ltb (r .at) (r .count)) e .0
+
   pub data-room : r .at < r .count
   data-room = ltb-true (r .at) (r .count) (in-body (r .phase) (ltb (r .at) (r .count)) e .1)
 
   pub data-step : (b : ℕ) → rd Body (r .kind) (r .count) (r .at + 1) (r .da) (r .sa) (r .fc) (r .dsap) (r .ssap) ((r .sum + b) % 256) ≡ readerStep r b
   unfolding readerStep
-  data-step b = body-data r b data-room ∙ ap (λ (p : Phase). stepAt p r b) (sym (in-body (r .phase) (ltb (r .at) (r .count)) e .0))
+  data-step b = body-data r b data-room ∙ ap (λ (p : Phase). stepAt p r b) (sym data-body)

@@ -42,6 +42,10 @@ abbrev pub summed : Reader → ℕ → Phase → Reader
 summed r b p =
     rd p (r .kind) (r .count) (r .at) (r .da) (r .sa) (r .fc) (r .dsap) (r .ssap) ((r .sum + b) % 256)
 
+-- and with n data octets read and another checksum
+abbrev pub readTo : Reader → ℕ → ℕ → Reader
+readTo r n s = rd (r .phase) (r .kind) (r .count) n (r .da) (r .sa) (r .fc) (r .dsap) (r .ssap) s
+
 -- may this octet come here?
 abbrev pub okAt : Phase → Reader → ℕ → Bool
 okAt Start r b = eqb b 0x10 || eqb b 0xA2 || eqb b 0xDC || eqb b 0x68

@@ -1,0 +1,7 @@
+-- What a list of octets computes with: `unfolding computing` opens all that the reader leaves shut.
+use Prim.Native.Nat.{ℕ}
+use Rattle.telegram.specs.Reading.{readerStep}
+
+unfoldable pub computing : ℕ
+unfolding readerStep
+computing = 0
