@@ -1,7 +1,7 @@
 -- Demand 2: the station takes exactly the telegrams of the grammar, acts on each as the service rules say, and sends exactly the reply
 -- that they give. The rules are the definitions of the crate rules, carried out on lists in Outcome.antt; demand 3 ties them to the memory.
 use Rattle.telegram.specs.Telegram.{Telegram}
-use Rattle.telegram.specs.Framing.{FramingPromise}
+use Rattle.telegram.specs.Framing.{FramingPromise, FirstOctets}
 use Rattle.telegram.specs.Sending.{SendingPromise}
 use Rattle.ledger.specs.Ledger.{Ledger}
 use Rattle.ledger.specs.Hearing.{Hears, Dialogue}
@@ -13,6 +13,8 @@ use Rattle.ledger.specs.EventsFollow.{EventsOpen, PublishingRaises}
 pub record Demand2 : Type 0 where
   -- of every list of octets the reader tells what the grammar says
   pub framing : FramingPromise
+  -- a telegram begins with 10, 68, A2 or DC
+  pub first-octets : FirstOctets
   -- every ledger hears by the grammar, octet by octet, whatever calls come between
   pub by-grammar : ByGrammar
   -- SD4 is without effect

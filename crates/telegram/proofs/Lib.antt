@@ -13,8 +13,5 @@ pub mod Above
 pub mod Computing
 pub mod Sends
 mod Bench
-<<<<<<< HEAD
-pub mod Onward
 pub mod Counts
-=======
->>>>>>> 946e148 (The layers above the telegrams use named laws of the reader: no phase in them)
+pub mod FirstOctets

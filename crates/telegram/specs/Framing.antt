@@ -3,7 +3,7 @@ use Prim.Native.Nat.{ℕ}
 use mathlib.Core.Path.{_≡_}
 use mathlib.Core.List.{List, [], _∷_, _++_}
 use mathlib.Core.Bool.{true}
-use mathlib.Core.Logic.{_↔_}
+use mathlib.Core.Logic.{_↔_, _⊎_}
 use Rattle.telegram.specs.declared.reader.Status.the-variants.{Fresh, Inside, Complete, Broken}
 use Rattle.telegram.specs.Checksum.{checksum}
 use Rattle.telegram.specs.Telegram.{Telegram, headOf, coveredOf, octetsOf, payloadOf, Valid, IsTelegram, Octets}
@@ -41,3 +41,11 @@ pub record Framing (xs : List ℕ) : Type 0 where
 -- the framing promise, for every list of octets
 abbrev pub FramingPromise : Type 0
 FramingPromise = (xs : List ℕ) → Framing xs
+
+-- a start delimiter: 10, 68, A2 or DC
+abbrev pub Delimiter : ℕ → Type 0
+Delimiter b = (b ≡ 0x10) ⊎ ((b ≡ 0x68) ⊎ ((b ≡ 0xA2) ⊎ (b ≡ 0xDC)))
+
+-- exactly from such a first octet a telegram can result
+abbrev pub FirstOctets : Type 0
+FirstOctets = (b : ℕ) → Continues (b ∷ []) ↔ Delimiter b
