@@ -11,6 +11,7 @@ pub mod ReadBack
 pub mod Fit
 pub mod EventsCarried
 pub mod EventsFollow
+pub mod OctetLists
 pub mod Scripts
 mod Computing
 pub mod Bench

@@ -13,3 +13,4 @@ pub mod Script
 pub mod Bench
 pub mod ReadBack
 pub mod EventsFollow
+pub mod Octets

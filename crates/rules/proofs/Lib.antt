@@ -3,4 +3,5 @@ pub mod Headed
 pub mod Served
 pub mod ByCases
 pub mod EventsFollow
+pub mod Owner
 pub mod LookedAt
