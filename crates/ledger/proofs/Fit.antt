@@ -164,7 +164,7 @@ settle-fit {l} f = quiet-fit (reply-fit f) (clear-noted-quiet (afterReply l .set
 pub outcome-served : (l : Ledger) (t : Telegram) → Served (l .setup) (l .control) (requestBy t) (outcomeOf l (requestBy t) (payloadOf t))
 outcome-served l t = served (l .setup) (l .control) (openSets l) (requestBy t) (dataBy (payloadOf t))
 
-master-low : (r : Request) → masterOf r < 128
+pub master-low : (r : Request) → masterOf r < 128
 master-low r = mod-lt (r .sa) (omega arith)
 
 module _ {l : Ledger} (f : Fit l) (t : Telegram) where
@@ -172,7 +172,7 @@ module _ {l : Ledger} (f : Fit l) (t : Telegram) where
   outcome-fit = carried-fit f (payloadOf t) (outcome-served l t .lawful)
 
   -- what it draws is valid
-  drawn-valid : ValidReply (drawnBy l t)
+  pub drawn-valid : ValidReply (drawnBy l t)
   drawn-valid =
       let o = outcomeOf l (requestBy t) (payloadOf t) in
       reply-valid (l .setup) (l .slice) (o .control) (carried l o (payloadOf t) .buffers) (masterOf (requestBy t)) (f .start-takes) (outcome-fit .lists) (outcome-fit .counts) (master-low (requestBy t)) (o .drawn)

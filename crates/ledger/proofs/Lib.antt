@@ -12,6 +12,7 @@ pub mod Fit
 pub mod EventsCarried
 pub mod EventsFollow
 pub mod OctetLists
+pub mod OctetReplies
 pub mod Scripts
 mod Computing
 pub mod Bench
