@@ -13,6 +13,8 @@ pub mod EventsCarried
 pub mod EventsFollow
 pub mod OctetLists
 pub mod OctetReplies
+pub mod OctetsCarried
+pub mod Octets
 pub mod Scripts
 mod Computing
 pub mod Bench
