@@ -1,6 +1,7 @@
 //! Memories that somebody damaged, and lengths that are not the memory's. The second implementation has no memory, so
 //! these checks hold the C library to document 01 alone: an image that is no state's is refused with 5 by every call
-//! but Start and stays as it is; one that is a state's is never refused with 5 again, whatever is called. In both
+//! but Start and stays as it is; one that is a state's is never refused with 5 again, whatever is called. Of the counts
+//! on the line and of the sets, which images are a state's is said by docs/memory.md and held to exactly. In all
 //! cases no octet outside the lent memory is touched and every answer is one that the call can have.
 
 use crate::call::{Call, StartValues};
@@ -18,6 +19,17 @@ const WALK_EVERY: usize = 8;
 
 /// Lengths are tried from 0 to here, beyond the longest memory.
 const LONGEST_LENGTH: usize = 4112;
+
+/// Where the marks, the phase of reading and the stage of sending lie in the state part: docs/memory.md.
+const MARKS: usize = 18;
+const READING: usize = 32;
+const SENDING: usize = 44;
+
+/// Every pair of these values.
+fn pairs(values: &[u8]) -> Vec<(u8, u8)> {
+    let with = |first: u8| values.iter().map(move |second| (first, *second));
+    values.iter().flat_map(|first| with(*first)).collect()
+}
 
 /// All calls but Start.
 fn every_call() -> Vec<Call> {
@@ -135,6 +147,54 @@ impl Trial<'_> {
                 true => Outcome::SplicedRefused,
                 false => Outcome::SplicedOtherState,
             });
+        }
+        Ok(())
+    }
+
+    /// Counts at their limits and one past them, as docs/memory.md has them: of the telegram that is read, of the reply,
+    /// and of the sets that are shown and that wait. Refused are exactly those that break the rules.
+    pub fn try_counts(&mut self) -> Result<(), String> {
+        for (phase_at, first_of_data, last) in [(READING, 9, 12), (SENDING, 7, 10)] {
+            for phase in 0..=last {
+                for (count, done) in pairs(&[0, 1, 2, 245, 246, 247, 255]) {
+                    let whole = count <= 246 && done <= count;
+                    let keeps = whole && (done == 0 || phase >= first_of_data);
+                    let octets = [
+                        (phase_at, phase),
+                        (phase_at + 2, count),
+                        (phase_at + 3, done),
+                    ];
+                    self.judge_counts(&octets, keeps)?;
+                }
+            }
+        }
+        let parameters = self.values.parameters as u8;
+        let configuration = self.values.configuration as u8;
+        for (shown_at, mark, length) in [(23, 0x08, parameters), (25, 0x10, configuration)] {
+            for (shown, waiting) in pairs(&[0, length]) {
+                let marks = match waiting {
+                    0 => self.card.state()[MARKS] & !mark,
+                    _ => self.card.state()[MARKS] | mark,
+                };
+                let octets = [(shown_at, shown), (shown_at + 1, waiting), (MARKS, marks)];
+                self.judge_counts(&octets, waiting == 0 || shown != 0)?;
+            }
+        }
+        Ok(())
+    }
+
+    /// The image with these octets is refused exactly if its counts do not keep the rules.
+    fn judge_counts(&mut self, octets: &[(usize, u8)], keeps: bool) -> Result<(), String> {
+        let mut image = self.card.state().to_vec();
+        for (at, octet) in octets {
+            image[*at] = *octet;
+        }
+        let refused = self.judge_image(&image, "image with other counts")?;
+        match (keeps, refused) {
+            (true, false) => self.tally.add(Outcome::CountsTaken),
+            (false, true) => self.tally.add(Outcome::CountsRefused),
+            (true, true) => return Err(format!("with the counts {octets:?} refuses with 5")),
+            (false, false) => return Err(format!("takes the counts {octets:?} for a state's")),
         }
         Ok(())
     }

@@ -281,6 +281,8 @@ outcomes! {
     RandomRefused "damage: random image refused with 5 by all calls"
     SplicedRefused "damage: image spliced of two states refused with 5"
     SplicedOtherState "damage: image spliced of two states is a state"
+    CountsRefused "damage: counts that break the rules refused with 5"
+    CountsTaken "damage: counts that keep the rules are a state's"
     LengthRefused "damage: wrong length refused with 5 by all calls"
     LengthStart "damage: wrong length refused with 1 by Start"
     LengthTooShort "damage: length below the stored buffers refused with 5"

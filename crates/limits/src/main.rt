@@ -196,6 +196,23 @@ fn changed(at: usize, octet: u8) {
     print_well(holds_state(&mem));
 }
 
+// Counts of the telegram that is read and of the reply, and sets that wait behind none.
+fn counts() {
+    // more than 246 data octets to read, more read than there are, some read before the data, all of them
+    changed(34, 247);
+    changed(35, 247);
+    changed(32, 8);
+    changed(32, 9);
+    // the same of the reply
+    changed(46, 247);
+    changed(47, 247);
+    changed(44, 6);
+    changed(44, 7);
+    // no parameters shown, no configuration shown, and a set of each waits
+    changed(23, 0);
+    changed(25, 0);
+}
+
 fn main() {
     through(most());
     through(least());
@@ -210,4 +227,5 @@ fn main() {
     // an octet that is not used, and one behind the state
     changed(63, 1);
     changed(64, 1);
+    counts();
 }
