@@ -15,6 +15,7 @@ pub mod OctetLists
 pub mod OctetReplies
 pub mod OctetsCarried
 pub mod Octets
+pub mod Demand2
 pub mod Scripts
 mod Computing
 pub mod Bench

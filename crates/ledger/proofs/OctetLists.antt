@@ -9,9 +9,9 @@ use lib.ListN.{take, drop, set, replicate, getD}
 use Rattle.telegram.specs.declared.reader.Status.the-variants.{Complete}
 use Rattle.telegram.specs.Checksum.{checksum, total}
 use Rattle.telegram.specs.Telegram.{Telegram, sd1, sd2, sd3, sd4, daOf, saOf, fcOf, dataOf, headOf, coveredOf, tailOf, octetsOf, payloadOf, extended, Valid, Octets}
-use Rattle.telegram.specs.Reading.{start, run, readerAfter, status, gathered, telegramOf}
+use Rattle.telegram.specs.Reading.{run, readerAfter, status}
 use Rattle.telegram.proofs.Run.{broken-complete, run-snoc}
-use Rattle.telegram.proofs.Framing.{framing, told}
+use Rattle.telegram.proofs.Framing.{framing}
 use Rattle.state.proofs.Choice.{either}
 use Rattle.ledger.specs.Bus.{telegramOn}
 
@@ -115,5 +115,5 @@ heard-octets xs b true o e = absurd (broken-complete e)
 heard-octets xs b false o e =
     let ys = xs ++ b ∷ [] in
     let w = framing ys .whole .0 (ap status (run-snoc xs b) ∙ e) in
-    let same : telegramOn ys ≡ w .0 = subst (λ (l : List ℕ). telegramOf (run l) (gathered start l) ≡ w .0) (w .2) (told (w .0) (w .1)) in
+    let same : telegramOn ys ≡ w .0 = framing ys .told (w .0) (w .1) (w .2) in
     subst (λ (t : Telegram). Octets (payloadOf t)) (sym same) (payload-octets (w .0) (subst Octets (sym (w .2)) o))

@@ -14,3 +14,4 @@ pub mod Bench
 pub mod ReadBack
 pub mod EventsFollow
 pub mod Octets
+pub mod Demand2

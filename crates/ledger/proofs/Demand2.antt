@@ -1,0 +1,25 @@
+-- Demand 2 whole (specs/Demand2.antt).
+use Rattle.telegram.proofs.Framing.{framing}
+use Rattle.telegram.proofs.FirstOctets.{first-octets}
+use Rattle.telegram.proofs.Sends.{sending}
+use Rattle.ledger.specs.Demand2.{Demand2}
+use Rattle.ledger.proofs.ByGrammar.{by-grammar, sd4-without-effect}
+use Rattle.ledger.proofs.Hearing.{hears, dialogue}
+use Rattle.ledger.proofs.EventsFollow.{events-open, publishing-raises}
+use Rattle.ledger.proofs.Fit.{replies-read}
+use Rattle.ledger.proofs.Octets.{sent-octets}
+
+pub demand-2 : Demand2
+demand-2 = record {
+  framing = framing;
+  first-octets = first-octets;
+  by-grammar = by-grammar;
+  sd4 = sd4-without-effect;
+  hears = hears;
+  dialogue = dialogue;
+  events-open = events-open;
+  publishing-raises = publishing-raises;
+  sending = sending;
+  reading-back = replies-read;
+  sent-octets = sent-octets;
+}
