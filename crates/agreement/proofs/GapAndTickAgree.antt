@@ -4,7 +4,7 @@ use mathlib.Core.Path.{_≡_, refl, sym, ap, _∙_}
 use mathlib.Core.Bool.{Bool, true, false, _||_, or-true, or-false}
 use mathlib.Core.List.{List, []}
 use Rattle.telegram.specs.Reading.{start, off, run}
-use Rattle.telegram.proofs.Run.{no-true}
+use Rattle.telegram.proofs.Run.{start-fresh, off-broken}
 use Rattle.state.specs.declared.control.Control.{Control}
 use Rattle.state.specs.declared.state.State.{State}
 use Rattle.rules.specs.Line.{ticked}
@@ -19,7 +19,7 @@ use Rattle.steps.specs.Stepped.{Stepped}
 use Rattle.steps.specs.Line.{begun, busy}
 use Rattle.steps.specs.Outcome.{carried, settle}
 use Rattle.state.specs.Start.{noReply}
-use Rattle.steps.specs.Reading.{readBy}
+use Rattle.steps.specs.Reading.{isIgnored, readBy}
 use Rattle.steps.specs.Bus.{paused, silencedReader, elapsed}
 use Rattle.steps.specs.Step.{step}
 use Rattle.agreement.proofs.DataStands.{gathered-none}
@@ -27,6 +27,7 @@ use Rattle.agreement.proofs.Relation.{ReadingAgrees, Agrees, Matches}
 use Rattle.agreement.proofs.SameLine.{begun-agrees, busy-agrees}
 use Rattle.rules.proofs.Served.{ticked-quiet}
 use Rattle.agreement.proofs.OutcomeCarried.{quiet-agrees}
+use Rattle.agreement.proofs.LineStays.{ignored-agrees}
 use Rattle.agreement.proofs.OnePartChanges.{reading-changed, reply-dropped}
 use Rattle.agreement.proofs.OutcomesKeepOrder.{closed-list}
 use Rattle.state.proofs.Choice.{both}
@@ -45,7 +46,7 @@ silenced {s} {m} {l} a = go (begun s) refl
     n b = record { ignored = b; telegram = []; reply = l .line .reply; diagnosing = l .line .diagnosing }
 
     broken : ReadingAgrees (readBy s off) m (n true)
-    broken = record { ignoring = refl; empty = λ _. refl; reading = λ e. no-true (sym e); stored = λ e. no-true (sym e) }
+    broken = ignored-agrees (ap isIgnored off-broken) refl refl
 
     as-before : ledger.begun l ≡ false → ReadingAgrees (readBy s (s .incoming .reader)) m (n (l .line .ignored))
     as-before e = record {
@@ -65,7 +66,7 @@ module _ {s : State} {m : List ℕ} {l : Ledger} (a : Agrees s m l) where
   gap-agrees =
       settle-agrees
       (reading-changed a start false []
-      (record { ignoring = refl; empty = λ _. refl; reading = λ _. refl; stored = λ _. gathered-none (readBy s start) m }))
+      (record { ignoring = ap isIgnored start-fresh; empty = λ _. refl; reading = λ _. refl; stored = λ _. gathered-none (readBy s start) m }))
 
   pub gap-matches : Matches (step s m gap) (ledger-calls.step l gap)
   gap-matches = record { answers = refl; agrees = gap-agrees }

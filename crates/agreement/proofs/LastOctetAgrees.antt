@@ -12,6 +12,7 @@ use Rattle.octets.proofs.Parts.{part-at}
 use Rattle.telegram.specs.Telegram.{Telegram, payloadOf}
 use Rattle.telegram.specs.Reading.{finished}
 use Rattle.telegram.specs.Sending.{left}
+use Rattle.telegram.proofs.Framing.{finished-complete}
 use Rattle.state.specs.declared.setup.Setup.{Setup}
 use Rattle.state.specs.declared.control.Control.{Control}
 use Rattle.state.specs.declared.state.State.{State}
@@ -27,7 +28,7 @@ use Rattle.ledger.specs.Bus as bus
 use Rattle.ledger.specs.Bus.{requestBy}
 use Rattle.steps.specs.Outcome.{openSets, carried}
 use Rattle.steps.specs.Replies.{replyFor}
-use Rattle.steps.specs.Reading.{readBy, prmIn, dataIn, outcomeOf, answered, completed}
+use Rattle.steps.specs.Reading.{isIgnored, readBy, prmIn, dataIn, outcomeOf, answered, completed}
 use Rattle.agreement.proofs.Relation.{Gathered, Agrees, After}
 use Rattle.agreement.proofs.Steady.{Steady}
 use Rattle.state.specs.Sound.{Ranged}
@@ -80,7 +81,7 @@ module _ {s : State} {m : List ℕ} {l : Ledger} (a : Agrees s m l) (d : Steady 
 
   -- octets are ignored from here on
   ignores : Agrees (reading s t) m (withLine l (bus.brokenOff (l .line)))
-  ignores = reading-changed a (finished t) true [] (ignored-agrees refl refl refl)
+  ignores = reading-changed a (finished t) true [] (ignored-agrees (ap isIgnored (finished-complete t)) refl refl)
 
   module _ (o : Outcome) (v : Served (s .setup) (s .control) (requestBy t) o) where
     -- the outcome carried out

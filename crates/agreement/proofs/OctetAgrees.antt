@@ -1,6 +1,5 @@
 -- The bus's octet: what it leaves agrees, be it ignored, a beginning, inner, the last, or one that breaks off.
 use Prim.Native.Nat.{ℕ}
-use native.Mathlib.Omega.{arith}
 use mathlib.Core.Path.{_≡_, refl, sym, ap, _∙_, subst}
 use mathlib.Core.Bool.{Bool, true, false}
 use mathlib.Core.List.{List, [], _∷_, _++_}
@@ -9,9 +8,9 @@ use Rattle.telegram.specs.declared.reader.Status.{Status}
 use Rattle.telegram.specs.declared.reader.Status.the-variants.{Fresh, Inside, Complete, Broken}
 use Rattle.telegram.specs.Telegram.{Telegram}
 use Rattle.telegram.specs.Reading.{off, start, readerStep, readerAfter, run, status, takesData, gathered, finished}
-use Rattle.telegram.proofs.Run.{no-true, inside-complete, broken-complete, run-snoc}
+use Rattle.telegram.proofs.Run.{no-true, inside-broken, inside-complete, broken-complete, off-broken, run-snoc}
 use Rattle.telegram.proofs.Framing.{framing}
-use Rattle.telegram.proofs.Above.{first-never, data-goes-on}
+use Rattle.telegram.proofs.Above.{first-never, first-plain, data-goes-on}
 use Rattle.state.specs.declared.state.State.{State}
 use Rattle.ledger.specs.Ledger as ledger
 use Rattle.ledger.specs.Ledger.{Ledger, withLine}
@@ -36,7 +35,7 @@ use Rattle.agreement.proofs.LastOctetAgrees.{completes}
 module _ (s : State) (m : List ℕ) (l : Ledger) (b : ℕ) (d : Steady l) (w : Ranged (l .setup)) (a : Agrees s m l) where
   -- broken off: octets are ignored until the next gap
   breaks-off : After (settle (readBy s off) m) (ledger-outcome.settle (withLine l (bus.brokenOff (l .line))))
-  breaks-off = settle-agrees (reading-changed a off true [] (ignored-agrees refl refl refl))
+  breaks-off = settle-agrees (reading-changed a off true [] (ignored-agrees (ap isIgnored off-broken) refl refl))
 
   abbrev r : Reader
   r = s .incoming .reader
@@ -58,7 +57,7 @@ module _ (s : State) (m : List ℕ) (l : Ledger) (b : ℕ) (d : Steady l) (w : R
         settle-agrees
         (reply-dropped
         (reading-changed a (readerStep r b) false (b ∷ [])
-        (record { ignoring = ap isIgnored e; empty = λ z. no-true z; reading = λ _. first n; stored = λ _. gathered-none (readBy s (readerStep r b)) m })))
+        (record { ignoring = ap isIgnored e; empty = λ z. no-true z; reading = λ _. first n; stored = λ _. rw (first-plain b) (gathered-none (readBy s (readerStep r b)) m) })))
 
     -- the last octet is no data octet
     no-data : status (readerStep r b) ≡ Complete → takesData r ≡ false
@@ -96,12 +95,12 @@ module _ (s : State) (m : List ℕ) (l : Ledger) (b : ℕ) (d : Steady l) (w : R
     -- by what the octets are with this one
     hears : (bad : Bool) (x : Status) → status (readerAfter r b bad) ≡ x → After (heardAs x s m (readerAfter r b bad) b) (bus.heardAs x l b)
     hears bad Fresh e = a
-    hears true Inside e = let z : _≡_ {A = ℕ} 0 1 = cc in absurd (omega arith)
+    hears true Inside e = absurd (inside-broken (sym e ∙ off-broken))
     hears false Inside e =
         both After (begun s) (ledger.begun l) _ _ _ _ (begun-agrees a)
         (λ c. inner-octet s m l b d a ignoring (sym (begun-agrees a) ∙ c) e)
         (λ c. begins (sym (begun-agrees a) ∙ c) e)
-    hears true Complete e = absurd (broken-complete e)
+    hears true Complete e = absurd (broken-complete (sym off-broken ∙ e))
     hears false Complete e = ends e
     hears bad Broken e = breaks-off
 

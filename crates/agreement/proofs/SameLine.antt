@@ -14,7 +14,7 @@ use Rattle.telegram.specs.declared.sender.Sender.{Sender}
 use Rattle.telegram.specs.Reading.{run, status}
 use Rattle.telegram.specs.Sending.{left}
 use Rattle.telegram.specs.ToSend.{toSend}
-use Rattle.telegram.proofs.Run.{no-true}
+use Rattle.telegram.proofs.Run.{no-true, start-fresh}
 use Rattle.telegram.proofs.Framing.{framing}
 use Rattle.telegram.proofs.Sends.{none, one}
 use Rattle.state.specs.declared.state.Sets as station-sets
@@ -36,7 +36,7 @@ ignored-idle Complete e = refl
 ignored-idle Broken e = refl
 
 runs-begun : (xs : List ℕ) → isIgnored (status (run xs)) ≡ false → isInside (status (run xs)) ≡ some xs
-runs-begun [] e = refl
+runs-begun [] e = ap isInside start-fresh
 runs-begun (x ∷ xs) e = go (status (run (x ∷ xs))) refl e
   where
     go : (t : Status) → status (run (x ∷ xs)) ≡ t → isIgnored t ≡ false → isInside t ≡ true

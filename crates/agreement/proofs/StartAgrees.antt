@@ -7,13 +7,14 @@ use lib.ListN.{length}
 use Rattle.buffers.proofs.Roles.{initial-permutation}
 use Rattle.octets.specs.Part.{part}
 use Rattle.telegram.specs.Sending.{empty}
-use Rattle.telegram.proofs.Run.{no-true}
+use Rattle.telegram.proofs.Run.{no-true, off-broken}
 use Rattle.telegram.proofs.Sends.{none}
 use Rattle.state.specs.declared.setup.Setup.{Setup}
 use Rattle.state.specs.Layout.{outputRow, inputRow, diagnosisRow, getCfgAt, endOf}
 use Rattle.state.specs.Sound.{Ranged}
 use Rattle.state.specs.Start.{initialState, laidOut}
 use Rattle.state.proofs.LaidOut.{laid-length, laid-zeros, laid-slice}
+use Rattle.steps.specs.Reading.{isIgnored}
 use Rattle.ledger.specs.Ledger.{fresh}
 use Rattle.agreement.proofs.Relation.{Agrees}
 use Rattle.agreement.proofs.Steady.{ReplySteady, Related}
@@ -39,7 +40,7 @@ module _ (m : List ℕ) (s : Setup) (slice : List ℕ) (long : s .«get_cfg_len�
         configuration = record { shown = refl; waiting = refl; shown-count = refl; waiting-count = refl; fresh = refl };
         diagnosis = record { own = zeros diagnosisRow 0 (omega arith) (omega arith); user = zeros diagnosisRow 1 (omega arith) (omega arith) };
         slice = ap (λ (n : ℕ). part (laidOut m s slice) (getCfgAt s) n) long ∙ laid-slice m s slice long room;
-        reading = ignored-agrees refl refl refl;
+        reading = ignored-agrees (ap isIgnored off-broken) refl refl;
         reply = ([], record { count = refl; octets = λ k g. absurd (omega arith); unsent = none empty [] refl; diagnosis = refl });
         safe = record {
           outputs = initial-permutation;

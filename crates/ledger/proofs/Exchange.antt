@@ -106,12 +106,12 @@ pub record Lengthens (n : Line) (b : ℕ) (bad : Bool) : Type 0 where
 
 -- inside, octets came
 came : (xs : List ℕ) → status (run xs) ≡ Inside → some xs ≡ true
-came [] e = let z : _≡_ {A = ℕ} 0 1 = cc in absurd (omega arith)
+came [] e = absurd (framing [] .part .0 e .0 refl)
 came (x ∷ xs) e = refl
 
 -- with an octet something has begun
 pub not-fresh : (xs : List ℕ) (b : ℕ) (bad : Bool) → status (readerAfter (run xs) b bad) ≡ Fresh → ⊥
-not-fresh xs b true e = let z : _≡_ {A = ℕ} 0 1 = cc in omega arith
+not-fresh xs b true e = let f = framing xs .flagged b [] in let z : _≡_ {A = ℕ} 0 1 = cc in omega arith
 not-fresh xs b false e = none xs (framing (xs ++ b ∷ []) .nothing .0 (ap status (run-snoc xs b) ∙ e))
   where
     none : (ys : List ℕ) → ys ++ b ∷ [] ≡ [] → ⊥

@@ -6,7 +6,6 @@ use mathlib.Core.List.{List, []}
 use mathlib.Core.Logic.{inl, inr}
 use lib.ListN.{length, take, drop, length-append, length-take, length-drop}
 use Rattle.telegram.specs.Telegram.{Telegram, octetsOf, Valid}
-use Rattle.telegram.proofs.ReadBack.{reads, gathers}
 use Rattle.telegram.proofs.Framing.{framing}
 use Rattle.state.specs.declared.setup.Setup.{Setup}
 use Rattle.state.specs.declared.control.Control.{Control}
@@ -53,7 +52,9 @@ module _ (s : Setup) (slice : List ℕ) (c : Control) (b : Buffers) (master : �
 
 -- and reads back
 telegram-reads : (t : Telegram) → Valid t → ReadsBack (octetsOf t) t
-telegram-reads t v = record { octets-are = refl; valid = v; fields-are = reads t v; data-are = gathers t v; telegram-is = framing (octetsOf t) .told t v refl }
+telegram-reads t v =
+    let f = framing (octetsOf t) in
+    record { octets-are = refl; valid = v; fields-are = f .fields t v refl .0; data-are = f .fields t v refl .1; telegram-is = f .told t v refl }
 
 pub reply-reads : (r : Reply) → ValidReply r → (u : Telegram) → r ≡ answer u → ReadsBack (replyOctets r) u
 reply-reads silence v u e = let z : _≡_ {A = ℕ} 0 1 = cc in absurd (omega arith)

@@ -31,15 +31,22 @@ longer (sd4 da sa) b e = let l = ap length e in omega arith
 pub first-never : (b : ℕ) → status (readerStep start b) ≡ Complete → ⊥
 first-never b e = let w = framing (b ∷ []) .whole .0 e in longer (w .0) b (w .2)
 
+-- nor is it data
+pub first-plain : (b : ℕ) → gathered start (b ∷ []) ≡ []
+unfolding takesData
+first-plain b = refl
+
 -- ---- which data octet the next octet is
 
 module _ (r : Reader) where
   -- number r .at if it is one
   pub datum-number : takesData r ≡ true → datumOf r ≡ Number (r .at)
+  unfolding datumOf
   datum-number e = rw e
 
   -- none if not
   pub datum-nothing : takesData r ≡ false → datumOf r ≡ Nothing
+  unfolding datumOf
   datum-nothing e = rw e
 
   -- both cases
@@ -61,10 +68,12 @@ pub record Onward (r q : Reader) : Type 0 where
 module _ (r : Reader) (b : ℕ) (e : takesData r ≡ true) where
   -- comes inside a telegram
   pub data-inside : status r ≡ Inside
+  unfolding status
   data-inside = ap statusAt (data-body r e)
 
   -- and leaves it inside
   pub data-goes-on : status (readerStep r b) ≡ Inside
+  unfolding status
   data-goes-on = ap status (sym (data-step r e b))
 
   -- it changes how many were read and the checksum, and nothing else

@@ -39,6 +39,7 @@ more n i t y ys w =
 
 module _ (k : Kind) (n da sa fc dp sp : ℕ) where
   last : (i s : ℕ) (ys : List ℕ) → status (runFrom (rd End k n i da sa fc dp sp s) ys) ≡ Complete → ys ≡ 0x16 ∷ []
+  unfolding status
   last i s [] h = absurd (inside-complete h)
   last i s (y ∷ ys) h =
       let p = passed (rd End k n i da sa fc dp sp s) y ys h in
@@ -46,7 +47,7 @@ module _ (k : Kind) (n da sa fc dp sp : ℕ) where
       let f = ended k n i da sa fc dp sp s ys (p .1) in cc
 
   body : (i t : ℕ) (ys : List ℕ) → i ≤ n → status (runFrom (rd Body k n i da sa fc dp sp (t % 256)) ys) ≡ Complete → Rest n i t ys
-  unfolding Rest
+  unfolding Rest status
   body i t [] l h = absurd (inside-complete h)
   body i t (y ∷ ys) l h =
       go (ltb i n) refl (passed (rd Body k n i da sa fc dp sp (t % 256)) y ys h) (λ l'. body (i + 1) (t + y) ys l')
@@ -76,6 +77,7 @@ points n t x y ys w =
 -- behind FC
 after-fc : (k : Kind) (n da sa fc t : ℕ) (c : Bool) (ys : List ℕ)
     → status (runFrom (rd (cond c Dsap Body) k n 0 da sa fc 0 0 (t % 256)) ys) ≡ Complete → Rest (cond c (n + 2) n) 0 t ys
+unfolding status
 after-fc k n da sa fc t false ys h = body k n da sa fc 0 0 0 t ys (omega arith) h
 after-fc k n da sa fc t true [] h = absurd (inside-complete h)
 after-fc k n da sa fc t true (x ∷ []) h =
@@ -122,6 +124,7 @@ recounted n da = go (leb 128 da)
     go false e = refl
 
 framed : (k : Kind) → afterSa k ≡ Fc → (n : ℕ) (ys : List ℕ) → status (runFrom (before Da k n) ys) ≡ Complete → Framed n ys
+unfolding status
 framed k e n [] h = absurd (inside-complete h)
 framed k e n (da ∷ []) h = absurd (inside-complete (passed (before Da k n) da [] h .1))
 framed k e n (da ∷ sa ∷ []) h =
@@ -152,6 +155,7 @@ is-sd3 : (ys : List ℕ) → Framed 8 ys → IsTelegram (0xA2 ∷ ys)
 is-sd3 ys f = (sd3 (f .da) (f .sa) (f .fc) (f .ds), (f .count, f .fit), cc)
 
 is-sd4 : (ys : List ℕ) → status (runFrom (before Da Sd4 0) ys) ≡ Complete → IsTelegram (0xDC ∷ ys)
+unfolding status
 is-sd4 [] h = absurd (inside-complete h)
 is-sd4 (da ∷ []) h = absurd (inside-complete (passed (before Da Sd4 0) da [] h .1))
 is-sd4 (da ∷ sa ∷ ys) h =
@@ -168,6 +172,7 @@ sd2-of a b m ys l u e g f =
     (sd2 (f .da) (f .sa) (f .fc) (f .ds), (omega arith, omega arith, rw c (f .fit)), cc)
 
 is-sd2 : (ys : List ℕ) → status (runFrom (before Le Sd2 0) ys) ≡ Complete → IsTelegram (0x68 ∷ ys)
+unfolding status
 is-sd2 [] h = absurd (inside-complete h)
 is-sd2 (a ∷ []) h = absurd (inside-complete (passed (before Le Sd2 0) a [] h .1))
 is-sd2 (a ∷ b ∷ []) h =
@@ -182,6 +187,7 @@ is-sd2 (a ∷ b ∷ m ∷ ys) h =
     (framed Sd2 refl (a - 3) ys (r .1))
 
 pub accepted : (xs : List ℕ) → status (run xs) ≡ Complete → IsTelegram xs
+unfolding status
 accepted [] h = absurd (fresh-complete h)
 accepted (b ∷ ys) h =
     go (eqb b 0x10) refl (eqb b 0xA2) refl (eqb b 0xDC) refl (eqb b 0x68) refl (passed start b ys h)

@@ -22,6 +22,7 @@ isFresh Broken = false
 
 first-on : (p q s : Bool)
     → isFresh (status (cond p (before Da Sd1 0) (cond q (before Da Sd3 8) (cond s (before Da Sd4 0) (before Le Sd2 0))))) ≡ false
+unfolding status
 first-on true q s = refl
 first-on false true s = refl
 first-on false false true = refl
@@ -38,6 +39,7 @@ fc-on true = refl
 fc-on false = refl
 
 next-on : (p : Phase) (r : Reader) (b : ℕ) → isFresh (status (nextAt p r b)) ≡ false
+unfolding status
 next-on Start r b = first-on (eqb b 0x10) (eqb b 0xA2) (eqb b 0xDC)
 next-on Le r b = refl
 next-on LeAgain r b = refl
@@ -58,7 +60,7 @@ next-on Done r b = refl
 next-on Off r b = refl
 
 step-on : (r : Reader) (b : ℕ) → isFresh (status (readerStep r b)) ≡ false
-unfolding readerStep
+unfolding readerStep status
 step-on r b = go (okAt (r .phase) r b)
   where
     go : (c : Bool) → isFresh (status (cond c (nextAt (r .phase) r b) off)) ≡ false

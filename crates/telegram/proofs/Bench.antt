@@ -5,7 +5,7 @@ use mathlib.Core.List.{List, [], _∷_, _++_}
 use lib.ListN.{replicate}
 use Rattle.telegram.specs.declared.reader.Status.the-variants.{Inside, Complete, Broken}
 use Rattle.telegram.specs.Telegram.{sd1, sd2, octetsOf}
-use Rattle.telegram.specs.Reading.{run, status, readerStep, start, gathered, finished}
+use Rattle.telegram.specs.Reading.{run, status, readerStep, start, gathered, finished, takesData}
 
 -- a: a status request of master 2 to station 5, and the reply
 a : List ℕ
@@ -27,7 +27,7 @@ unfolding readerStep b
 b-read = refl
 
 b-points : ((run b) .dsap ≡ 0x3C) × ((run b) .ssap ≡ 0x3E) × (gathered start b ≡ [])
-unfolding readerStep b
+unfolding readerStep b takesData
 b-points = (refl, refl, refl)
 
 b-reply : octetsOf (sd2 0x82 0x85 0x08 (0x3E ∷ 0x3C ∷ 0x02 ∷ 0x05 ∷ 0x00 ∷ 0xFF ∷ 0x80 ∷ 0xB3 ∷ []))
@@ -36,16 +36,16 @@ b-reply = refl
 
 -- g: a with another check octet breaks off at it
 g : (status (run (0x10 ∷ 0x05 ∷ 0x02 ∷ 0x49 ∷ [])) ≡ Inside) × (status (run (0x10 ∷ 0x05 ∷ 0x02 ∷ 0x49 ∷ 0x51 ∷ [])) ≡ Broken)
-unfolding readerStep
+unfolding readerStep status
 g = (refl, refl)
 
 -- h, i: LE 3 and LE 250 break off
 h : status (run (0x68 ∷ 3 ∷ [])) ≡ Broken
-unfolding readerStep
+unfolding readerStep status
 h = refl
 
 i : status (run (0x68 ∷ 250 ∷ [])) ≡ Broken
-unfolding readerStep
+unfolding readerStep status
 i = refl
 
 -- j: LE 249 is read, with 246 data octets
@@ -53,16 +53,16 @@ j : List ℕ
 j = 0x68 ∷ 249 ∷ 249 ∷ 0x68 ∷ 5 ∷ 2 ∷ 0x5D ∷ (replicate 246 0 ++ (0x64 ∷ 0x16 ∷ []))
 
 j-read : (status (run j) ≡ Complete) × (gathered start j ≡ replicate 246 0)
-unfolding readerStep j
+unfolding readerStep j status takesData
 j-read = (refl, refl)
 
 -- the first octet after which no telegram can result: DA with bit 7 in SD1, in SD4 and in an SD2 with one data octet
 no-room : (status (run (0x10 ∷ 0x85 ∷ [])) ≡ Broken) × (status (run (0xDC ∷ 0x85 ∷ [])) ≡ Broken)
     × (status (run (0x68 ∷ 4 ∷ 4 ∷ 0x68 ∷ 0x85 ∷ [])) ≡ Broken) × (status (run (0x68 ∷ 5 ∷ 5 ∷ 0x68 ∷ 0x85 ∷ [])) ≡ Inside)
-unfolding readerStep
+unfolding readerStep status
 no-room = (refl, refl, refl, refl)
 
 -- the acknowledgement E5 begins no telegram
 single-unread : status (run (0xE5 ∷ [])) ≡ Broken
-unfolding readerStep
+unfolding readerStep status
 single-unread = refl

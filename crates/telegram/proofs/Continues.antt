@@ -37,7 +37,7 @@ leads-via r b e l w = (b ∷ w .0, (l, w .1), ap status (on (w .0) (goes r b e))
 
 module _ (k : Kind) where
   leads-done : (n i da sa fc dp sp s : ℕ) → Leads (rd Done k n i da sa fc dp sp s)
-  unfolding Leads
+  unfolding Leads status
   leads-done n i da sa fc dp sp s = ([], tt, refl)
 
   leads-end : (n i da sa fc dp sp s : ℕ) → Leads (rd End k n i da sa fc dp sp s)
@@ -120,6 +120,7 @@ leads-at Done k n i da sa fc dp sp s l u e = no-true e
 leads-at Off k n i da sa fc dp sp s l u e = no-true e
 
 pub leads : (r : Reader) → Small r → goesOn (status r) ≡ true → Leads r
+unfolding status
 leads r m e =
     leads-at (r .phase) (r .kind) (r .count) (r .at) (r .da) (r .sa) (r .fc) (r .dsap) (r .ssap) (r .sum) (m .0) (m .1) e
 

@@ -16,7 +16,7 @@ use Rattle.telegram.specs.declared.reader.Status.the-variants.{Fresh, In
 use Rattle.telegram.specs.Telegram.{Telegram, sd1, sd2, sd3, sd4, octetsOf, payloadOf, Addresses, Valid, IsTelegram, Octets}
 use Rattle.telegram.specs.Reading.{off, start, okAt, readerStep, runFrom, run, status, statusAt, gathered, finished, telegramOf}
 use Rattle.telegram.specs.Framing.{Continues, FramingPromise}
-use Rattle.telegram.proofs.Run.{no-true, broken-complete, on, off-stays, run-append}
+use Rattle.telegram.proofs.Run.{no-true, broken-complete, start-fresh, on, stays-broken, run-append}
 use Rattle.telegram.proofs.Accepts.{accepted}
 use Rattle.telegram.proofs.ReadBack.{reads, gathers}
 use Rattle.telegram.proofs.Continues.{Leads, goesOn, leads, small-run}
@@ -40,22 +40,24 @@ no-more Done r b h = refl
 no-more Off r b h = refl
 
 pub shut : (r : Reader) (b : ℕ) → goesOn (status r) ≡ false → readerStep r b ≡ off
-unfolding readerStep
+unfolding readerStep status
 shut r b h = rw (no-more (r .phase) r b h)
 
-finished-complete : (t : Telegram) → status (finished t) ≡ Complete
+-- a reader that has read a telegram is complete
+pub finished-complete : (t : Telegram) → status (finished t) ≡ Complete
+unfolding status
 finished-complete t = refl
 
 completes : (xs : List ℕ) → IsTelegram xs → status (run xs) ≡ Complete
 completes xs w = rw (← (w .2)) (ap status (reads (w .0) (w .1)) ∙ finished-complete (w .0))
 
 -- it is broken off by each further octet
-breaks : (xs : List ℕ) → goesOn (status (run xs)) ≡ false → (y : ℕ) (ys : List ℕ) → run (xs ++ y ∷ ys) ≡ off
-breaks xs h y ys = run-append start xs (y ∷ ys) ∙ on ys (shut (run xs) y h) ∙ off-stays ys
+breaks : (xs : List ℕ) → goesOn (status (run xs)) ≡ false → (y : ℕ) (ys : List ℕ) → status (run (xs ++ y ∷ ys)) ≡ Broken
+breaks xs h y ys = ap status (run-append start xs (y ∷ ys) ∙ on ys (shut (run xs) y h)) ∙ stays-broken ys
 
 -- so that no telegram results
 stops : (xs : List ℕ) → goesOn (status (run xs)) ≡ false → (y : ℕ) (ys : List ℕ) → IsTelegram (xs ++ y ∷ ys) → ⊥
-stops xs h y ys w = broken-complete (ap status (sym (breaks xs h y ys)) ∙ completes (xs ++ y ∷ ys) w)
+stops xs h y ys w = broken-complete (sym (breaks xs h y ys) ∙ completes (xs ++ y ∷ ys) w)
 
 -- while from a reader that goes on some octets lead to a telegram
 continues : (xs : List ℕ) → goesOn (status (run xs)) ≡ true → Continues xs
@@ -88,7 +90,7 @@ unique xs t u v w e f =
     sym (told t v) ∙ ap (λ (l : List ℕ). telegramOf (run l) (gathered start l)) (e ∙ sym f) ∙ told u w
 
 inside-begun : (xs : List ℕ) → status (run xs) ≡ Inside → xs ≡ [] → ⊥
-inside-begun xs e n = let f = ap (λ (l : List ℕ). status (run l)) n in let z : _≡_ {A = ℕ} 0 1 = cc in omega arith
+inside-begun xs e n = let f = ap (λ (l : List ℕ). status (run l)) n ∙ start-fresh in let z : _≡_ {A = ℕ} 0 1 = cc in omega arith
 
 module _ (xs : List ℕ) where
   part-back : ¬ (xs ≡ []) → ¬ IsTelegram xs → Continues xs → status (run xs) ≡ Inside
@@ -111,14 +113,14 @@ module _ (xs : List ℕ) where
 
   still : status (run xs) ≡ Broken → (ys : List ℕ) → status (run (xs ++ ys)) ≡ Broken
   still e [] = ap status (run-append start xs []) ∙ e
-  still e (y ∷ ys) = ap status (breaks xs (ap goesOn e) y ys)
+  still e (y ∷ ys) = breaks xs (ap goesOn e) y ys
 
   no-telegram : (s : Status) → status (run xs) ≡ s → (s ≡ Complete → ⊥) → ¬ IsTelegram xs
   no-telegram s e n w = n (sym e ∙ completes xs w)
 
 pub framing : FramingPromise
 framing xs = record {
-  nothing = (begun xs, λ e. ap (λ (l : List ℕ). status (run l)) e);
+  nothing = (begun xs, λ e. ap (λ (l : List ℕ). status (run l)) e ∙ start-fresh);
   whole = (accepted xs, completes xs);
   part = (
     λ e. (inside-begun xs e, no-telegram xs Inside e (λ f. let z : _≡_ {A = ℕ} 0 1 = cc in omega arith), continues xs (ap goesOn e)),
@@ -132,7 +134,7 @@ framing xs = record {
   told = λ t v e. rw (← e) (told t v);
   only = λ t u v w e f. unique xs t u v w e f;
   stays = still xs;
-  ends = λ w y ys. (stops xs (ap goesOn (completes xs w)) y ys, ap status (breaks xs (ap goesOn (completes xs w)) y ys));
-  flagged = λ b ys. ap status (off-stays ys);
+  ends = λ w y ys. (stops xs (ap goesOn (completes xs w)) y ys, breaks xs (ap goesOn (completes xs w)) y ys);
+  flagged = λ b ys. stays-broken ys;
   sums = λ t ps qs v w e. rw (← e) (sums t ps qs v w);
 }

@@ -13,7 +13,7 @@ use Rattle.telegram.specs.declared.reader.Phase.the-variants.{Start, Le,
 use Rattle.telegram.specs.declared.reader.Reader.{Reader}
 use Rattle.telegram.specs.declared.reader.Status.the-variants.{Broken}
 use Rattle.telegram.specs.Reading.{rd, before, moved, off, okAt, nextAt, readerStep, runFrom, status, inBody, takesData, gathered}
-use Rattle.telegram.proofs.Run.{no-true, off-stays}
+use Rattle.telegram.proofs.Run.{no-true, stays-broken}
 use Rattle.telegram.proofs.Onward.{inHead}
 
 pub gather-append : (r : Reader) (xs ys : List ℕ) → gathered r (xs ++ ys) ≡ gathered r xs ++ gathered (runFrom r xs) ys
@@ -89,7 +89,7 @@ length-cond false x l = omega arith
 -- as many data octets are gathered as the reader has counted
 pub counts-from : (r : Reader) (xs : List ℕ) → None r → ¬ (status (runFrom r xs) ≡ Broken)
     → (runFrom r xs) .at ≡ r .at + length (gathered r xs)
-unfolding readerStep
+unfolding readerStep takesData
 counts-from r [] f n = sym (add-zero (r .at))
 counts-from r (x ∷ xs) f n = go (okAt (r .phase) r x) refl n (counts-from (readerStep r x) xs)
   where
@@ -105,4 +105,4 @@ counts-from r (x ∷ xs) f n = go (okAt (r .phase) r x) refl n (counts-from (rea
         let s = next-at (r .phase) r x f e in
         let l = length-cond (takesData r) x (gathered (nextAt (r .phase) r x) xs) in
         omega arith
-    go false e m ih = absurd (m (ap status (off-stays xs)))
+    go false e m ih = absurd (m (stays-broken xs))

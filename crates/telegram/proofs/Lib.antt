@@ -2,7 +2,7 @@ mod Steps
 pub mod Run
 pub mod Checksum
 mod Accepts
-pub mod ReadBack
+mod ReadBack
 mod Continues
 mod Begun
 mod Onward

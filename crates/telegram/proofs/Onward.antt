@@ -57,7 +57,7 @@ next-onward Off r b h o = no-true o
 module _ (r : Reader) (b : ℕ) (h : inHead (r .phase) ≡ false) where
   -- a step from behind the header leaves DA and DSAP, unless it breaks off
   pub step-onward : ¬ (status (readerStep r b) ≡ Broken) → (readerStep r b .da ≡ r .da) × (readerStep r b .dsap ≡ r .dsap)
-  unfolding readerStep
+  unfolding readerStep status
   step-onward = go (okAt (r .phase) r b) refl
     where
       go : (c : Bool) → okAt (r .phase) r b ≡ c → ¬ (status (cond c (nextAt (r .phase) r b) off) ≡ Broken)

@@ -104,6 +104,7 @@ module _ (k : Kind) (n da sa fc dp sp : ℕ) where
 
   gather-body : (i t : ℕ) (ds : List ℕ) → i + length ds ≡ n
       → gathered (rd Body k n i da sa fc dp sp (t % 256)) (ds ++ ((t + total ds) % 256 ∷ 0x16 ∷ [])) ≡ ds
+  unfolding takesData
   gather-body i t [] e =
       let l : n ≤ i = omega arith in
       rw (le-ltb i n l, add-zero t, step-check k n i da sa fc dp sp (t % 256) l)
@@ -129,6 +130,7 @@ module _ {A : Type 0} (F : Reader → List ℕ → A)
 
   pub head2 : (n : ℕ) (ys : List ℕ) → 4 ≤ n + 3 → n + 3 ≤ 249
       → F start (0x68 ∷ (n + 3) ∷ (n + 3) ∷ 0x68 ∷ ys) ≡ F (before Da Sd2 n) ys
+  unfolding takesData
   head2 n ys l u =
       via _ _ 0x68 _ refl (step-start .3)
       ∙ via _ _ (n + 3) _ refl (step-le n l u)
@@ -137,6 +139,7 @@ module _ {A : Type 0} (F : Reader → List ℕ → A)
 
   pub head : (k : Kind) → afterSa k ≡ Fc → (n da sa fc : ℕ) (ys : List ℕ) (c : Bool) → leb 128 da ≡ c → Addresses n da sa
       → F (before Da k n) (da ∷ sa ∷ fc ∷ ys) ≡ F (rd (cond c Dsap Body) k (counted da n) 0 da sa fc 0 0 ((0 + da + sa + fc) % 256)) ys
+  unfolding takesData
   head k e n da sa fc ys c m a =
       let s = ((0 + da) % 256 + sa) % 256 in
       via _ _ da _ refl (step-da k n da sa a)
@@ -145,6 +148,7 @@ module _ {A : Type 0} (F : Reader → List ℕ → A)
 
   pub points : (k : Kind) (n da sa fc t x y : ℕ) (ys : List ℕ)
       → F (rd Dsap k n 0 da sa fc 0 0 (t % 256)) (x ∷ y ∷ ys) ≡ F (rd Body k n 0 da sa fc x y ((t + x + y) % 256)) ys
+  unfolding takesData
   points k n da sa fc t x y ys =
       via _ _ x _ refl (step-dsap k n da sa fc (t % 256) x)
       ∙ via _ _ y _ refl (step-ssap k n da sa fc x ((t % 256 + x) % 256) y ∙ ap (λ (s : ℕ). rd Body k n 0 da sa fc x y s) (sum5 t x y))
@@ -234,7 +238,7 @@ reads (sd4 da sa) v =
 
 -- and its data octets are those that the reader tells of, in order
 pub gathers : (t : Telegram) → Valid t → gathered start (octetsOf t) ≡ payloadOf t
-unfolding Behind
+unfolding Behind takesData
 gathers (sd1 da sa fc) v =
     via gathered gather-skip start _ 0x10 (da ∷ sa ∷ fc ∷ Behind Sd1 refl 0 da sa fc []) refl (step-start .0) ∙ gather-framed Sd1 refl 0 da sa fc [] v refl
 gathers (sd2 da sa fc ds) v =

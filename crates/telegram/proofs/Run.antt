@@ -25,6 +25,15 @@ inside-broken e = let z : _≡_ {A = ℕ} 0 1 = cc in omega arith
 pub fresh-complete : Fresh ≡ Complete → ⊥
 fresh-complete e = let z : _≡_ {A = ℕ} 0 1 = cc in omega arith
 
+-- nothing has begun after a gap
+pub start-fresh : status start ≡ Fresh
+unfolding status
+start-fresh = refl
+
+pub off-broken : status off ≡ Broken
+unfolding status
+off-broken = refl
+
 -- equal readers run alike
 pub on : {p q : Reader} (ys : List ℕ) → p ≡ q → runFrom p ys ≡ runFrom q ys
 on ys e = ap (λ (r : Reader). runFrom r ys) e
@@ -46,6 +55,9 @@ pub off-stays : (ys : List ℕ) → runFrom off ys ≡ off
 off-stays [] = refl
 off-stays (y ∷ ys) = rw (step-off y) (off-stays ys)
 
+pub stays-broken : (ys : List ℕ) → status (runFrom off ys) ≡ Broken
+stays-broken ys = ap status (off-stays ys) ∙ off-broken
+
 -- the octet may come: the step leads on
 pub goes : (r : Reader) (b : ℕ) → okAt (r .phase) r b ≡ true → readerStep r b ≡ nextAt (r .phase) r b
 unfolding readerStep
@@ -60,4 +72,4 @@ passed r b ys = go (okAt (r .phase) r b)
     go : (t : Bool) → status (runFrom (cond t (nextAt (r .phase) r b) off) ys) ≡ Complete
         → (t ≡ true) × (status (runFrom (nextAt (r .phase) r b) ys) ≡ Complete)
     go true h = (refl, h)
-    go false h = absurd (broken-complete (ap status (sym (off-stays ys)) ∙ h))
+    go false h = absurd (broken-complete (sym (stays-broken ys) ∙ h))

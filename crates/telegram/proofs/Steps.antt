@@ -148,9 +148,11 @@ fc-marked da h = rw (le-leb 128 da h)
 
 module _ (r : Reader) where
   pub datum-next : inBody (r .phase) ≡ true → r .at < r .count → Number (r .at) ≡ datumOf r
+  unfolding datumOf takesData
   datum-next e h = rw (e, lt-ltb (r .at) (r .count) h)
 
   pub datum-full : inBody (r .phase) ≡ true → r .count ≤ r .at → Nothing ≡ datumOf r
+  unfolding datumOf takesData
   datum-full e h = rw (e, le-ltb (r .at) (r .count) h)
 
 -- ---- a data octet
@@ -172,9 +174,11 @@ in-body Off c e = no-true e
 
 module _ (r : Reader) (e : takesData r ≡ true) where
   pub data-body : r .phase ≡ Body
+  unfolding takesData
   data-body = in-body (r .phase) (ltb (r .at) (r .count)) e .0
 
   pub data-room : r .at < r .count
+  unfolding takesData
   data-room = ltb-true (r .at) (r .count) (in-body (r .phase) (ltb (r .at) (r .count)) e .1)
 
   pub data-step : (b : ℕ) → rd Body (r .kind) (r .count) (r .at + 1) (r .da) (r .sa) (r .fc) (r .dsap) (r .ssap) ((r .sum + b) % 256) ≡ readerStep r b

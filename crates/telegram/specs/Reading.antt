@@ -143,7 +143,7 @@ statusAt Done = Complete
 statusAt Off = Broken
 
 -- what a reader tells
-abbrev pub status : Reader → Status
+unfoldable pub status : Reader → Status
 status r = statusAt (r .phase)
 
 -- the next octet is a data octet or the check octet
@@ -163,11 +163,11 @@ inBody Done = false
 inBody Off = false
 
 -- is the next octet a data octet, number r .at?
-abbrev pub takesData : Reader → Bool
+unfoldable pub takesData : Reader → Bool
 takesData r = inBody (r .phase) && ltb (r .at) (r .count)
 
 -- which data octet the next octet is, if it is one
-abbrev pub datumOf : Reader → Datum
+unfoldable pub datumOf : Reader → Datum
 datumOf r = cond (takesData r) (Number (r .at)) Nothing
 
 -- the data octets among those that come, in order, DSAP and SSAP left out

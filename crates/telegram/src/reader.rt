@@ -3,7 +3,7 @@ use crate::Datum;
 use crate::Kind;
 ghost use mathlib.Core.Path.{_≡_};
 ghost use mathlib.Core.Bool.{true};
-ghost use Rattle.telegram.specs.Reading.{start, off, before, moved, summed, afterSa, afterFc, nextAt, stepAt, readerStep, readerAfter, status, inBody, takesData, datumOf};
+ghost use Rattle.telegram.specs.Reading.{start, off, before, moved, summed, afterSa, afterFc, nextAt, stepAt, readerStep, readerAfter, statusAt, status, inBody, takesData, datumOf};
 
 // What the next octet is.
 pub enum Phase {
@@ -80,21 +80,7 @@ impl Reader {
         ensures { λ r. ⌜ r ≡ status self ⌝ }
     {
         let phase = self.phase;
-        match phase {
-            Phase::Start => Status::Fresh,
-            Phase::Le => Status::Inside,
-            Phase::LeAgain => Status::Inside,
-            Phase::SdAgain => Status::Inside,
-            Phase::Da => Status::Inside,
-            Phase::Sa => Status::Inside,
-            Phase::Fc => Status::Inside,
-            Phase::Dsap => Status::Inside,
-            Phase::Ssap => Status::Inside,
-            Phase::Body => Status::Inside,
-            Phase::End => Status::Inside,
-            Phase::Done => Status::Complete,
-            Phase::Off => Status::Broken,
-        }
+        status_at(phase)
     }
 
     // Which data octet the next octet is, DSAP and SSAP left out.
@@ -327,6 +313,27 @@ impl Reader {
             ssap: self.ssap,
             sum: self.sum,
         }
+    }
+}
+
+// What a reader tells, by its phase.
+fn status_at(phase: Phase) -> Status
+    ensures { λ r. ⌜ r ≡ statusAt phase ⌝ }
+{
+    match phase {
+        Phase::Start => Status::Fresh,
+        Phase::Le => Status::Inside,
+        Phase::LeAgain => Status::Inside,
+        Phase::SdAgain => Status::Inside,
+        Phase::Da => Status::Inside,
+        Phase::Sa => Status::Inside,
+        Phase::Fc => Status::Inside,
+        Phase::Dsap => Status::Inside,
+        Phase::Ssap => Status::Inside,
+        Phase::Body => Status::Inside,
+        Phase::End => Status::Inside,
+        Phase::Done => Status::Complete,
+        Phase::Off => Status::Broken,
     }
 }
 

@@ -1,4 +1,5 @@
 use borrow.Author.Needs.{needs}
+use Rattle.telegram.specs.Reading.{takesData}
 use Rattle.telegram.proofs.reader.Reader.takes_data.Statement.{statement}
 use Rattle.telegram.proofs.reader.Reader.takes_data.Tie as tie
 
@@ -6,6 +7,7 @@ in-body-requires : tie.Need-in-body-requires
 in-body-requires c κs = search needs
 
 returns : tie.Need-returns
+unfolding takesData
 returns c = simp (c .before .in-body .ensures)
 
 pub takes-data-spec : {M : Type 1} → statement M
