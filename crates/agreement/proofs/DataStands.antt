@@ -12,7 +12,7 @@ use Rattle.buffers.specs.Triple.{fillOf}
 use Rattle.telegram.specs.declared.reader.Reader.{Reader}
 use Rattle.telegram.specs.declared.reader.Status.the-variants.{Broken}
 use Rattle.telegram.specs.Reading.{start, readerStep, run, status, takesData, gathered}
-use Rattle.telegram.proofs.Above.{Onward, gathered-or-onward, gather-plain}
+use Rattle.telegram.proofs.Above.{Onward, empty-or-onward, gather-plain}
 use Rattle.state.specs.declared.state.State.{State}
 use Rattle.state.specs.Layout.{outputRow, parameterRow, configurationRow, rowCount, rowLength, startOf}
 use Rattle.state.proofs.Places.{inside}
@@ -81,7 +81,7 @@ pub gathered-on : (s : State) (m : List ℕ) (xs : List ℕ) (b : ℕ) → s .in
     → Gathered (readBy s (readerStep (run xs) b)) m (gathered start (xs ++ b ∷ []))
 gathered-on s m xs b e t n g =
     let q = readerStep (run xs) b in
-    subst (λ (ds : List ℕ). Gathered (readBy s q) m ds) (sym (gather-plain xs b t)) (go (gathered-or-onward xs b n))
+    subst (λ (ds : List ℕ). Gathered (readBy s q) m ds) (sym (gather-plain xs b t)) (go (empty-or-onward xs b n))
   where
     go : (gathered start xs ≡ []) ⊎ Onward (run xs) (readerStep (run xs) b) → Gathered (readBy s (readerStep (run xs) b)) m (gathered start xs)
     go (inl none) = rw none (gathered-none (readBy s (readerStep (run xs) b)) m)

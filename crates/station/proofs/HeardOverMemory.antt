@@ -59,7 +59,7 @@ module _ (s : State) (m : List ℕ) (b : ℕ) where
   -- data
   heard-data : takesData old ≡ true → heard s m b false ≡ storedAs (Number (old .at)) s m (readerStep old b) b
   heard-data e =
-      heard-inner false (data-inside old b e) (data-goes-on old b e)
+      heard-inner false (data-inside old e) (data-goes-on old b e)
       ∙ ap (λ (d : Datum). storedAs d s m (readerStep old b) b) (datum-number old e)
 
   -- no data

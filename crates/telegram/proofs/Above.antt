@@ -1,4 +1,4 @@
--- What a layer above may use of the reader besides Framing: no law here asks about a phase.
+-- What a layer above may use of the reader besides Framing and Run: laws that ask about no phase.
 use Prim.Native.Nat.{ℕ, _+_, _%_}
 use native.Mathlib.Nat.{zero-add}
 use native.Mathlib.Omega.{arith}
@@ -64,14 +64,13 @@ pub record Onward (r q : Reader) : Type 0 where
   pub da : q .da ≡ r .da
   pub dsap : q .dsap ≡ r .dsap
 
--- a data octet
-module _ (r : Reader) (b : ℕ) (e : takesData r ≡ true) where
-  -- comes inside a telegram
-  pub data-inside : status r ≡ Inside
-  unfolding status
-  data-inside = ap statusAt (data-body r e)
+-- data comes inside a telegram
+pub data-inside : (r : Reader) → takesData r ≡ true → status r ≡ Inside
+unfolding status
+data-inside r e = ap statusAt (data-body r e)
 
-  -- and leaves it inside
+module _ (r : Reader) (b : ℕ) (e : takesData r ≡ true) where
+  -- a data octet leaves it inside
   pub data-goes-on : status (readerStep r b) ≡ Inside
   unfolding status
   data-goes-on = ap status (sym (data-step r e b))
@@ -82,14 +81,15 @@ module _ (r : Reader) (b : ℕ) (e : takesData r ≡ true) where
       let s = data-step r e b in
       (λ i. readTo r (sym s i .at) (sym s i .sum)) ∙ ap (moved (readTo r (r .at + 1) ((r .sum + b) % 256))) (data-body r e) ∙ s
 
+  -- so DA and DSAP stay
   pub data-onward : Onward r (readerStep r b)
   data-onward =
       record { da = sym (ap (λ (x : Reader). x .da) data-changes); dsap = sym (ap (λ (x : Reader). x .dsap) data-changes) }
 
 -- an octet that does not break off: nothing was gathered so far, or DA and DSAP stay
-pub gathered-or-onward : (xs : List ℕ) (b : ℕ) → ¬ (status (readerStep (run xs) b) ≡ Broken)
+pub empty-or-onward : (xs : List ℕ) (b : ℕ) → ¬ (status (readerStep (run xs) b) ≡ Broken)
     → (gathered start xs ≡ []) ⊎ Onward (run xs) (readerStep (run xs) b)
-gathered-or-onward xs b n = go (inHead (run xs .phase)) refl
+empty-or-onward xs b n = go (inHead (run xs .phase)) refl
   where
     go : (c : Bool) → inHead (run xs .phase) ≡ c → (gathered start xs ≡ []) ⊎ Onward (run xs) (readerStep (run xs) b)
     go true h = inl (none-from start xs h)
@@ -109,4 +109,4 @@ module _ (xs : List ℕ) (b : ℕ) where
 -- the number of a data octet is how many came before it
 pub counts : (xs : List ℕ) → takesData (run xs) ≡ true → run xs .at ≡ length (gathered start xs)
 counts xs e =
-    counts-from start xs (λ _. refl) (λ n. inside-broken (sym (data-inside (run xs) 0 e) ∙ n)) ∙ zero-add (length (gathered start xs))
+    counts-from start xs (λ _. refl) (λ n. inside-broken (sym (data-inside (run xs) e) ∙ n)) ∙ zero-add (length (gathered start xs))

@@ -39,7 +39,7 @@ no-more End r b h = no-true (sym h)
 no-more Done r b h = refl
 no-more Off r b h = refl
 
-pub shut : (r : Reader) (b : ℕ) → goesOn (status r) ≡ false → readerStep r b ≡ off
+shut : (r : Reader) (b : ℕ) → goesOn (status r) ≡ false → readerStep r b ≡ off
 unfolding readerStep status
 shut r b h = rw (no-more (r .phase) r b h)
 

@@ -28,18 +28,18 @@ inHead End = false
 inHead Done = false
 inHead Off = false
 
--- from r on to q DA and DSAP stay, and so does being behind the header
-record Onward (r q : Reader) : Type 0 where
+-- from r on to q DA and DSAP stay, and q is behind the header
+record Behind (r q : Reader) : Type 0 where
   da : q .da ≡ r .da
   dsap : q .dsap ≡ r .dsap
   behind : inHead (q .phase) ≡ false
 
 body-onward : (c : Bool) (r : Reader) (b : ℕ)
-    → Onward r (cond c (rd Body (r .kind) (r .count) (r .at + 1) (r .da) (r .sa) (r .fc) (r .dsap) (r .ssap) ((r .sum + b) % 256)) (moved r End))
+    → Behind r (cond c (rd Body (r .kind) (r .count) (r .at + 1) (r .da) (r .sa) (r .fc) (r .dsap) (r .ssap) ((r .sum + b) % 256)) (moved r End))
 body-onward true r b = record { da = refl; dsap = refl; behind = refl }
 body-onward false r b = record { da = refl; dsap = refl; behind = refl }
 
-next-onward : (p : Phase) (r : Reader) (b : ℕ) → inHead p ≡ false → okAt p r b ≡ true → Onward r (nextAt p r b)
+next-onward : (p : Phase) (r : Reader) (b : ℕ) → inHead p ≡ false → okAt p r b ≡ true → Behind r (nextAt p r b)
 next-onward Start r b h o = no-true (sym h)
 next-onward Le r b h o = no-true (sym h)
 next-onward LeAgain r b h o = no-true (sym h)

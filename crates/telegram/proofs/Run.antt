@@ -25,11 +25,12 @@ inside-broken e = let z : _≡_ {A = ℕ} 0 1 = cc in omega arith
 pub fresh-complete : Fresh ≡ Complete → ⊥
 fresh-complete e = let z : _≡_ {A = ℕ} 0 1 = cc in omega arith
 
--- nothing has begun after a gap
+-- after a gap nothing has begun
 pub start-fresh : status start ≡ Fresh
 unfolding status
 start-fresh = refl
 
+-- a reader that is off is broken off
 pub off-broken : status off ≡ Broken
 unfolding status
 off-broken = refl
@@ -51,7 +52,7 @@ step-off : (b : ℕ) → readerStep off b ≡ off
 unfolding readerStep
 step-off b = refl
 
-pub off-stays : (ys : List ℕ) → runFrom off ys ≡ off
+off-stays : (ys : List ℕ) → runFrom off ys ≡ off
 off-stays [] = refl
 off-stays (y ∷ ys) = rw (step-off y) (off-stays ys)
 
