@@ -16,6 +16,7 @@ use Rattle.telegram.specs.Reading.{rd, before, moved, off, okAt, nextAt,
 use Rattle.telegram.proofs.Run.{no-true, stays-broken}
 use Rattle.telegram.proofs.Onward.{inHead}
 
+-- over two lists, the second from where the first led
 pub gather-append : (r : Reader) (xs ys : List ℕ) → gathered r (xs ++ ys) ≡ gathered r xs ++ gathered (runFrom r xs) ys
 gather-append r [] ys = refl
 gather-append r (x ∷ xs) ys = go (takesData r) (gather-append (readerStep r x) xs ys)
