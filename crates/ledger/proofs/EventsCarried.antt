@@ -20,8 +20,8 @@ use Rattle.rules.specs.Diagnosis.{delayed, diagnosed, caughtUp}
 use Rattle.rules.specs.Phases.{drawing}
 use Rattle.rules.specs.Line.{clearing, clearNoted}
 use Rattle.rules.proofs.Served.{Receives, Lawful, Quiet, clear-noted-quiet}
-use Rattle.rules.proofs.ByCases.{publishing, another-raised}
-use Rattle.rules.proofs.EventsFollow.{Shows, Follows, noted-follows}
+use Rattle.rules.proofs.ByCases.{another-raised}
+use Rattle.rules.proofs.EventsFollow.{publishing, Shows, Follows, noted-follows}
 use Rattle.ledger.specs.Lists.{some, Sets}
 use Rattle.ledger.specs.Ledger.{Ledger, busy, diagnosisLeaves, parametersOpen, configurationOpen, openSets}
 use Rattle.ledger.specs.Outcome.{onSets, carried, diagnosisChanged, afterReply, settle}

@@ -2,19 +2,23 @@
 -- of each of them holds of every outcome.
 use Prim.Native.Nat.{ℕ}
 use native.Mathlib.Omega.{arith}
-use mathlib.Core.Path.{_≡_, refl, ap}
+use mathlib.Core.Path.{_≡_, refl, sym, ap, _∙_}
 use mathlib.Core.Bool.{Bool, true, false, cond, not, _&&_, _||_}
 use lib.Dec.{eqb, leb}
+use borrow.Author.Tests.{eqb-true, not-true, not-false}
 use Rattle.buffers.specs.declared.events.Events.{Events}
 use Rattle.buffers.specs.Events.{bit as told, raised, watchdogEvent, controlEvent, outputsEvent, configurationEvent, parametersEvent}
 use Rattle.buffers.proofs.Word.{raised-other}
+use Rattle.telegram.proofs.Run.{no-true}
 use Rattle.state.specs.declared.setup.Setup.{Setup}
 use Rattle.state.specs.declared.control.Flags.{Flags}
 use Rattle.state.specs.declared.control.Control.{Control}
 use Rattle.state.specs.declared.state.Drawn.{Drawn}
 use Rattle.state.specs.declared.state.Drawn.the-variants as drawn
+use Rattle.state.specs.Sound.{Within}
 use Rattle.state.specs.Well.{within}
-use Rattle.state.proofs.Choice.{by-test, either}
+use Rattle.state.proofs.Choice.{by-test, either, and-right}
+use Rattle.state.proofs.Tests.{within-true}
 use Rattle.rules.specs.declared.request.Request.{Request}
 use Rattle.rules.specs.declared.request.Data.{Data}
 use Rattle.rules.specs.declared.request.OpenSets.{OpenSets}
@@ -31,6 +35,8 @@ use Rattle.rules.specs.Requests.{masterOf, acts, toStation, refilled}
 use Rattle.rules.specs.Services.{otherOwns, otherIdent, wantsWatchdog, badFactors, goodPrm, setPrm, goodCfg, chkCfg, exchanges, dataExchange, slaveDiag, controls, storing, globalControl, serve}
 use Rattle.rules.specs.Line.{clearOn, clearNoted, counts, withRemaining, ticked}
 use Rattle.rules.specs.User.{changingSets, judgedParameters, judgedConfiguration}
+use Rattle.rules.proofs.Headed.{Plain, To, Headed}
+use Rattle.rules.proofs.Alike.{Alike, alike}
 
 -- events 13, 11 and 10 are as they were
 pub record Untouched (e f : Events) : Type 0 where
@@ -46,14 +52,16 @@ another-raised e n x y z = record {
   configuration-same = raised-other e n configurationEvent z;
 }
 
--- a control part with that owner, and with these events as they were
+-- a control part that is alike, with that owner, and with these events as they were
 pub record Beside (c k : Control) : Type 0 where
+  pub alike-is : Alike c k
   pub owner-same : k .owner ≡ c .owner
   pub untouched : Untouched (c .events) (k .events)
 
--- the events are all the same
-pub beside : {c k : Control} → k .owner ≡ c .owner → k .events ≡ c .events → Beside c k
-beside e f = record {
+-- no event changes
+pub beside : {c k : Control} → Alike c k → k .owner ≡ c .owner → k .events ≡ c .events → Beside c k
+beside a e f = record {
+  alike-is = a;
   owner-same = e;
   untouched = record {
     outputs-same = ap (λ (x : Events). told (x .word) outputsEvent) f;
@@ -62,119 +70,160 @@ beside e f = record {
   };
 }
 
--- outputs or zeros are published
-abbrev pub publishing : OutputsDeed → Bool
-publishing outputs-deed.Keep = false
-publishing outputs-deed.Publish = true
-publishing outputs-deed.Zeros = true
+-- the held outputs are drawn
+abbrev pub isOutputs : Drawn → Bool
+isOutputs drawn.Nothing = false
+isOutputs drawn.Acknowledge = false
+isOutputs drawn.Status = false
+isOutputs drawn.Rejected = false
+isOutputs drawn.Exchange = false
+isOutputs drawn.Inputs = false
+isOutputs drawn.Outputs = true
+isOutputs drawn.Configuration = false
+isOutputs drawn.Diagnosis = false
 
-module _ (P : Outcome → Type 0) (c : Control) (replies : (k : Control) (d : Drawn) → Beside c k → P (drawing k d))
-    (resets : (k : Control) (d : Drawn) → P (enteringWaitPrm k d)) where
-  -- one of two
-  pick : (t : Bool) {x y : Outcome} → P x → P y → P (cond t x y)
-  pick = either P
+-- outputs are published only where that may be, or zeros are
+abbrev pub Published : Type 0 → OutputsDeed → Type 0
+Published Given outputs-deed.Keep = ⊥
+Published Given outputs-deed.Publish = Given
+Published Given outputs-deed.Zeros = Unit
 
-  -- a reply, and the control part stays
-  draws : (d : Drawn) → P (drawing c d)
-  draws d = replies c d (beside refl refl)
+module _ (P : Outcome → Type 0) (c : Control)
+    (replies : (k : Control) (d : Drawn) → Beside c k → (isOutputs d ≡ true → inExchange k ≡ true) → P (drawing k d)) where
+  -- a reply without the held outputs
+  draws : (k : Control) (d : Drawn) → Beside c k → isOutputs d ≡ false → P (drawing k d)
+  draws k d s e = replies k d s (λ f. no-true (sym e ∙ f))
 
-  -- on a busy line a clear is noted
-  clear-beside : (busy : Bool) (k : Control) → Beside c k → P (clearOn busy k)
-  clear-beside busy k s =
-      pick busy (replies (withNoted k true) drawn.Nothing (record { owner-same = s .owner-same; untouched = s .untouched })) (resets _ drawn.Nothing)
+  -- the control part stays
+  same : Beside c c
+  same = beside (alike refl refl refl) refl refl
 
-  -- leave master
-  pub clear-cases : (busy : Bool) → P (clearOn busy c)
-  clear-cases busy = clear-beside busy c (beside refl refl)
+  -- with nothing but such a reply
+  stays : (d : Drawn) → isOutputs d ≡ false → P (drawing c d)
+  stays d = draws c d same
 
-  -- a noted clear where the line is idle
-  pub noted-cases : (busy : Bool) → P (clearNoted busy c)
-  noted-cases busy = pick (c .noted && not busy) (resets _ drawn.Nothing) (draws drawn.Nothing)
+  -- a clear, which is carried out on an idle line
+  module _ (busy : Bool) (clears : busy ≡ false → (k : Control) → k .diagnosis ≡ c .diagnosis → P (enteringWaitPrm k drawn.Nothing)) where
+    -- on a busy line it is noted
+    clear-beside : (k : Control) → Beside c k → P (clearOn busy k)
+    clear-beside k s =
+        let a = s .alike-is in
+        let n : Beside c (withNoted k true) =
+        record { alike-is = alike (a .phase-same) (a .good-same) (a .diagnosis-same); owner-same = s .owner-same; untouched = s .untouched } in
+        by-test P busy _ _ (λ _. draws (withNoted k true) drawn.Nothing n refl) (λ e. clears e _ (a .diagnosis-same))
 
-  -- a Tick
-  pub ticked-cases : (busy : Bool) → P (ticked busy c)
-  unfolding ticked
-  ticked-cases busy =
-      pick (not (counts c)) (draws drawn.Nothing)
-      (pick (leb (c .watchdog .remaining) 1)
-      (clear-beside busy (raise (withRemaining c 0) watchdogEvent)
-      (record { owner-same = refl; untouched = another-raised (c .events) watchdogEvent (λ q. omega arith) (λ q. omega arith) (λ q. omega arith) }))
-      (replies _ drawn.Nothing (beside refl refl)))
+    -- leave master
+    pub clear-cases : P (clearOn busy c)
+    clear-cases = clear-beside c same
 
-  -- the judgement of parameters: a newer set that waits is shown instead, or the set is closed
-  pub parameters-cases : (waits good : Bool) → (waits ≡ true → P (changingSets c set-deed.Advance set-deed.Keep))
-      → ((f : Flags) → P (changingSets (withFlags (clear c parametersEvent) f) set-deed.Drop set-deed.Keep)) → P (judgedParameters c waits good)
-  unfolding judgedParameters
-  parameters-cases waits good f g = by-test P waits _ _ f (λ _. pick good (g _) (resets _ drawn.Nothing))
+    -- a noted clear
+    pub noted-cases : P (clearNoted busy c)
+    noted-cases =
+        by-test P (c .noted && not busy) _ _ (λ e. clears (not-true busy (and-right (c .noted) (not busy) e)) _ refl) (λ _. stays drawn.Nothing refl)
 
-  -- and of configuration
-  pub configuration-cases : (waits good : Bool) → (waits ≡ true → P (changingSets c set-deed.Keep set-deed.Advance))
-      → P (changingSets (dataExch (clear c configurationEvent)) set-deed.Keep set-deed.Drop) → P (judgedConfiguration c waits good)
-  unfolding judgedConfiguration
-  configuration-cases waits good f g = by-test P waits _ _ f (λ _. pick good g (resets _ drawn.Nothing))
+    -- a Tick
+    pub ticked-cases : P (ticked busy c)
+    unfolding ticked
+    ticked-cases =
+        either P (not (counts c)) (stays drawn.Nothing refl)
+        (either P (leb (c .watchdog .remaining) 1)
+        (clear-beside (raise (withRemaining c 0) watchdogEvent)
+        (record {
+          alike-is = alike refl refl refl;
+          owner-same = refl;
+          untouched = another-raised (c .events) watchdogEvent (λ q. omega arith) (λ q. omega arith) (λ q. omega arith);
+        }))
+        (draws _ drawn.Nothing (beside (alike refl refl refl) refl refl) refl))
 
-  -- the services. A set is received, or outputs are published.
-  module _ (g : Setup) (r : Request) (opened : OpenSets)
-      (receives-prm : (p : Prm) → P (goodPrm c (opened .parameters) (masterOf r) p))
-      (receives-cfg : P (goodCfg c (opened .configuration)))
-      (publishes : (k : Control) (u : OutputsDeed) (d : Drawn) → Beside c k → publishing u ≡ true
-      → P (record { control = raise k outputsEvent; outputs = u; parameters = set-deed.Keep; configuration = set-deed.Keep; drawn = d })) where
-    -- Set_Prm
-    setPrm-cases : (p : Prm) → P (setPrm g c (opened .parameters) r p)
-    unfolding setPrm
-    setPrm-cases p =
-        pick (otherOwns c (masterOf r)) (draws drawn.Rejected)
-        (pick (not (within 7 (r .count) (g .«parameter_len»))) (resets _ drawn.Acknowledge)
-        (pick (bit (p .status) 6) (resets c drawn.Acknowledge)
-        (pick (not (bit (p .status) 7)) (draws drawn.Acknowledge)
-        (pick (bit (p .status) 5 || bit (p .status) 4) (resets _ drawn.Acknowledge)
-        (pick (otherIdent g p || (wantsWatchdog p && badFactors p)) (resets _ drawn.Acknowledge) (receives-prm p))))))
+  -- the others, which may enter WAIT_PRM at any time
+  module _ (resets : (k : Control) (d : Drawn) → k .diagnosis ≡ c .diagnosis → isOutputs d ≡ false → P (enteringWaitPrm k d)) where
+    -- the judgement of parameters: a newer set that waits is shown instead, or the set is closed
+    pub parameters-cases : (waits good : Bool) → (waits ≡ true → P (changingSets c set-deed.Advance set-deed.Keep))
+        → ((f : Flags) → P (changingSets (withFlags (clear c parametersEvent) f) set-deed.Drop set-deed.Keep)) → P (judgedParameters c waits good)
+    unfolding judgedParameters
+    parameters-cases waits good f g = by-test P waits _ _ f (λ _. either P good (g _) (resets _ drawn.Nothing refl refl))
 
-    -- Chk_Cfg
-    chkCfg-cases : P (chkCfg g c (opened .configuration) r)
-    unfolding chkCfg
-    chkCfg-cases =
-        pick (not (owns c (masterOf r))) (draws drawn.Rejected)
-        (pick (not (within 1 (r .count) (g .«configuration_len»))) (resets _ drawn.Acknowledge) receives-cfg)
+    -- and of configuration
+    pub configuration-cases : (waits good : Bool) → (waits ≡ true → P (changingSets c set-deed.Keep set-deed.Advance))
+        → P (changingSets (dataExch (clear c configurationEvent)) set-deed.Keep set-deed.Drop) → P (judgedConfiguration c waits good)
+    unfolding judgedConfiguration
+    configuration-cases waits good f g = by-test P waits _ _ f (λ _. either P good g (resets _ drawn.Nothing refl refl))
 
-    -- Data_Exchange
-    dataExchange-cases : P (dataExchange g c r)
-    unfolding dataExchange
-    dataExchange-cases =
-        pick (not (exchanges c r)) (draws drawn.Rejected)
-        (pick (not (eqb (r .count) (g .«output_len»))) (resets _ drawn.Rejected) (publishes c outputs-deed.Publish drawn.Exchange (beside refl refl) refl))
+    -- the services. A set is received, or outputs or zeros are published.
+    module _ (g : Setup) (r : Request) (opened : OpenSets)
+        (receives-prm : (p : Prm) → To r 61 → Within 7 (r .count) (g .«parameter_len») → P (goodPrm c (opened .parameters) (masterOf r) p))
+        (receives-cfg : To r 62 → Within 1 (r .count) (g .«configuration_len») → P (goodCfg c (opened .configuration)))
+        (publishes : (k : Control) (u : OutputsDeed) (d : Drawn) → Beside c k → isOutputs d ≡ false → Published (Plain r × (r .count ≡ g .«output_len»)) u
+        → P (record { control = raise k outputsEvent; outputs = u; parameters = set-deed.Keep; configuration = set-deed.Keep; drawn = d })) where
+      -- Set_Prm
+      setPrm-cases : (p : Prm) → To r 61 → P (setPrm g c (opened .parameters) r p)
+      unfolding setPrm
+      setPrm-cases p h =
+          either P (otherOwns c (masterOf r)) (stays drawn.Rejected refl)
+          (by-test P (not (within 7 (r .count) (g .«parameter_len»))) _ _ (λ _. resets _ drawn.Acknowledge refl refl)
+          (λ w. either P (bit (p .status) 6) (resets c drawn.Acknowledge refl refl)
+          (either P (not (bit (p .status) 7)) (stays drawn.Acknowledge refl)
+          (either P (bit (p .status) 5 || bit (p .status) 4) (resets _ drawn.Acknowledge refl refl)
+          (either P (otherIdent g p || (wantsWatchdog p && badFactors p)) (resets _ drawn.Acknowledge refl refl)
+          (receives-prm p h (within-true 7 (r .count) (g .«parameter_len») (not-false _ w))))))))
 
-    -- Slave_Diag
-    slaveDiag-cases : P (slaveDiag c r)
-    unfolding slaveDiag
-    slaveDiag-cases =
-        pick (owns c (masterOf r) && not (c .flags .«stat_diag»)) (replies _ drawn.Diagnosis (beside refl refl)) (draws drawn.Diagnosis)
+      -- Chk_Cfg
+      chkCfg-cases : To r 62 → P (chkCfg g c (opened .configuration) r)
+      unfolding chkCfg
+      chkCfg-cases h =
+          either P (not (owns c (masterOf r))) (stays drawn.Rejected refl)
+          (by-test P (not (within 1 (r .count) (g .«configuration_len»))) _ _ (λ _. resets _ drawn.Acknowledge refl refl)
+          (λ w. receives-cfg h (within-true 1 (r .count) (g .«configuration_len») (not-false _ w))))
 
-    -- Global_Control
-    globalControl-cases : (first second : ℕ) → P (globalControl c r first second)
-    unfolding globalControl
-    globalControl-cases first second =
-        pick (controls c r second)
-        (pick (bit first 1) (publishes _ outputs-deed.Zeros drawn.Nothing stored refl) (replies _ drawn.Nothing stored)) (draws drawn.Nothing)
-      where
-        stored : Beside c (storing c first)
-        stored =
-            either (Beside c) (eqb first (c .stored)) (beside refl refl)
-            (record { owner-same = refl; untouched = another-raised (c .events) controlEvent (λ q. omega arith) (λ q. omega arith) (λ q. omega arith) })
+      -- Data_Exchange
+      dataExchange-cases : Plain r → P (dataExchange g c r)
+      unfolding dataExchange
+      dataExchange-cases h =
+          either P (not (exchanges c r)) (stays drawn.Rejected refl)
+          (by-test P (not (eqb (r .count) (g .«output_len»))) _ _ (λ _. resets _ drawn.Rejected refl refl)
+          (λ w. publishes c outputs-deed.Publish drawn.Exchange same refl (h, eqb-true _ _ (not-false _ w))))
 
-    -- each of them
-    pub serve-cases : (v : Service) (octets : Data) → P (serve v g c opened r octets)
-    serve-cases Nothing octets = draws drawn.Nothing
-    serve-cases Status octets = draws drawn.Status
-    serve-cases Reject octets = draws drawn.Rejected
-    serve-cases GlobalControl octets = globalControl-cases (octets .first) (octets .second)
-    serve-cases DataExchange octets = dataExchange-cases
-    serve-cases SetPrm octets = setPrm-cases (octets .prm)
-    serve-cases ChkCfg octets = chkCfg-cases
-    serve-cases SlaveDiag octets = slaveDiag-cases
-    serve-cases GetCfg octets = draws drawn.Configuration
-    serve-cases ReadInputs octets = pick (inExchange c) (draws drawn.Inputs) (draws drawn.Rejected)
-    serve-cases ReadOutputs octets = pick (inExchange c) (draws drawn.Outputs) (draws drawn.Rejected)
+      -- Slave_Diag
+      slaveDiag-cases : P (slaveDiag c r)
+      unfolding slaveDiag
+      slaveDiag-cases =
+          either P (owns c (masterOf r) && not (c .flags .«stat_diag»)) (draws _ drawn.Diagnosis (beside (alike refl refl refl) refl refl) refl)
+          (stays drawn.Diagnosis refl)
+
+      -- Global_Control
+      globalControl-cases : (first second : ℕ) → P (globalControl c r first second)
+      unfolding globalControl
+      globalControl-cases first second =
+          either P (controls c r second)
+          (either P (bit first 1) (publishes _ outputs-deed.Zeros drawn.Nothing stored refl tt) (draws _ drawn.Nothing stored refl))
+          (stays drawn.Nothing refl)
+        where
+          stored : Beside c (storing c first)
+          stored =
+              either (Beside c) (eqb first (c .stored)) same
+              (record {
+                alike-is = alike refl refl refl;
+                owner-same = refl;
+                untouched = another-raised (c .events) controlEvent (λ q. omega arith) (λ q. omega arith) (λ q. omega arith);
+              })
+
+      -- Read_Inputs and Read_Outputs
+      reads-cases : (d : Drawn) → P (cond (inExchange c) (drawing c d) (drawing c drawn.Rejected))
+      reads-cases d = by-test P (inExchange c) _ _ (λ e. replies c d same (λ _. e)) (λ _. stays drawn.Rejected refl)
+
+      -- each of them, with the header that it has
+      pub serve-cases : (v : Service) (octets : Data) → Headed v r → P (serve v g c opened r octets)
+      serve-cases Nothing octets h = stays drawn.Nothing refl
+      serve-cases Status octets h = stays drawn.Status refl
+      serve-cases Reject octets h = stays drawn.Rejected refl
+      serve-cases GlobalControl octets h = globalControl-cases (octets .first) (octets .second)
+      serve-cases DataExchange octets h = dataExchange-cases h
+      serve-cases SetPrm octets h = setPrm-cases (octets .prm) h
+      serve-cases ChkCfg octets h = chkCfg-cases h
+      serve-cases SlaveDiag octets h = slaveDiag-cases
+      serve-cases GetCfg octets h = stays drawn.Configuration refl
+      serve-cases ReadInputs octets h = reads-cases drawn.Inputs
+      serve-cases ReadOutputs octets h = reads-cases drawn.Outputs
 
 -- refilling the watchdog changes neither owner nor events
 pub refilled-same : (g : Setup) (c : Control) (r : Request) → (refilled g c r .owner ≡ c .owner) × (refilled g c r .events ≡ c .events)

@@ -10,6 +10,7 @@ use Rattle.state.specs.declared.setup.Setup.{Setup}
 use Rattle.state.specs.declared.control.Flags.{Flags}
 use Rattle.state.specs.declared.control.Control.{Control}
 use Rattle.state.specs.declared.state.Drawn.{Drawn}
+use Rattle.state.specs.declared.state.Drawn.the-variants.{Nothing}
 use Rattle.rules.specs.declared.request.Request.{Request}
 use Rattle.rules.specs.declared.request.Data.{Data}
 use Rattle.rules.specs.declared.request.OpenSets.{OpenSets}
@@ -25,11 +26,18 @@ use Rattle.rules.specs.Requests.{refilled, serviceOf}
 use Rattle.rules.specs.Services.{showing, parametrized, goodPrm, goodCfg, outcomeBy}
 use Rattle.rules.specs.Line.{clearOn, clearNoted, ticked}
 use Rattle.rules.specs.User.{changingSets, judgedParameters, judgedConfiguration}
-use Rattle.rules.proofs.ByCases.{Beside, publishing, clear-cases, noted-cases, ticked-cases, parameters-cases, configuration-cases, serve-cases, refilled-same}
+use Rattle.rules.proofs.Headed.{headed}
+use Rattle.rules.proofs.ByCases.{isOutputs, Beside, Published, clear-cases, noted-cases, ticked-cases, parameters-cases, configuration-cases, serve-cases, refilled-same}
 
 -- event n is set
 abbrev on : Events → ℕ → Bool
 on e n = bit (e .word) n
+
+-- outputs or zeros are published
+abbrev pub publishing : OutputsDeed → Bool
+publishing outputs-deed.Keep = false
+publishing outputs-deed.Publish = true
+publishing outputs-deed.Zeros = true
 
 -- what becomes of the event of a kind of sets. opened: a set of that kind is open, waits: a newer one waits
 abbrev pub Shows : SetDeed → Bool → Bool → Bool → Bool → Type 0
@@ -88,8 +96,8 @@ module _ (c : Control) where
 
 module _ (opened waiting : OpenSets) where
   -- nothing but a reply
-  replies-follow : (c k : Control) (d : Drawn) → Beside c k → Follows (c .events) opened waiting (drawing k d)
-  replies-follow c k d s = record {
+  replies-follow : (c k : Control) (d : Drawn) → Beside c k → (isOutputs d ≡ true → inExchange k ≡ true) → Follows (c .events) opened waiting (drawing k d)
+  replies-follow c k d s _ = record {
     outputs-raise = s .untouched .outputs-same ∙ sym (or-false (on (c .events) outputsEvent));
     parameters-show = s .untouched .parameters-same;
     configuration-show = s .untouched .configuration-same;
@@ -147,16 +155,21 @@ module _ (opened waiting : OpenSets) where
         }
 
     -- outputs or zeros published
-    publishing-follows : (k : Control) (u : OutputsDeed) (d : Drawn) → Beside c k → publishing u ≡ true
+    publishing-follows : (Given : Type 0) (k : Control) (u : OutputsDeed) (d : Drawn) → Beside c k → isOutputs d ≡ false → Published Given u
         → Follows (c .events) opened waiting
         (record { control = raise k outputsEvent; outputs = u; parameters = set-deed.Keep; configuration = set-deed.Keep; drawn = d })
-    publishing-follows k u d s h = record {
+    publishing-follows Given k u d s _ h = record {
       outputs-raise =
           raised-same (k .events) outputsEvent (omega arith)
-          ∙ sym (ap (λ (t : Bool). on (c .events) outputsEvent || t) h ∙ or-true (on (c .events) outputsEvent));
+          ∙ sym (ap (λ (t : Bool). on (c .events) outputsEvent || t) (all u h) ∙ or-true (on (c .events) outputsEvent));
       parameters-show = raised-other (k .events) outputsEvent parametersEvent (λ q. omega arith) ∙ s .untouched .parameters-same;
       configuration-show = raised-other (k .events) outputsEvent configurationEvent (λ q. omega arith) ∙ s .untouched .configuration-same;
     }
+      where
+        all : (v : OutputsDeed) → Published Given v → publishing v ≡ true
+        all outputs-deed.Keep x = absurd x
+        all outputs-deed.Publish x = refl
+        all outputs-deed.Zeros x = refl
 
     -- a newer set shown instead
     moves-follow : (p q : SetDeed)
@@ -199,30 +212,30 @@ module _ (opened waiting : OpenSets) where
     -- leave master
     pub clear-follows : (busy : Bool) → Follows (c .events) opened waiting (clearOn busy c)
     unfolding Here
-    clear-follows = clear-cases Here c (replies-follow c) (resets-follow (c .events))
+    clear-follows busy = clear-cases Here c (replies-follow c) busy (λ _ k _. resets-follow (c .events) k Nothing)
 
     -- a noted clear
     pub noted-follows : (busy : Bool) → Follows (c .events) opened waiting (clearNoted busy c)
     unfolding Here
-    noted-follows = noted-cases Here c (replies-follow c) (resets-follow (c .events))
+    noted-follows busy = noted-cases Here c (replies-follow c) busy (λ _ k _. resets-follow (c .events) k Nothing)
 
     -- a Tick
     pub ticked-follows : (busy : Bool) → Follows (c .events) opened waiting (ticked busy c)
     unfolding Here
-    ticked-follows = ticked-cases Here c (replies-follow c) (resets-follow (c .events))
+    ticked-follows busy = ticked-cases Here c (replies-follow c) busy (λ _ k _. resets-follow (c .events) k Nothing)
 
     -- the judgement of parameters, where a set is open
     pub parameters-follow : (good : Bool) → opened .parameters ≡ true → Follows (c .events) opened waiting (judgedParameters c (waiting .parameters) good)
     unfolding Here
     parameters-follow good h =
-        parameters-cases Here c (replies-follow c) (resets-follow (c .events)) (waiting .parameters) good
+        parameters-cases Here c (replies-follow c) (λ k d _ _. resets-follow (c .events) k d) (waiting .parameters) good
         (λ w. moves-follow set-deed.Advance set-deed.Keep (h, w, refl) refl) prm-closed
 
     -- and of configuration
     pub configuration-follows : (good : Bool) → opened .configuration ≡ true → Follows (c .events) opened waiting (judgedConfiguration c (waiting .configuration) good)
     unfolding Here
     configuration-follows good h =
-        configuration-cases Here c (replies-follow c) (resets-follow (c .events)) (waiting .configuration) good
+        configuration-cases Here c (replies-follow c) (λ k d _ _. resets-follow (c .events) k d) (waiting .configuration) good
         (λ w. moves-follow set-deed.Keep set-deed.Advance refl (h, w, refl)) cfg-closed
 
   -- a telegram
@@ -230,4 +243,5 @@ module _ (opened waiting : OpenSets) where
   telegram-follows g c r octets =
       let k = refilled g c r in
       subst (λ (e : Events). Follows e opened waiting (outcomeBy g c opened r octets)) (refilled-same g c r .1)
-      (serve-cases (λ o. Follows (k .events) opened waiting o) k (replies-follow k) (resets-follow (k .events)) g r opened (prm-follows k _) (cfg-follows k) (publishing-follows k) (serviceOf g r) octets)
+      (serve-cases (λ o. Follows (k .events) opened waiting o) k (replies-follow k) (λ n d _ _. resets-follow (k .events) n d) g r opened
+      (λ p _ _. prm-follows k _ p) (λ _ _. cfg-follows k) (publishing-follows k _) (serviceOf g r) octets (headed r g))

@@ -1,7 +1,7 @@
 pub mod Alike
 pub mod Headed
-pub mod Served
 pub mod ByCases
+pub mod Served
 pub mod EventsFollow
 pub mod Owner
 pub mod LookedAt

@@ -6,6 +6,7 @@ use mathlib.Core.Bool.{Bool}
 use Rattle.state.specs.declared.setup.Setup.{Setup}
 use Rattle.state.specs.declared.control.Control.{Control}
 use Rattle.state.specs.declared.state.Drawn.{Drawn}
+use Rattle.state.specs.declared.state.Drawn.the-variants.{Nothing}
 use Rattle.state.proofs.Choice.{either}
 use Rattle.rules.specs.declared.request.Request.{Request}
 use Rattle.rules.specs.declared.request.Data.{Data}
@@ -17,6 +18,7 @@ use Rattle.rules.specs.Requests.{masterOf, refilled, serviceOf}
 use Rattle.rules.specs.Services.{parametrized, serve, outcomeBy}
 use Rattle.rules.specs.Line.{clearOn, clearNoted, ticked}
 use Rattle.rules.specs.User.{judgedParameters, judgedConfiguration}
+use Rattle.rules.proofs.Headed.{headed}
 use Rattle.rules.proofs.ByCases.{Beside, clear-cases, noted-cases, ticked-cases, parameters-cases, configuration-cases, serve-cases, refilled-same}
 
 -- the owner is an octet
@@ -35,24 +37,24 @@ module _ (c : Control) (h : c .owner < 256) where
 
   -- leave master
   pub clear-owned : (busy : Bool) → Owned (clearOn busy c)
-  clear-owned = clear-cases Owned c (λ k d s. stays k s) resets
+  clear-owned busy = clear-cases Owned c (λ k d s _. stays k s) busy (λ _ k _. resets k Nothing)
 
   -- a noted clear
   pub noted-owned : (busy : Bool) → Owned (clearNoted busy c)
-  noted-owned = noted-cases Owned c (λ k d s. stays k s) resets
+  noted-owned busy = noted-cases Owned c (λ k d s _. stays k s) busy (λ _ k _. resets k Nothing)
 
   -- a Tick
   pub ticked-owned : (busy : Bool) → Owned (ticked busy c)
-  ticked-owned = ticked-cases Owned c (λ k d s. stays k s) resets
+  ticked-owned busy = ticked-cases Owned c (λ k d s _. stays k s) busy (λ _ k _. resets k Nothing)
 
   -- the judgement of parameters
   pub parameters-owned : (waits good : Bool) → Owned (judgedParameters c waits good)
-  parameters-owned waits good = parameters-cases Owned c (λ k d s. stays k s) resets waits good (λ _. h) (λ _. h)
+  parameters-owned waits good = parameters-cases Owned c (λ k d s _. stays k s) (λ k d _ _. resets k d) waits good (λ _. h) (λ _. h)
 
   -- and of configuration
   pub configuration-owned : (waits good : Bool) → Owned (judgedConfiguration c waits good)
   unfolding dataExch
-  configuration-owned waits good = configuration-cases Owned c (λ k d s. stays k s) resets waits good (λ _. h) h
+  configuration-owned waits good = configuration-cases Owned c (λ k d s _. stays k s) (λ k d _ _. resets k d) waits good (λ _. h) h
 
   -- WAIT_CFG entered
   wait-cfg-owned : waitCfg c .owner < 256
@@ -63,7 +65,9 @@ module _ (c : Control) (h : c .owner < 256) where
   serve-owned : (g : Setup) (opened : OpenSets) (r : Request) (octets : Data) → Owned (serve (serviceOf g r) g c opened r octets)
   unfolding parametrized
   serve-owned g opened r octets =
-      serve-cases Owned c (λ k d s. stays k s) resets g r opened (λ p. let m : masterOf r < 128 = mod-lt (r .sa) (omega arith) in omega arith) wait-cfg-owned (λ k u d s _. stays k s) (serviceOf g r) octets
+      let m : masterOf r < 128 = mod-lt (r .sa) (omega arith) in
+      serve-cases Owned c (λ k d s _. stays k s) (λ k d _ _. resets k d) g r opened (λ _ _ _. omega arith) (λ _ _. wait-cfg-owned) (λ k u d s _ _. stays k s)
+      (serviceOf g r) octets (headed r g)
 
 -- a telegram
 pub telegram-owned : (g : Setup) (c : Control) (opened : OpenSets) (r : Request) (octets : Data) → c .owner < 256 → Owned (outcomeBy g c opened r octets)

@@ -2,38 +2,33 @@
 -- is left only with zeros. Served is the one law of all telegrams, Quiet that of the outcomes without one.
 use Prim.Native.Nat.{ℕ}
 use mathlib.Core.Path.{_≡_, refl, sym, ap, _∙_}
-use mathlib.Core.Bool.{Bool, true, false, cond, not, _&&_, _||_}
-use lib.Dec.{eqb, leb}
-use borrow.Author.Tests.{eqb-true, not-true, not-false}
-use Rattle.buffers.specs.Events.{raised, watchdogEvent, controlEvent, outputsEvent}
+use mathlib.Core.Bool.{Bool, true, false, cond}
+use Rattle.buffers.specs.Events.{raised, outputsEvent}
 use Rattle.telegram.proofs.Run.{no-true}
 use Rattle.state.specs.declared.setup.Setup.{Setup}
 use Rattle.state.specs.declared.control.Control.{Control}
 use Rattle.state.specs.declared.state.Drawn.{Drawn}
-use Rattle.state.specs.declared.state.Drawn.the-variants as drawn
 use Rattle.state.specs.Sound.{Within}
-use Rattle.state.specs.Well.{within}
-use Rattle.state.proofs.Choice.{by-test, and-right}
-use Rattle.state.proofs.Tests.{within-true}
+use Rattle.state.proofs.Choice.{by-test}
 use Rattle.rules.specs.declared.request.Request.{Request}
 use Rattle.rules.specs.declared.request.Data.{Data}
 use Rattle.rules.specs.declared.request.OpenSets.{OpenSets}
 use Rattle.rules.specs.declared.request.Prm.{Prm}
-use Rattle.rules.specs.declared.request.Service.{Service}
-use Rattle.rules.specs.declared.request.Service.the-variants.{Nothing, Status, Reject, GlobalControl, DataExchange, SetPrm, ChkCfg, SlaveDiag, GetCfg, ReadInputs, ReadOutputs}
 use Rattle.rules.specs.declared.outcome.OutputsDeed.{OutputsDeed}
 use Rattle.rules.specs.declared.outcome.OutputsDeed.the-variants as outputs-deed
 use Rattle.rules.specs.declared.outcome.SetDeed.{SetDeed}
 use Rattle.rules.specs.declared.outcome.SetDeed.the-variants as set-deed
 use Rattle.rules.specs.declared.outcome.Outcome.{Outcome}
-use Rattle.rules.specs.Control.{bit, inExchange, owns, withEvents, withStored, raise}
+use Rattle.rules.specs.Control.{inExchange, withEvents, raise}
 use Rattle.rules.specs.Phases.{drawing, leftExchange, waitPrm, enteringWaitPrm, waitCfg, dataExch, zerosIfLeft}
 use Rattle.rules.specs.Requests.{masterOf, refilled, serviceOf}
-use Rattle.rules.specs.Services.{otherOwns, otherIdent, wantsWatchdog, badFactors, parametrized, setPrm, chkCfg, exchanges, dataExchange, slaveDiag, controls, storing, globalControl, serve, outcomeBy}
-use Rattle.rules.specs.Line.{clearOn, clearNoted, counts, withRemaining, ticked}
+use Rattle.rules.specs.Services.{parametrized, goodPrm, goodCfg, serve, outcomeBy}
+use Rattle.rules.specs.Line.{clearOn, clearNoted, ticked}
 use Rattle.rules.specs.User.{changingSets, judgedParameters, judgedConfiguration}
-use Rattle.rules.proofs.Headed.{Plain, To, Headed, headed}
-use Rattle.rules.proofs.Alike.{Alike, alike, exchange-same, refilled-alike}
+use Rattle.rules.proofs.Headed.{Plain, To, headed}
+pub use Rattle.rules.proofs.ByCases.{isOutputs}
+use Rattle.rules.proofs.ByCases.{Beside, Published, clear-cases, noted-cases, ticked-cases, parameters-cases, configuration-cases, serve-cases}
+use Rattle.rules.proofs.Alike.{Alike, exchange-same, refilled-alike}
 
 -- ---- every outcome
 
@@ -49,18 +44,6 @@ Receives Given set-deed.Keep = Unit
 Receives Given set-deed.Receive = Given
 Receives Given set-deed.Advance = Unit
 Receives Given set-deed.Drop = Unit
-
--- the held outputs are drawn
-abbrev pub isOutputs : Drawn → Bool
-isOutputs drawn.Nothing = false
-isOutputs drawn.Acknowledge = false
-isOutputs drawn.Status = false
-isOutputs drawn.Rejected = false
-isOutputs drawn.Exchange = false
-isOutputs drawn.Inputs = false
-isOutputs drawn.Outputs = true
-isOutputs drawn.Configuration = false
-isOutputs drawn.Diagnosis = false
 
 -- what every outcome keeps. There are n data octets; Given: they may be published, Clear: zeros may be, At: they came to that service point.
 pub record Lawful (g : Setup) (c : Control) (n : ℕ) (Given Clear : Type 0) (At : ℕ → Type 0) (o : Outcome) : Type 0 where
@@ -106,31 +89,21 @@ abbrev pub Quiet : Setup → Control → Type 0 → Outcome → Type 0
 Quiet g c Clear o = Lawful g c 0 ⊥ Clear (λ _. ⊥) o
 
 module _ (g : Setup) (c : Control) {Clear : Type 0} where
-  -- one of two
-  pick : (p : Bool) {x y : Outcome} → (p ≡ true → Quiet g c Clear x) → (p ≡ false → Quiet g c Clear y) → Quiet g c Clear (cond p x y)
-  pick p {x} {y} = by-test (Quiet g c Clear) p x y
-
-  -- on a busy line a clear is noted; the control part may differ in what does not count here
-  clears : (busy : Bool) (k : Control) → Alike c k → (busy ≡ false → Clear) → Quiet g c Clear (clearOn busy k)
-  clears busy k s f =
-      pick busy (λ _. draws (alike (s .phase-same) (s .good-same) (s .diagnosis-same)) (λ e. no-true e)) (λ e. enters _ (s .diagnosis-same) refl (f e))
+  -- nothing but a reply
+  answers : (k : Control) (d : Drawn) → Beside c k → (isOutputs d ≡ true → inExchange k ≡ true) → Quiet g c Clear (drawing k d)
+  answers k d s f = draws (s .alike-is) f
 
   -- leave master, and an expired watchdog
   pub clear-quiet : (busy : Bool) → (busy ≡ false → Clear) → Quiet g c Clear (clearOn busy c)
-  clear-quiet busy = clears busy c (alike refl refl refl)
+  clear-quiet busy f = clear-cases (Quiet g c Clear) c answers busy (λ e k s. enters k s refl (f e))
 
   -- a noted clear where the line is idle
   pub clear-noted-quiet : (busy : Bool) → (busy ≡ false → Clear) → Quiet g c Clear (clearNoted busy c)
-  clear-noted-quiet busy f =
-      pick (c .noted && not busy) (λ e. enters _ refl refl (f (not-true busy (and-right (c .noted) (not busy) e)))) (λ _. draws (alike refl refl refl) (λ e. no-true e))
+  clear-noted-quiet busy f = noted-cases (Quiet g c Clear) c answers busy (λ e k s. enters k s refl (f e))
 
   -- a Tick
   pub ticked-quiet : (busy : Bool) → (busy ≡ false → Clear) → Quiet g c Clear (ticked busy c)
-  unfolding ticked
-  ticked-quiet busy f =
-      pick (not (counts c)) (λ _. draws (alike refl refl refl) (λ e. no-true e))
-      (λ _. pick (leb (c .watchdog .remaining) 1) (λ _. clears busy (raise (withRemaining c 0) watchdogEvent) (alike refl refl refl) f)
-      (λ _. draws (alike refl refl refl) (λ e. no-true e)))
+  ticked-quiet busy f = ticked-cases (Quiet g c Clear) c answers busy (λ e k s. enters k s refl (f e))
 
   -- only sets that were there change
   moves : (k : Control) (p q : SetDeed) → k .diagnosis ≡ c .diagnosis → (inExchange c ≡ true → inExchange k ≡ true)
@@ -146,17 +119,16 @@ module _ (g : Setup) (c : Control) {Clear : Type 0} where
 
   -- the judgement of parameters
   pub parameters-quiet : (waits good : Bool) → Clear → Quiet g c Clear (judgedParameters c waits good)
-  unfolding judgedParameters
   parameters-quiet waits good z =
-      pick waits (λ _. moves _ set-deed.Advance set-deed.Keep refl (λ i. i) tt tt)
-      (λ _. pick good (λ _. moves _ set-deed.Drop set-deed.Keep refl (λ i. i) tt tt) (λ _. enters _ refl refl z))
+      parameters-cases (Quiet g c Clear) c answers (λ k d s e. enters k s e z) waits good
+      (λ _. moves _ set-deed.Advance set-deed.Keep refl (λ i. i) tt tt) (λ _. moves _ set-deed.Drop set-deed.Keep refl (λ i. i) tt tt)
 
   -- and of configuration
   pub configuration-quiet : (waits good : Bool) → Clear → Quiet g c Clear (judgedConfiguration c waits good)
-  unfolding judgedConfiguration dataExch
+  unfolding dataExch
   configuration-quiet waits good z =
-      pick waits (λ _. moves _ set-deed.Keep set-deed.Advance refl (λ i. i) tt tt)
-      (λ _. pick good (λ _. moves _ set-deed.Keep set-deed.Drop refl (λ _. refl) tt tt) (λ _. enters _ refl refl z))
+      configuration-cases (Quiet g c Clear) c answers (λ k d s e. enters k s e z) waits good
+      (λ _. moves _ set-deed.Keep set-deed.Advance refl (λ i. i) tt tt) (moves _ set-deed.Keep set-deed.Drop refl (λ _. refl) tt tt)
 
 -- ---- the services
 
@@ -190,22 +162,16 @@ served-from s v = record {
 }
 
 module _ (g : Setup) (c : Control) (r : Request) where
-  -- one of two
-  choose : (p : Bool) {x y : Outcome} → (p ≡ true → Served g c r x) → (p ≡ false → Served g c r y) → Served g c r (cond p x y)
-  choose p {x} {y} = by-test (Served g c r) p x y
-
   -- nothing but a reply
-  replies : (k : Control) {d : Drawn} → Alike c k → (isOutputs d ≡ true → inExchange k ≡ true) → Served g c r (drawing k d)
-  replies k s f = record { lawful = draws s f; in-exchange = λ e. (sym (exchange-same s) ∙ e, refl, refl); judges = s .good-same }
-
-  -- and the control part stays
-  told : {d : Drawn} → isOutputs d ≡ false → Served g c r (drawing c d)
-  told f = replies c (alike refl refl refl) (λ e. no-true (sym f ∙ e))
+  replies : (k : Control) (d : Drawn) → Beside c k → (isOutputs d ≡ true → inExchange k ≡ true) → Served g c r (drawing k d)
+  replies k d s f =
+      let a = s .alike-is in
+      record { lawful = draws a f; in-exchange = λ e. (sym (exchange-same a) ∙ e, refl, refl); judges = a .good-same }
 
   -- WAIT_PRM
-  resets : (k : Control) {d : Drawn} → k .diagnosis ≡ c .diagnosis → isOutputs d ≡ false → Served g c r (enteringWaitPrm k d)
+  resets : (k : Control) (d : Drawn) → k .diagnosis ≡ c .diagnosis → isOutputs d ≡ false → Served g c r (enteringWaitPrm k d)
   unfolding waitPrm
-  resets k e f = record { lawful = enters k e f tt; in-exchange = λ h. no-true h; judges = tt }
+  resets k d e f = record { lawful = enters k e f tt; in-exchange = λ h. no-true h; judges = tt }
 
   -- zeros are published if DATA_EXCH is left
   zeros-come : (Given : Type 0) (t : Bool) → Publishes Given Unit (cond t outputs-deed.Zeros outputs-deed.Keep)
@@ -215,27 +181,21 @@ module _ (g : Setup) (c : Control) (r : Request) where
   zeros-leave : inExchange c ≡ true → zerosIfLeft c ≡ outputs-deed.Zeros
   zeros-leave e = ap (λ (t : Bool). cond t outputs-deed.Zeros outputs-deed.Keep) e
 
-  setPrm-served : (opened : Bool) (p : Prm) → To r 61 → Served g c r (setPrm g c opened r p)
-  unfolding setPrm parametrized waitCfg
-  setPrm-served opened p h =
-      choose (otherOwns c (masterOf r)) (λ _. told refl)
-      (λ _. choose (not (within 7 (r .count) (g .«parameter_len»))) (λ _. resets _ refl refl)
-      (λ w. choose (bit (p .status) 6) (λ _. resets _ refl refl)
-      (λ _. choose (not (bit (p .status) 7)) (λ _. told refl)
-      (λ _. choose (bit (p .status) 5 || bit (p .status) 4) (λ _. resets _ refl refl)
-      (λ _. choose (otherIdent g p || (wantsWatchdog p && badFactors p)) (λ _. resets _ refl refl)
-      (λ _. record {
-        lawful = record {
-          counts-stay = refl;
-          outputs-come = zeros-come _ (inExchange c);
-          parameters-come = (h, within-true 7 (r .count) (g .«parameter_len») (not-false _ w));
-          configuration-come = tt;
-          leaves = λ e _. zeros-leave e;
-          draws-within = λ e. no-true e;
-        };
-        in-exchange = λ e. no-true e;
-        judges = refl;
-      }))))))
+  -- a good Set_Prm
+  prm-served : (opened : Bool) (p : Prm) → To r 61 → Within 7 (r .count) (g .«parameter_len») → Served g c r (goodPrm c opened (masterOf r) p)
+  unfolding parametrized waitCfg
+  prm-served opened p h w = record {
+    lawful = record {
+      counts-stay = refl;
+      outputs-come = zeros-come _ (inExchange c);
+      parameters-come = (h, w);
+      configuration-come = tt;
+      leaves = λ e _. zeros-leave e;
+      draws-within = λ e. no-true e;
+    };
+    in-exchange = λ e. no-true e;
+    judges = refl;
+  }
 
   -- WAIT_CFG entered
   waitCfg-same : (waitCfg c .flags .«parameters_good» ≡ c .flags .«parameters_good») × (waitCfg c .diagnosis ≡ c .diagnosis)
@@ -244,82 +204,51 @@ module _ (g : Setup) (c : Control) (r : Request) where
       by-test (λ (d : Control). (d .flags .«parameters_good» ≡ c .flags .«parameters_good») × (d .diagnosis ≡ c .diagnosis))
       (inExchange c) (withEvents c (raised (leftExchange c) outputsEvent)) c (λ _. (refl, refl)) (λ _. (refl, refl))
 
-  chkCfg-served : (opened : Bool) → To r 62 → Served g c r (chkCfg g c opened r)
-  unfolding chkCfg waitCfg
-  chkCfg-served opened h =
-      choose (not (owns c (masterOf r))) (λ _. told refl)
-      (λ _. choose (not (within 1 (r .count) (g .«configuration_len»))) (λ _. resets _ refl refl)
-      (λ w. record {
-        lawful = record {
-          counts-stay = waitCfg-same .1;
-          outputs-come = zeros-come _ (inExchange c);
-          parameters-come = tt;
-          configuration-come = (h, within-true 1 (r .count) (g .«configuration_len») (not-false _ w));
-          leaves = λ e _. zeros-leave e;
-          draws-within = λ e. no-true e;
-        };
-        in-exchange = λ e. no-true e;
-        judges = waitCfg-same .0;
-      }))
-
-  -- published, or zeros by Global_Control: the phase and the sets stay
-  publishes : (k : Control) (d : OutputsDeed) (x : Drawn) → Alike c k → isOutputs x ≡ false → Publishes (Plain r × (r .count ≡ g .«output_len»)) Unit d
-      → Served g c r (record { control = k; outputs = d; parameters = set-deed.Keep; configuration = set-deed.Keep; drawn = x })
-  publishes k d x s f p = record {
+  -- a good Chk_Cfg
+  cfg-served : (opened : Bool) → To r 62 → Within 1 (r .count) (g .«configuration_len») → Served g c r (goodCfg c opened)
+  unfolding waitCfg
+  cfg-served opened h w = record {
     lawful = record {
-      counts-stay = s .diagnosis-same;
-      outputs-come = p;
+      counts-stay = waitCfg-same .1;
+      outputs-come = zeros-come _ (inExchange c);
       parameters-come = tt;
-      configuration-come = tt;
-      leaves = λ e h. no-true (sym h ∙ exchange-same s ∙ e);
-      draws-within = λ e. no-true (sym f ∙ e);
+      configuration-come = (h, w);
+      leaves = λ e _. zeros-leave e;
+      draws-within = λ e. no-true e;
     };
-    in-exchange = λ e. (sym (exchange-same s) ∙ e, refl, refl);
-    judges = s .good-same;
+    in-exchange = λ e. no-true e;
+    judges = waitCfg-same .0;
   }
 
-  dataExchange-served : Plain r → Served g c r (dataExchange g c r)
-  unfolding dataExchange
-  dataExchange-served h =
-      choose (not (exchanges c r)) (λ _. told refl)
-      (λ _. choose (not (eqb (r .count) (g .«output_len»))) (λ _. resets _ refl refl)
-      (λ w. publishes _ outputs-deed.Publish drawn.Exchange (alike refl refl refl) refl (h, eqb-true _ _ (not-false _ w))))
-
-  slaveDiag-served : Served g c r (slaveDiag c r)
-  unfolding slaveDiag
-  slaveDiag-served =
-      choose (owns c (masterOf r) && not (c .flags .«stat_diag»)) (λ _. replies _ (alike refl refl refl) (λ e. no-true e)) (λ _. told refl)
-
-  globalControl-served : (first second : ℕ) → Served g c r (globalControl c r first second)
-  unfolding globalControl
-  globalControl-served first second =
-      choose (controls c r second)
-      (λ _. choose (bit first 1)
-      (λ _. publishes _ outputs-deed.Zeros drawn.Nothing (alike (stored .phase-same) (stored .good-same) (stored .diagnosis-same)) refl tt)
-      (λ _. replies _ stored (λ e. no-true e)))
-      (λ _. told refl)
+  -- published, or zeros by Global_Control: the phase and the sets stay
+  publishes : (k : Control) (d : OutputsDeed) (x : Drawn) → Beside c k → isOutputs x ≡ false → Published (Plain r × (r .count ≡ g .«output_len»)) d
+      → Served g c r (record { control = raise k outputsEvent; outputs = d; parameters = set-deed.Keep; configuration = set-deed.Keep; drawn = x })
+  publishes k d x s f p =
+      let a = s .alike-is in
+      record {
+        lawful = record {
+          counts-stay = a .diagnosis-same;
+          outputs-come = comes d p;
+          parameters-come = tt;
+          configuration-come = tt;
+          leaves = λ e h. no-true (sym h ∙ exchange-same a ∙ e);
+          draws-within = λ e. no-true (sym f ∙ e);
+        };
+        in-exchange = λ e. (sym (exchange-same a) ∙ e, refl, refl);
+        judges = a .good-same;
+      }
     where
-      stored : Alike c (storing c first)
-      stored = by-test (Alike c) (eqb first (c .stored)) c (raise (withStored c first) controlEvent) (λ _. alike refl refl refl) (λ _. alike refl refl refl)
+      comes : (u : OutputsDeed) → Published (Plain r × (r .count ≡ g .«output_len»)) u → Publishes (Plain r × (r .count ≡ g .«output_len»)) Unit u
+      comes outputs-deed.Keep q = tt
+      comes outputs-deed.Publish q = q
+      comes outputs-deed.Zeros q = tt
 
-  -- Read_Inputs and Read_Outputs
-  reads : (d : Drawn) → Served g c r (cond (inExchange c) (drawing c d) (drawing c drawn.Rejected))
-  reads d = choose (inExchange c) (λ e. replies c (alike refl refl refl) (λ _. e)) (λ _. told refl)
-
-  -- each service, with the header that it has
-  serve-served : (v : Service) (sets : OpenSets) (octets : Data) → Headed v r → Served g c r (serve v g c sets r octets)
-  serve-served Nothing sets octets h = told refl
-  serve-served Status sets octets h = told refl
-  serve-served Reject sets octets h = told refl
-  serve-served GlobalControl sets octets h = globalControl-served (octets .first) (octets .second)
-  serve-served DataExchange sets octets h = dataExchange-served h
-  serve-served SetPrm sets octets h = setPrm-served (sets .parameters) (octets .prm) h
-  serve-served ChkCfg sets octets h = chkCfg-served (sets .configuration) h
-  serve-served SlaveDiag sets octets h = slaveDiag-served
-  serve-served GetCfg sets octets h = told refl
-  serve-served ReadInputs sets octets h = reads drawn.Inputs
-  serve-served ReadOutputs sets octets h = reads drawn.Outputs
+  -- each service
+  serve-served : (sets : OpenSets) (octets : Data) → Served g c r (serve (serviceOf g r) g c sets r octets)
+  serve-served sets octets =
+      serve-cases (Served g c r) c replies resets g r sets (prm-served (sets .parameters)) (cfg-served (sets .configuration)) publishes
+      (serviceOf g r) octets (headed r g)
 
 -- every telegram
 pub served : (g : Setup) (c : Control) (sets : OpenSets) (r : Request) (octets : Data) → Served g c r (outcomeBy g c sets r octets)
-served g c sets r octets = served-from (refilled-alike g c r) (serve-served g (refilled g c r) r (serviceOf g r) sets octets (headed r g))
+served g c sets r octets = served-from (refilled-alike g c r) (serve-served g (refilled g c r) r sets octets)
