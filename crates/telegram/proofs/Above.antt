@@ -15,8 +15,10 @@ use Rattle.telegram.specs.Telegram.{Telegram, sd1, sd2, sd3, sd4, octets
 use Rattle.telegram.specs.Reading.{start, moved, readTo, readerStep, run, status, statusAt, takesData, datumOf, gathered}
 use Rattle.telegram.proofs.Run.{inside-broken}
 use Rattle.telegram.proofs.Steps.{data-body, data-step}
+use Rattle.telegram.proofs.Counts.{start-counts}
 use Rattle.telegram.proofs.Framing.{framing}
-use Rattle.telegram.proofs.Onward.{inHead, step-onward, none-from}
+use Rattle.telegram.specs.Counts.{beforeData}
+use Rattle.telegram.proofs.Onward.{step-onward, none-from}
 use Rattle.telegram.proofs.Gather.{gather-append, counts-from}
 
 -- ---- the first octet
@@ -89,9 +91,9 @@ module _ (r : Reader) (b : ℕ) (e : takesData r ≡ true) where
 -- an octet that does not break off: nothing was gathered so far, or DA and DSAP stay
 pub empty-or-onward : (xs : List ℕ) (b : ℕ) → ¬ (status (readerStep (run xs) b) ≡ Broken)
     → (gathered start xs ≡ []) ⊎ Onward (run xs) (readerStep (run xs) b)
-empty-or-onward xs b n = go (inHead (run xs .phase)) refl
+empty-or-onward xs b n = go (beforeData (run xs .phase)) refl
   where
-    go : (c : Bool) → inHead (run xs .phase) ≡ c → (gathered start xs ≡ []) ⊎ Onward (run xs) (readerStep (run xs) b)
+    go : (c : Bool) → beforeData (run xs .phase) ≡ c → (gathered start xs ≡ []) ⊎ Onward (run xs) (readerStep (run xs) b)
     go true h = inl (none-from start xs h)
     go false h = let o = step-onward (run xs) b h n in inr (record { da = o .0; dsap = o .1 })
 
@@ -109,4 +111,4 @@ module _ (xs : List ℕ) (b : ℕ) where
 -- the number of a data octet is how many came before it
 pub counts : (xs : List ℕ) → takesData (run xs) ≡ true → run xs .at ≡ length (gathered start xs)
 counts xs e =
-    counts-from start xs (λ _. refl) (λ n. inside-broken (sym (data-inside (run xs) e) ∙ n)) ∙ zero-add (length (gathered start xs))
+    counts-from start xs start-counts (λ n. inside-broken (sym (data-inside (run xs) e) ∙ n)) ∙ zero-add (length (gathered start xs))

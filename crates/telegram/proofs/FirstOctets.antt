@@ -20,7 +20,7 @@ inside : (b : ℕ) → status (run (b ∷ [])) ≡ Inside → Continues (b ∷ [
 inside b e = framing (b ∷ []) .part .0 e .2
 
 goes : (b : ℕ) → Delimiter b → Continues (b ∷ [])
-unfolding readerStep
+unfolding readerStep status
 goes b (inl e) = subst (λ (x : ℕ). Continues (x ∷ [])) (sym e) (inside 0x10 refl)
 goes b (inr (inl e)) = subst (λ (x : ℕ). Continues (x ∷ [])) (sym e) (inside 0x68 refl)
 goes b (inr (inr (inl e))) = subst (λ (x : ℕ). Continues (x ∷ [])) (sym e) (inside 0xA2 refl)

@@ -14,7 +14,8 @@ use Rattle.telegram.specs.declared.reader.Reader.{Reader}
 use Rattle.telegram.specs.declared.reader.Status.the-variants.{Broken}
 use Rattle.telegram.specs.Reading.{rd, before, moved, off, okAt, nextAt, readerStep, runFrom, status, inBody, takesData, gathered}
 use Rattle.telegram.proofs.Run.{no-true, stays-broken}
-use Rattle.telegram.proofs.Onward.{inHead}
+use Rattle.telegram.specs.Counts.{beforeData, ReadCounts}
+use Rattle.telegram.proofs.Counts.{next-counts}
 
 -- over two lists, the second from where the first led
 pub gather-append : (r : Reader) (xs ys : List ℕ) → gathered r (xs ++ ys) ≡ gathered r xs ++ gathered (runFrom r xs) ys
@@ -27,10 +28,6 @@ gather-append r (x ∷ xs) ys = go (takesData r) (gather-append (readerStep r x)
     go true e = ap (λ (l : List ℕ). x ∷ l) e
     go false e = e
 
--- before its data a reader has counted none
-abbrev None : Reader → Type 0
-None r = inHead (r .phase) ≡ true → r .at ≡ 0
-
 abbrev one : Bool → ℕ
 one true = 1
 one false = 0
@@ -42,7 +39,7 @@ at-start false false true = refl
 at-start false false false = refl
 
 -- a step counts its octet if that is data
-next-at : (p : Phase) (r : Reader) (b : ℕ) → (inHead p ≡ true → r .at ≡ 0) → okAt p r b ≡ true
+next-at : (p : Phase) (r : Reader) (b : ℕ) → (beforeData p ≡ true → r .at ≡ 0) → okAt p r b ≡ true
     → (nextAt p r b) .at ≡ r .at + one (inBody p && ltb (r .at) (r .count))
 next-at Start r b f e = let z = f refl in at-start (eqb b 0x10) (eqb b 0xA2) (eqb b 0xDC) ∙ omega arith
 next-at Le r b f e = let z = f refl in omega arith
@@ -63,32 +60,12 @@ next-at End r b f e = sym (add-zero (r .at))
 next-at Done r b f e = no-true e
 next-at Off r b f e = no-true e
 
-none-next : (p : Phase) (r : Reader) (b : ℕ) → (inHead p ≡ true → r .at ≡ 0) → None (nextAt p r b)
-none-next Start r b f = λ _. at-start (eqb b 0x10) (eqb b 0xA2) (eqb b 0xDC)
-none-next Le r b f = λ _. refl
-none-next LeAgain r b f = λ _. refl
-none-next SdAgain r b f = λ _. refl
-none-next Da r b f = λ _. f refl
-none-next Sa r b f = λ _. f refl
-none-next Fc r b f = λ _. f refl
-none-next Dsap r b f = λ _. f refl
-none-next Ssap r b f = λ _. f refl
-none-next Body r b f = go (ltb (r .at) (r .count))
-  where
-    go : (c : Bool)
-        → None (cond c (rd Body (r .kind) (r .count) (r .at + 1) (r .da) (r .sa) (r .fc) (r .dsap) (r .ssap) ((r .sum + b) % 256)) (moved r End))
-    go true = λ e. no-true e
-    go false = λ e. no-true e
-none-next End r b f = λ e. no-true e
-none-next Done r b f = λ e. no-true e
-none-next Off r b f = λ e. no-true e
-
 length-cond : (c : Bool) (x : ℕ) (l : List ℕ) → length (cond c (x ∷ l) l) ≡ one c + length l
 length-cond true x l = omega arith
 length-cond false x l = omega arith
 
 -- as many data octets are gathered as the reader has counted
-pub counts-from : (r : Reader) (xs : List ℕ) → None r → ¬ (status (runFrom r xs) ≡ Broken)
+pub counts-from : (r : Reader) (xs : List ℕ) → ReadCounts r → ¬ (status (runFrom r xs) ≡ Broken)
     → (runFrom r xs) .at ≡ r .at + length (gathered r xs)
 unfolding readerStep takesData
 counts-from r [] f n = sym (add-zero (r .at))
@@ -96,14 +73,14 @@ counts-from r (x ∷ xs) f n = go (okAt (r .phase) r x) refl n (counts-from (rea
   where
     go : (c : Bool) → okAt (r .phase) r x ≡ c
         → ¬ (status (runFrom (cond c (nextAt (r .phase) r x) off) xs) ≡ Broken)
-        → (None (cond c (nextAt (r .phase) r x) off) → ¬ (status (runFrom (cond c (nextAt (r .phase) r x) off) xs) ≡ Broken)
+        → (ReadCounts (cond c (nextAt (r .phase) r x) off) → ¬ (status (runFrom (cond c (nextAt (r .phase) r x) off) xs) ≡ Broken)
         → (runFrom (cond c (nextAt (r .phase) r x) off) xs) .at
         ≡ (cond c (nextAt (r .phase) r x) off) .at + length (gathered (cond c (nextAt (r .phase) r x) off) xs))
         → (runFrom (cond c (nextAt (r .phase) r x) off) xs) .at
         ≡ r .at + length (cond (takesData r) (x ∷ gathered (cond c (nextAt (r .phase) r x) off) xs) (gathered (cond c (nextAt (r .phase) r x) off) xs))
     go true e m ih =
-        let a = ih (none-next (r .phase) r x f) m in
-        let s = next-at (r .phase) r x f e in
+        let a = ih (next-counts r x (f .count) (f .read) (r .phase) (f .none-yet) e) m in
+        let s = next-at (r .phase) r x (f .none-yet) e in
         let l = length-cond (takesData r) x (gathered (nextAt (r .phase) r x) xs) in
         omega arith
     go false e m ih = absurd (m (stays-broken xs))

@@ -9,37 +9,22 @@ use Rattle.telegram.specs.declared.reader.Phase.the-variants.{Start, Le,
 use Rattle.telegram.specs.declared.reader.Reader.{Reader}
 use Rattle.telegram.specs.declared.reader.Status.the-variants.{Broken}
 use Rattle.telegram.specs.Reading.{rd, moved, off, okAt, nextAt, readerStep, runFrom, status, takesData, gathered}
+use Rattle.telegram.specs.Counts.{beforeData}
 use Rattle.telegram.proofs.Run.{no-true}
 use Rattle.telegram.proofs.Steps.{data-body}
-
--- before the data
-abbrev pub inHead : Phase → Bool
-inHead Start = true
-inHead Le = true
-inHead LeAgain = true
-inHead SdAgain = true
-inHead Da = true
-inHead Sa = true
-inHead Fc = true
-inHead Dsap = true
-inHead Ssap = true
-inHead Body = false
-inHead End = false
-inHead Done = false
-inHead Off = false
 
 -- from r on to q DA and DSAP stay, and q is behind the header
 record Behind (r q : Reader) : Type 0 where
   da : q .da ≡ r .da
   dsap : q .dsap ≡ r .dsap
-  behind : inHead (q .phase) ≡ false
+  behind : beforeData (q .phase) ≡ false
 
 body-onward : (c : Bool) (r : Reader) (b : ℕ)
     → Behind r (cond c (rd Body (r .kind) (r .count) (r .at + 1) (r .da) (r .sa) (r .fc) (r .dsap) (r .ssap) ((r .sum + b) % 256)) (moved r End))
 body-onward true r b = record { da = refl; dsap = refl; behind = refl }
 body-onward false r b = record { da = refl; dsap = refl; behind = refl }
 
-next-onward : (p : Phase) (r : Reader) (b : ℕ) → inHead p ≡ false → okAt p r b ≡ true → Behind r (nextAt p r b)
+next-onward : (p : Phase) (r : Reader) (b : ℕ) → beforeData p ≡ false → okAt p r b ≡ true → Behind r (nextAt p r b)
 next-onward Start r b h o = no-true (sym h)
 next-onward Le r b h o = no-true (sym h)
 next-onward LeAgain r b h o = no-true (sym h)
@@ -54,7 +39,7 @@ next-onward End r b h o = record { da = refl; dsap = refl; behind = refl }
 next-onward Done r b h o = no-true o
 next-onward Off r b h o = no-true o
 
-module _ (r : Reader) (b : ℕ) (h : inHead (r .phase) ≡ false) where
+module _ (r : Reader) (b : ℕ) (h : beforeData (r .phase) ≡ false) where
   -- a step from behind the header leaves DA and DSAP, unless it breaks off
   pub step-onward : ¬ (status (readerStep r b) ≡ Broken) → (readerStep r b .da ≡ r .da) × (readerStep r b .dsap ≡ r .dsap)
   unfolding readerStep status
@@ -66,31 +51,31 @@ module _ (r : Reader) (b : ℕ) (h : inHead (r .phase) ≡ false) where
       go false e n = absurd (n refl)
 
   -- and never leads back
-  never-back : inHead ((readerStep r b) .phase) ≡ false
+  never-back : beforeData ((readerStep r b) .phase) ≡ false
   unfolding readerStep
   never-back = go (okAt (r .phase) r b) refl
     where
-      go : (c : Bool) → okAt (r .phase) r b ≡ c → inHead ((cond c (nextAt (r .phase) r b) off) .phase) ≡ false
+      go : (c : Bool) → okAt (r .phase) r b ≡ c → beforeData ((cond c (nextAt (r .phase) r b) off) .phase) ≡ false
       go true e = next-onward (r .phase) r b h e .behind
       go false e = refl
 
-stays-behind : (r : Reader) (xs : List ℕ) → inHead (r .phase) ≡ false → inHead ((runFrom r xs) .phase) ≡ false
+stays-behind : (r : Reader) (xs : List ℕ) → beforeData (r .phase) ≡ false → beforeData ((runFrom r xs) .phase) ≡ false
 stays-behind r [] h = h
 stays-behind r (x ∷ xs) h = stays-behind (readerStep r x) xs (never-back r x h)
 
 -- in the header no data comes
-head-takes : (r : Reader) → inHead (r .phase) ≡ true → takesData r ≡ false
+head-takes : (r : Reader) → beforeData (r .phase) ≡ true → takesData r ≡ false
 head-takes r h = go (takesData r) refl
   where
     go : (c : Bool) → takesData r ≡ c → c ≡ false
-    go true e = no-true (sym (ap inHead (data-body r e)) ∙ h)
+    go true e = no-true (sym (ap beforeData (data-body r e)) ∙ h)
     go false e = refl
 
 -- and nothing was gathered
-pub none-from : (r : Reader) (xs : List ℕ) → inHead ((runFrom r xs) .phase) ≡ true → gathered r xs ≡ []
+pub none-from : (r : Reader) (xs : List ℕ) → beforeData ((runFrom r xs) .phase) ≡ true → gathered r xs ≡ []
 none-from r [] h = refl
-none-from r (x ∷ xs) h = go (inHead (r .phase)) refl (none-from (readerStep r x) xs h)
+none-from r (x ∷ xs) h = go (beforeData (r .phase)) refl (none-from (readerStep r x) xs h)
   where
-    go : (c : Bool) → inHead (r .phase) ≡ c → gathered (readerStep r x) xs ≡ [] → gathered r (x ∷ xs) ≡ []
+    go : (c : Bool) → beforeData (r .phase) ≡ c → gathered (readerStep r x) xs ≡ [] → gathered r (x ∷ xs) ≡ []
     go true e ih = rw (head-takes r e) ih
     go false e ih = no-true (sym (stays-behind (readerStep r x) xs (never-back r x e)) ∙ h)
