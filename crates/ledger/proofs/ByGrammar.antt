@@ -59,7 +59,7 @@ module _ (l : Ledger) (b : ℕ) (i : l .line .ignored ≡ false) where
   ys = octetsWith l b
 
   flagged : (bad : Bool) → bad ≡ true → heard l b bad ≡ breaksOff l
-  flagged bad e = broken-heard l b bad i (rw e)
+  flagged bad e = broken-heard l b bad i (rw e (framing xs .flagged b []))
 
   hopeless : (bad : Bool) → Hopeless ys → heard l b bad ≡ breaksOff l
   hopeless true h = flagged true refl

@@ -11,7 +11,6 @@ pub mod ReadBack
 pub mod Fit
 pub mod EventsCarried
 pub mod EventsFollow
-pub mod OctetLists
 pub mod OctetReplies
 pub mod OctetsCarried
 pub mod Octets

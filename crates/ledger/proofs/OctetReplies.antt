@@ -18,7 +18,7 @@ use Rattle.rules.specs.Replies.{exchangeFc}
 use Rattle.ledger.specs.Lists.{Outputs as OutputLists, Inputs as InputLists, Sets, Diagnoses, Buffers}
 use Rattle.ledger.specs.Replies.{headerOctets, diagnosisOctets, shortTelegram, serviceTelegram, replyBy, replyOctets}
 use Rattle.ledger.proofs.ReadBack.{ValidReply}
-use Rattle.ledger.proofs.OctetLists.{both-octets, take-octets, drop-octets, telegram-octets}
+use Rattle.telegram.proofs.OctetLists.{both-octets, take-octets, drop-octets, telegram-octets}
 
 -- ---------------------------------------------------------------------------------------------------
 -- The lists in place of buffers.

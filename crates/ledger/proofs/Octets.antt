@@ -1,8 +1,8 @@
 -- Replies are octets (specs/Octets.antt): every list of a ledger that is fed octets has octets alone.
 use Prim.Native.Nat.{ℕ, _<_}
 use native.Mathlib.Omega.{arith}
-use mathlib.Core.Path.{_≡_, refl, ap}
-use mathlib.Core.Bool.{Bool, false}
+use mathlib.Core.Path.{_≡_, refl, sym, ap, subst, _∙_}
+use mathlib.Core.Bool.{Bool, true, false}
 use mathlib.Core.List.{List, [], _∷_, _++_}
 use lib.Dec.{eqb}
 use lib.ListN.{getD}
@@ -10,6 +10,9 @@ use Rattle.telegram.specs.declared.reader.Status.{Status}
 use Rattle.telegram.specs.declared.reader.Status.the-variants.{Fresh, Inside, Complete, Broken}
 use Rattle.telegram.specs.Telegram.{Telegram, payloadOf, Octets}
 use Rattle.telegram.specs.Reading.{run, readerAfter, status}
+use Rattle.telegram.proofs.Run.{broken-complete, run-snoc}
+use Rattle.telegram.proofs.Framing.{framing}
+use Rattle.telegram.proofs.OctetLists.{both-octets, zero-octets, octet-at, payload-octets}
 use Rattle.state.specs.declared.setup.Setup.{Setup}
 use Rattle.state.specs.declared.answer.Answer.the-variants.{Value}
 use Rattle.state.proofs.Choice.{either}
@@ -29,12 +32,20 @@ use Rattle.ledger.specs.ReadBack.{Fit}
 use Rattle.ledger.specs.Octets.{OctetsIn, AllOctets, AnswersOctets, SentOctets}
 use Rattle.ledger.proofs.ByCases.{take-cases, read-cases, write-cases, diagnosis-cases, parameters-cases, configuration-cases}
 use Rattle.ledger.proofs.Fit.{master-low, drawn-valid, step-fit, replies-read}
-use Rattle.ledger.proofs.OctetLists.{both-octets, zero-octets, octet-at, heard-octets}
 use Rattle.ledger.proofs.OctetReplies.{ListOctets, reply-octets}
 use Rattle.ledger.proofs.OctetsCarried.{Octal, on-line, on-lists, on-inputs, taken-octal, written-octal, carried-octal, changed-octal, settle-octal}
 
 -- ---------------------------------------------------------------------------------------------------
 -- Each call.
+
+-- octets that are complete with the last one are a telegram with octets for data
+heard-octets : (xs : List ℕ) (b : ℕ) (bad : Bool) → Octets (xs ++ b ∷ []) → status (readerAfter (run xs) b bad) ≡ Complete
+    → Octets (payloadOf (telegramOn (xs ++ b ∷ [])))
+heard-octets xs b true o e = absurd (broken-complete (sym (framing xs .flagged b []) ∙ e))
+heard-octets xs b false o e =
+    let ys = xs ++ b ∷ [] in
+    let w = framing ys .whole .0 (ap status (run-snoc xs b) ∙ e) in
+    subst (λ (t : Telegram). Octets (payloadOf t)) (sym (framing ys .told (w .0) (w .1) (w .2))) (payload-octets (w .0) (subst Octets (sym (w .2)) o))
 
 -- a complete telegram with octets for data
 completed-octal : {l : Ledger} (t : Telegram) → Fit l → Octal l → Octets (payloadOf t) → Octal (completed l t)
@@ -151,7 +162,7 @@ octal-answers l f = record {
   );
   reads-octet = λ kind index n.
       read-cases (λ t. t .answer ≡ Value n → n < 256) l kind index (λ r e. let z : _≡_ {A = ℕ} 0 1 = cc in absurd (omega arith))
-      (λ e. let m : getD (octetsOfKind (l .buffers) kind) index 0 ≡ n = cc in rw (← m) (octet-at (octetsOfKind (l .buffers) kind) index (kind-octets (l .buffers) kind (f .lists))));
+      (λ e. let m : getD (octetsOfKind (l .buffers) kind) index 0 ≡ n = cc in rw (← m) (octet-at (octetsOfKind (l .buffers) kind) (kind-octets (l .buffers) kind (f .lists)) index));
 }
 
 -- from Start on

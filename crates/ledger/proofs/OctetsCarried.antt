@@ -19,7 +19,7 @@ use Rattle.ledger.specs.Lists.{some, Outputs, takenOutputs, Inputs, writ
 use Rattle.ledger.specs.Ledger.{Line, Ledger, withLine, busy, diagnosisLeaves}
 use Rattle.ledger.specs.Outcome.{onOutputs, onInputs, onSets, onBuffers, carried, diagnosisChanged, afterReply, settle}
 use Rattle.ledger.specs.User.{writtenOctet}
-use Rattle.ledger.proofs.OctetLists.{set-octets, zero-octets}
+use Rattle.telegram.proofs.OctetLists.{set-octets, zero-octets}
 use Rattle.ledger.proofs.OctetReplies.{OutputOctets, InputOctets, SetOctets, DiagnosisOctets, ListOctets}
 
 -- what a ledger that is fed octets keeps

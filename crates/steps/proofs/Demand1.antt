@@ -1,13 +1,14 @@
 -- Demand 1 (specs/Demand1.antt): refusal 5 is the damage check's alone, and a refusal leaves the memory.
-use Prim.Native.Nat.{ℕ, zero, suc, _<_}
+use Prim.Native.Nat.{ℕ}
 use native.Mathlib.Omega.{arith}
 use mathlib.Core.Path.{_≡_, refl, sym, ap, subst, _∙_}
 use mathlib.Core.Logic.{_↔_}
 use mathlib.Core.Bool.{Bool, true, false, not}
-use mathlib.Core.List.{List, [], _∷_}
+use mathlib.Core.List.{List}
 use lib.Dec.{ltb}
-use lib.ListN.{length, getD}
+use lib.ListN.{length}
 use Rattle.telegram.specs.Telegram.{Octets}
+use Rattle.telegram.proofs.OctetLists.{octet-at}
 use Rattle.state.specs.declared.answer.Answer.{Answer}
 use Rattle.state.specs.declared.answer.Answer.the-variants.{Value, Refused}
 use Rattle.state.specs.declared.answer.Refusal.{Refusal}
@@ -40,12 +41,6 @@ unfolding stepOver
 by-step m c = step-cases (unpacked m) m (λ (t : Told). ByStep (packed m t .answer)) (λ n t x. tt) (λ why u. u) c
 
 -- ---- the damage check
-
--- each of a list of octets
-octet-at : (m : List ℕ) → Octets m → (i : ℕ) → getD m i 0 < 256
-octet-at [] o i = omega arith
-octet-at (x ∷ m) o zero = o .0
-octet-at (x ∷ m) o (suc i) = octet-at m (o .1) i
 
 -- no call on a memory that is well answers 5
 well-answers : (m : List ℕ) (c : Call) → wellMemory m ≡ true → ¬ (called m c .answer ≡ Refused Damaged)

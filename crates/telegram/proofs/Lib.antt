@@ -15,3 +15,4 @@ pub mod Sends
 mod Bench
 pub mod Counts
 pub mod FirstOctets
+pub mod OctetLists

@@ -2,18 +2,11 @@
 use Prim.Native.Nat.{ℕ, zero, suc, _<_}
 use native.Mathlib.Nat.{mod-lt}
 use native.Mathlib.Omega.{arith}
-use mathlib.Core.Path.{_≡_, sym, ap, subst, _∙_}
-use mathlib.Core.Bool.{Bool, true, false}
+use mathlib.Core.Bool.{Bool, true, false, cond}
 use mathlib.Core.List.{List, [], _∷_, _++_}
 use lib.ListN.{take, drop, set, replicate, getD}
-use Rattle.telegram.specs.declared.reader.Status.the-variants.{Complete}
 use Rattle.telegram.specs.Checksum.{checksum, total}
 use Rattle.telegram.specs.Telegram.{Telegram, sd1, sd2, sd3, sd4, daOf, saOf, fcOf, dataOf, headOf, coveredOf, tailOf, octetsOf, payloadOf, extended, Valid, Octets}
-use Rattle.telegram.specs.Reading.{run, readerAfter, status}
-use Rattle.telegram.proofs.Run.{broken-complete, run-snoc}
-use Rattle.telegram.proofs.Framing.{framing}
-use Rattle.state.proofs.Choice.{either}
-use Rattle.ledger.specs.Bus.{telegramOn}
 
 -- ---------------------------------------------------------------------------------------------------
 -- Lists.
@@ -52,10 +45,10 @@ zero-octets zero = tt
 zero-octets (suc n) = (omega arith, zero-octets n)
 
 -- each of them
-pub octet-at : (xs : List ℕ) (n : ℕ) → Octets xs → getD xs n 0 < 256
-octet-at [] n o = omega arith
-octet-at (x ∷ xs) zero o = o .0
-octet-at (x ∷ xs) (suc n) o = octet-at xs n (o .1)
+pub octet-at : (xs : List ℕ) → Octets xs → (n : ℕ) → getD xs n 0 < 256
+octet-at [] o n = omega arith
+octet-at (x ∷ xs) o zero = o .0
+octet-at (x ∷ xs) o (suc n) = octet-at xs (o .1) n
 
 -- ---------------------------------------------------------------------------------------------------
 -- Telegrams.
@@ -105,15 +98,9 @@ data-octets (sd3 da sa fc ds) o = first-octets ds (tailOf (sd3 da sa fc ds)) (o 
 data-octets (sd4 da sa) o = tt
 
 -- and without DSAP and SSAP
-payload-octets : (t : Telegram) → Octets (octetsOf t) → Octets (payloadOf t)
-payload-octets t o = either Octets (extended t) (drop-octets 2 (dataOf t) (data-octets t o)) (data-octets t o)
-
--- octets that are complete with the last one are a telegram with octets for data
-pub heard-octets : (xs : List ℕ) (b : ℕ) (bad : Bool) → Octets (xs ++ b ∷ []) → status (readerAfter (run xs) b bad) ≡ Complete
-    → Octets (payloadOf (telegramOn (xs ++ b ∷ [])))
-heard-octets xs b true o e = absurd (broken-complete e)
-heard-octets xs b false o e =
-    let ys = xs ++ b ∷ [] in
-    let w = framing ys .whole .0 (ap status (run-snoc xs b) ∙ e) in
-    let same : telegramOn ys ≡ w .0 = framing ys .told (w .0) (w .1) (w .2) in
-    subst (λ (t : Telegram). Octets (payloadOf t)) (sym same) (payload-octets (w .0) (subst Octets (sym (w .2)) o))
+pub payload-octets : (t : Telegram) → Octets (octetsOf t) → Octets (payloadOf t)
+payload-octets t o = go (extended t)
+  where
+    go : (c : Bool) → Octets (cond c (drop 2 (dataOf t)) (dataOf t))
+    go true = drop-octets 2 (dataOf t) (data-octets t o)
+    go false = data-octets t o
