@@ -36,11 +36,7 @@ pub or-right : (p q : Bool) → p || q ≡ false → q ≡ false
 or-right true q e = no-true (sym e)
 or-right false q e = e
 
--- one of two tests holds: the second where the first fails
-pub or-other : (p q : Bool) → p || q ≡ true → p ≡ false → q ≡ true
-or-other true q e f = no-true (sym f)
-or-other false q e f = e
-
+-- one of two tests holds where the second does if the first fails
 pub or-holds : (p q : Bool) → (p ≡ false → q ≡ true) → p || q ≡ true
 or-holds true q f = refl
 or-holds false q f = f refl

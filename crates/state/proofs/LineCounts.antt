@@ -1,16 +1,19 @@
--- Whether a phase or a stage is before the data, by its number, and the test of the octet that then is 0.
+-- Whether a phase or a stage is before the data, by its number, and the test of the data octets that are read or sent.
 use Prim.Native.Nat.{ℕ, _≤_}
+use native.Mathlib.Omega.{arith}
 use mathlib.Core.Path.{_≡_, refl, sym, ap, _∙_}
-use mathlib.Core.Bool.{Bool, true, not, _||_}
+use mathlib.Core.Bool.{Bool, true, false, not, _&&_, _||_}
 use lib.Dec.{leb, eqb}
-use borrow.Author.Tests.{eqb-true, eq-eqb, not-false}
+use borrow.Author.Tests.{leb-true, le-leb, eqb-true, eqb-false}
 use Rattle.telegram.specs.declared.reader.Phase.{Phase}
 use Rattle.telegram.specs.declared.reader.Phase.the-variants as reading
 use Rattle.telegram.specs.declared.sender.Stage.{Stage}
 use Rattle.telegram.specs.declared.sender.Stage.the-variants as stage
 use Rattle.telegram.specs.Counts.{beforeData, stageBeforeData}
+use Rattle.telegram.proofs.Run.{no-true}
 use Rattle.state.specs.Number.{readingNumber, readingNumbered, stageNumber, stageNumbered}
-use Rattle.state.proofs.Choice.{or-other, or-holds}
+use Rattle.state.specs.Well.{partDone}
+use Rattle.state.proofs.Choice.{and-left, and-right, or-holds}
 use Rattle.state.proofs.Numbers.{reading-counted, stage-counted}
 
 -- a reader's phase is before the data exactly if its number is below 9
@@ -51,12 +54,21 @@ stage-before stage.Empty = refl
 pub stage-numbered : (n : ℕ) → n ≤ 10 → leb 7 n ≡ not (stageBeforeData (stageNumbered n))
 stage-numbered n h = ap (leb 7) (sym (stage-counted n h)) ∙ stage-before (stageNumbered n)
 
--- n is a number before the data exactly if it is below first; k octets were read or sent
-module _ (first n k : ℕ) {before : Bool} (e : leb first n ≡ not before) where
-  -- the test holds: before the data there are none
-  pub none-yet-true : leb first n || eqb k 0 ≡ true → before ≡ true → k ≡ 0
-  none-yet-true h b = eqb-true k 0 (or-other (leb first n) (eqb k 0) h (e ∙ ap not b))
+-- n is the number of a phase, which is before the data exactly if it is below first; of c data octets k are done
+module _ (first n c k : ℕ) {before : Bool} (e : leb first n ≡ not before) where
+  -- what the test says of them
+  pub part-true : partDone first n c k ≡ true → (k ≤ c) × (before ≡ true → k ≡ 0)
+  part-true h = go (eqb k 0) refl h
+    where
+      go : (t : Bool) → eqb k 0 ≡ t → t || (leb first n && leb k c) ≡ true → (k ≤ c) × (before ≡ true → k ≡ 0)
+      go true f g = let z = eqb-true k 0 f in (omega arith, λ _. z)
+      go false f g =
+          (leb-true k c (and-right (leb first n) (leb k c) g), λ b. no-true (sym (e ∙ ap not b) ∙ and-left (leb first n) (leb k c) g))
 
   -- and back
-  pub none-yet-holds : (before ≡ true → k ≡ 0) → leb first n || eqb k 0 ≡ true
-  none-yet-holds f = or-holds (leb first n) (eqb k 0) (λ z. eq-eqb k 0 (f (not-false before (sym e ∙ z))))
+  pub part-holds : k ≤ c → (before ≡ true → k ≡ 0) → partDone first n c k ≡ true
+  part-holds l z = or-holds (eqb k 0) (leb first n && leb k c) (λ f. λ i. reached before e z f i && le-leb k c l i)
+    where
+      reached : (b : Bool) → leb first n ≡ not b → (b ≡ true → k ≡ 0) → eqb k 0 ≡ false → leb first n ≡ true
+      reached true e z f = absurd (eqb-false k 0 f (z refl))
+      reached false e z f = e

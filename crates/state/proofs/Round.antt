@@ -18,11 +18,11 @@ use Rattle.state.specs.Layout.{stateLength}
 use Rattle.state.specs.Image.{bitOf, flagsOf, marksOf, image}
 use Rattle.state.specs.Unpack.{wordAt, bitAt, marksIn, setupIn, flagsIn, readerIn, senderIn, unpacked}
 use Rattle.state.specs.Sound.{Sound}
-use Rattle.state.specs.Well.{all, setupTests, caseTests, roleTests, setTests, diagnosisTests, lineTests, unusedTests, imageTests, wellImage}
+use Rattle.state.specs.Well.{all, setupTests, lineTests, caseTests, roleTests, setTests, diagnosisTests, unusedTests, imageTests, wellImage}
 use Rattle.state.proofs.Numbers.{reading-back, reading-counted, reading-le, kind-back, kind-counted, kind-le, stage-back, stage-counted, stage-le, phase-back, phase-counted, phase-le, drawn-back, drawn-counted, drawn-le}
 use Rattle.state.proofs.Asking.{tests-ranged, ranged-tests}
-use Rattle.state.proofs.Tests.{all-at, within-true, within-holds, none-or-true, none-or-holds, behind-true, behind-holds, beq-true, beq-holds}
-use Rattle.state.proofs.LineCounts.{reading-before, reading-numbered, stage-before, stage-numbered, none-yet-true, none-yet-holds}
+use Rattle.state.proofs.Tests.{all-at, within-true, within-holds, none-or-true, none-or-holds, none-or-most, most-none-or, set-counts-true, set-counts-holds, beq-true, beq-holds}
+use Rattle.state.proofs.LineCounts.{reading-before, reading-numbered, stage-before, stage-numbered, part-true, part-holds}
 use Rattle.state.proofs.Bits.{bit-le, Marked, marked, sum-marks}
 
 -- the image has its length
@@ -187,14 +187,10 @@ module _ (s : State) (h : Sound s) (r : List ℕ) where
       let c = s .configuration in
       λ i.
       all
-      (none-or-holds 7 (p .shown) (s .setup .«parameter_len») (h .parameters-shown) i
-      ∷ none-or-holds 7 (p .waiting) (s .setup .«parameter_len») (h .parameters-waiting) i
-      ∷ le-leb (c .shown) (s .setup .«configuration_len») (h .configuration-shown) i
-      ∷ le-leb (c .waiting) (s .setup .«configuration_len») (h .configuration-waiting) i
+      (set-counts-holds 7 (p .shown) (p .waiting) (s .setup .«parameter_len») (record { shown-in = h .parameters-shown; waiting-in = h .parameters-waiting; behind = h .parameters-behind }) i
       ∷ beq-holds (bitAt (marksOf s) 8) (not (eqb (p .waiting) 0)) (marks-back s .bit₃ ∙ h .parameters-fresh) i
+      ∷ set-counts-holds 1 (c .shown) (c .waiting) (s .setup .«configuration_len») (record { shown-in = most-none-or (c .shown) _ (h .configuration-shown); waiting-in = most-none-or (c .waiting) _ (h .configuration-waiting); behind = h .configuration-behind }) i
       ∷ beq-holds (bitAt (marksOf s) 16) (not (eqb (c .waiting) 0)) (marks-back s .bit₄ ∙ h .configuration-fresh) i
-      ∷ behind-holds (p .shown) (p .waiting) (h .parameters-behind) i
-      ∷ behind-holds (c .shown) (c .waiting) (h .configuration-behind) i
       ∷ [])
 
   -- diagnosis passes
@@ -218,17 +214,15 @@ module _ (s : State) (h : Sound s) (r : List ℕ) where
       λ i.
       all
       (le-leb (a .count) 246 (h .reading .count) i
-      ∷ le-leb (a .at) (a .count) (h .reading .read) i
-      ∷ none-yet-holds 9 (readingNumber (a .phase)) (a .at) (reading-before (a .phase)) (h .reading .none-yet) i
+      ∷ part-holds 9 (readingNumber (a .phase)) (a .count) (a .at) (reading-before (a .phase)) (h .reading .read) (h .reading .none-yet) i
       ∷ le-leb (b .count) 246 (h .sending .count) i
-      ∷ le-leb (b .at) (b .count) (h .sending .sent) i
-      ∷ none-yet-holds 7 (stageNumber (b .stage)) (b .at) (stage-before (b .stage)) (h .sending .none-yet) i
+      ∷ part-holds 7 (stageNumber (b .stage)) (b .count) (b .at) (stage-before (b .stage)) (h .sending .sent) (h .sending .none-yet) i
       ∷ [])
 
   -- it passes the tests
   pub image-well : wellImage (image s ++ r) ≡ true
   unfolding image wellImage
-  image-well = λ i. all (setup-well i ∷ cases-well i ∷ roles-well i ∷ sets-well i ∷ diagnosis-well i ∷ line-well i ∷ true ∷ [])
+  image-well = λ i. all (setup-well i ∷ line-well i ∷ cases-well i ∷ roles-well i ∷ sets-well i ∷ diagnosis-well i ∷ true ∷ [])
 
 -- a memory whose first octets are the image of a sound state passes the tests
 pub front-well : (m : List ℕ) (s : State) → Sound s → image s ≡ take stateLength m → wellImage m ≡ true
@@ -241,40 +235,36 @@ pub well-sound : (m : List ℕ) → wellImage m ≡ true → Sound (unpacked m)
 unfolding wellImage unpacked
 well-sound m h =
     let setup = all-at (imageTests m) 0 h in
-    let cases = all-at (imageTests m) 1 h in
-    let roles = all-at (imageTests m) 2 h in
-    let sets = all-at (imageTests m) 3 h in
-    let diagnosis = all-at (imageTests m) 4 h in
-    let line = all-at (imageTests m) 5 h in
+    let line = all-at (imageTests m) 1 h in
+    let cases = all-at (imageTests m) 2 h in
+    let roles = all-at (imageTests m) 3 h in
+    let sets = all-at (imageTests m) 4 h in
+    let diagnosis = all-at (imageTests m) 5 h in
+    let p = set-counts-true 7 (getD m 23 0) (getD m 24 0) (getD m 5 0) (all-at (setTests m) 0 sets) in
+    let c = set-counts-true 1 (getD m 25 0) (getD m 26 0) (getD m 6 0) (all-at (setTests m) 2 sets) in
+    let phase-in = leb-true (getD m 32 0) 12 (all-at (caseTests m) 1 cases) in
+    let stage-in = leb-true (getD m 44 0) 10 (all-at (caseTests m) 3 cases) in
+    let reading = part-true 9 (getD m 32 0) (getD m 34 0) (getD m 35 0) (reading-numbered (getD m 32 0) phase-in) (all-at (lineTests m) 1 line) in
+    let sending = part-true 7 (getD m 44 0) (getD m 46 0) (getD m 47 0) (stage-numbered (getD m 44 0) stage-in) (all-at (lineTests m) 3 line) in
     record {
       setup = tests-ranged (setupIn m (wordAt m 1)) setup;
       outputs = places-permutation (getD m 19 0);
       inputs = places-permutation (getD m 20 0);
       parameters = places-permutation (getD m 21 0);
       configuration = places-permutation (getD m 22 0);
-      parameters-shown = none-or-true 7 (getD m 23 0) (getD m 5 0) (all-at (setTests m) 0 sets);
-      parameters-waiting = none-or-true 7 (getD m 24 0) (getD m 5 0) (all-at (setTests m) 1 sets);
-      configuration-shown = leb-true (getD m 25 0) (getD m 6 0) (all-at (setTests m) 2 sets);
-      configuration-waiting = leb-true (getD m 26 0) (getD m 6 0) (all-at (setTests m) 3 sets);
-      parameters-fresh = beq-true (bitAt (marksIn m) 8) (not (eqb (getD m 24 0) 0)) (all-at (setTests m) 4 sets);
-      configuration-fresh = beq-true (bitAt (marksIn m) 16) (not (eqb (getD m 26 0) 0)) (all-at (setTests m) 5 sets);
-      parameters-behind = behind-true (getD m 23 0) (getD m 24 0) (all-at (setTests m) 6 sets);
-      configuration-behind = behind-true (getD m 25 0) (getD m 26 0) (all-at (setTests m) 7 sets);
+      parameters-shown = p .shown-in;
+      parameters-waiting = p .waiting-in;
+      configuration-shown = none-or-most 1 (getD m 25 0) (getD m 6 0) (c .shown-in);
+      configuration-waiting = none-or-most 1 (getD m 26 0) (getD m 6 0) (c .waiting-in);
+      parameters-fresh = beq-true (bitAt (marksIn m) 8) (not (eqb (getD m 24 0) 0)) (all-at (setTests m) 1 sets);
+      configuration-fresh = beq-true (bitAt (marksIn m) 16) (not (eqb (getD m 26 0) 0)) (all-at (setTests m) 3 sets);
+      parameters-behind = p .behind;
+      configuration-behind = c .behind;
       diagnosis-count = within-true 6 (getD m 27 0) (getD m 7 0) (all-at (diagnosisTests m) 0 diagnosis);
       delayed-count = none-or-true 6 (getD m 28 0) (getD m 7 0) (all-at (diagnosisTests m) 1 diagnosis);
       delayed-flags = leb-true (getD m 29 0) 7 (all-at (diagnosisTests m) 2 diagnosis);
-      reading =
-          record {
-            count = leb-true (getD m 34 0) 246 (all-at (lineTests m) 0 line);
-            read = leb-true (getD m 35 0) (getD m 34 0) (all-at (lineTests m) 1 line);
-            none-yet = none-yet-true 9 (getD m 32 0) (getD m 35 0) (reading-numbered (getD m 32 0) (leb-true (getD m 32 0) 12 (all-at (caseTests m) 1 cases))) (all-at (lineTests m) 2 line);
-          };
-      sending =
-          record {
-            count = leb-true (getD m 46 0) 246 (all-at (lineTests m) 3 line);
-            sent = leb-true (getD m 47 0) (getD m 46 0) (all-at (lineTests m) 4 line);
-            none-yet = none-yet-true 7 (getD m 44 0) (getD m 47 0) (stage-numbered (getD m 44 0) (leb-true (getD m 44 0) 10 (all-at (caseTests m) 3 cases))) (all-at (lineTests m) 5 line);
-          };
+      reading = record { count = leb-true (getD m 34 0) 246 (all-at (lineTests m) 0 line); read = reading .0; none-yet = reading .1 };
+      sending = record { count = leb-true (getD m 46 0) 246 (all-at (lineTests m) 2 line); sent = sending .0; none-yet = sending .1 };
       place = leb-true (getD m 53 0) 2 (all-at (roleTests m) 5 roles);
     }
 
@@ -318,8 +308,8 @@ marks-sum m h =
 image-spread : (m : List ℕ) → ((i : ℕ) → getD m i 0 < 256) → wellImage m ≡ true → image (unpacked m) ≡ spread m 0 stateLength
 unfolding image wellImage unpacked
 image-spread m small h =
-    let cases = all-at (imageTests m) 1 h in
-    let roles = all-at (imageTests m) 2 h in
+    let cases = all-at (imageTests m) 2 h in
+    let roles = all-at (imageTests m) 3 h in
     let rest = all-at (imageTests m) 6 h in
     λ i.
     spread m 0 1

@@ -1,16 +1,16 @@
 -- Tests joined by `&`, and the facts that they stand for.
-use Prim.Native.Nat.{ℕ, zero, suc}
+use Prim.Native.Nat.{ℕ, zero, suc, _≤_}
 use native.Mathlib.Omega.{arith}
 use mathlib.Core.Path.{_≡_, refl, sym, ap, _∙_}
 use mathlib.Core.Logic.{inl, inr, ⊎-elim}
-use mathlib.Core.Bool.{Bool, true, false, _&&_, _||_, Bool·beq, not, false≢true}
+use mathlib.Core.Bool.{Bool, true, false, cond, _&&_, _||_, Bool·beq, not, false≢true}
 use mathlib.Core.List.{List, [], _∷_}
 use lib.Dec.{leb, eqb}
 use lib.ListN.{getD}
-use borrow.Author.Tests.{leb-true, le-leb, eqb-true, eq-eqb, not-false}
+use borrow.Author.Tests.{leb-true, le-leb, eqb-true, eqb-false, eq-eqb, ne-eqb, not-false}
 use Rattle.state.specs.Sound.{Within, NoneOr}
-use Rattle.state.specs.Well.{allFrom, all, within, noneOr, behind}
-use Rattle.state.proofs.Choice.{or-other, or-holds}
+use Rattle.state.specs.Well.{allFrom, all, within, noneOr, setCounts}
+use Rattle.state.proofs.Choice.{and-left, and-right, or-holds}
 
 -- the first of tests that all hold
 from-first : (a : Bool) (l : List Bool) → allFrom a l ≡ true → a ≡ true
@@ -82,14 +82,52 @@ pub none-or-holds : (lo x hi : ℕ) → NoneOr lo x hi → noneOr lo x hi ≡ tr
 none-or-holds lo x hi h =
     ⊎-elim (λ e. λ i. eq-eqb x 0 e i || within lo x hi) (λ w. or-holds (eqb x 0) (within lo x hi) (λ _. within-holds lo x hi w)) h
 
--- no set waits where the test finds that none is shown
-pub behind-true : (shown waiting : ℕ) → behind shown waiting ≡ true → shown ≡ 0 → waiting ≡ 0
-behind-true shown waiting h e = eqb-true waiting 0 (or-other (not (eqb shown 0)) (eqb waiting 0) h (ap not (eq-eqb shown 0 e)))
+-- at most hi, as a range with 0 for none
+pub none-or-most : (lo x hi : ℕ) → NoneOr lo x hi → x ≤ hi
+none-or-most lo x hi (inl z) = omega arith
+none-or-most lo x hi (inr w) = w .1
 
 -- and back
-pub behind-holds : (shown waiting : ℕ) → (shown ≡ 0 → waiting ≡ 0) → behind shown waiting ≡ true
-behind-holds shown waiting f =
-    or-holds (not (eqb shown 0)) (eqb waiting 0) (λ e. eq-eqb waiting 0 (f (eqb-true shown 0 (not-false (eqb shown 0) e))))
+pub most-none-or : (x hi : ℕ) → x ≤ hi → NoneOr 1 x hi
+most-none-or zero hi h = inl refl
+most-none-or (suc n) hi h = inr (omega arith, h)
+
+-- what the test of a set's counts says
+pub record SetIn (lo shown waiting hi : ℕ) : Type 0 where
+  pub shown-in : NoneOr lo shown hi
+  pub waiting-in : NoneOr lo waiting hi
+  pub behind : shown ≡ 0 → waiting ≡ 0
+
+module _ (lo shown waiting hi : ℕ) where
+  pub set-counts-true : setCounts lo shown waiting hi ≡ true → SetIn lo shown waiting hi
+  set-counts-true h = go (eqb shown 0) refl h
+    where
+      go : (t : Bool) → eqb shown 0 ≡ t → cond t (eqb waiting 0) (within lo shown hi && noneOr lo waiting hi) ≡ true → SetIn lo shown waiting hi
+      go true e g =
+          let z = eqb-true waiting 0 g in
+          record { shown-in = inl (eqb-true shown 0 e); waiting-in = inl z; behind = λ _. z }
+      go false e g =
+          record {
+            shown-in = inr (within-true lo shown hi (and-left (within lo shown hi) (noneOr lo waiting hi) g));
+            waiting-in = none-or-true lo waiting hi (and-right (within lo shown hi) (noneOr lo waiting hi) g);
+            behind = λ z. absurd (eqb-false shown 0 e z);
+          }
+
+  -- and back
+  pub set-counts-holds : SetIn lo shown waiting hi → setCounts lo shown waiting hi ≡ true
+  set-counts-holds h = go (eqb shown 0) refl (h .shown-in)
+    where
+      go : (t : Bool) → eqb shown 0 ≡ t → NoneOr lo shown hi → cond t (eqb waiting 0) (within lo shown hi && noneOr lo waiting hi) ≡ true
+      go true e n = eq-eqb waiting 0 (h .behind (eqb-true shown 0 e))
+      go false e (inl z) = absurd (eqb-false shown 0 e z)
+      go false e (inr w) = λ i. within-holds lo shown hi w i && none-or-holds lo waiting hi (h .waiting-in) i
+
+  -- where one is shown its own range decides, and then the one that waits
+  pub set-counts-out : (shown ≡ 0 → ⊥) → within lo shown hi ≡ false → false ≡ setCounts lo shown waiting hi
+  set-counts-out n e = rw (ne-eqb shown 0 n, e)
+
+  pub set-counts-in : (shown ≡ 0 → ⊥) → within lo shown hi ≡ true → noneOr lo waiting hi ≡ setCounts lo shown waiting hi
+  set-counts-in n e = rw (ne-eqb shown 0 n, e)
 
 -- marks that the test finds the same are the same
 pub beq-true : (a b : Bool) → Bool·beq a b ≡ true → a ≡ b

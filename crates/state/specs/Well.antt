@@ -1,6 +1,6 @@
 -- Which octets are the image of a sound state: tests of the octets alone.
 use Prim.Native.Nat.{ℕ}
-use mathlib.Core.Bool.{Bool, true, not, _&&_, _||_, Bool·beq}
+use mathlib.Core.Bool.{Bool, true, cond, not, _&&_, _||_, Bool·beq}
 use mathlib.Core.List.{List, [], _∷_}
 use lib.Dec.{leb, ltb, eqb}
 use lib.ListN.{getD}
@@ -25,9 +25,13 @@ within lo x hi = leb lo x && leb x hi
 abbrev pub noneOr : ℕ → ℕ → ℕ → Bool
 noneOr lo x hi = eqb x 0 || within lo x hi
 
--- a set waits only behind one that is shown
-abbrev pub behind : ℕ → ℕ → Bool
-behind shown waiting = not (eqb shown 0) || eqb waiting 0
+-- the counts of a set that is shown and of one that waits: neither is there, or the first has lo to hi octets, and the second none or that many
+abbrev pub setCounts : ℕ → ℕ → ℕ → ℕ → Bool
+setCounts lo shown waiting hi = cond (eqb shown 0) (eqb waiting 0) (within lo shown hi && noneOr lo waiting hi)
+
+-- of count data octets none is done, or the phase has come to the data, which begins at first, and no more are done than there are
+abbrev pub partDone : ℕ → ℕ → ℕ → ℕ → Bool
+partDone first phase count done = eqb done 0 || (leb first phase && leb done count)
 
 -- "lengths for outputs and inputs (1 to 244), parameters (7 to 244), configuration (1 to 244), diagnosis (6 to 244), and a slice of 1 to 244 octets"
 abbrev pub lengthTests : Setup → List Bool
@@ -43,6 +47,15 @@ lengthTests s =
 -- the address (0 to 126) and the lengths of a setup
 abbrev pub setupTests : Setup → List Bool
 setupTests s = leb (s .address) 126 ∷ lengthTests s
+
+-- the counts of the telegram that is read and of the reply
+abbrev pub lineTests : List ℕ → List Bool
+lineTests m =
+    leb (getD m 34 0) 246
+    ∷ partDone 9 (getD m 32 0) (getD m 34 0) (getD m 35 0)
+    ∷ leb (getD m 46 0) 246
+    ∷ partDone 7 (getD m 44 0) (getD m 46 0) (getD m 47 0)
+    ∷ []
 
 -- the cases of the enums
 abbrev pub caseTests : List ℕ → List Bool
@@ -69,14 +82,10 @@ roleTests m =
 -- the counts of the sets that are shown and that wait, and whether one waits
 abbrev pub setTests : List ℕ → List Bool
 setTests m =
-    noneOr 7 (getD m 23 0) (getD m 5 0)
-    ∷ noneOr 7 (getD m 24 0) (getD m 5 0)
-    ∷ leb (getD m 25 0) (getD m 6 0)
-    ∷ leb (getD m 26 0) (getD m 6 0)
+    setCounts 7 (getD m 23 0) (getD m 24 0) (getD m 5 0)
     ∷ Bool·beq (bitAt (marksIn m) 8) (not (eqb (getD m 24 0) 0))
+    ∷ setCounts 1 (getD m 25 0) (getD m 26 0) (getD m 6 0)
     ∷ Bool·beq (bitAt (marksIn m) 16) (not (eqb (getD m 26 0) 0))
-    ∷ behind (getD m 23 0) (getD m 24 0)
-    ∷ behind (getD m 25 0) (getD m 26 0)
     ∷ []
 
 -- diagnosis, its count and the delayed one
@@ -85,17 +94,6 @@ diagnosisTests m =
     within 6 (getD m 27 0) (getD m 7 0)
     ∷ noneOr 6 (getD m 28 0) (getD m 7 0)
     ∷ leb (getD m 29 0) 7
-    ∷ []
-
--- the counts of the telegram that is read and of the reply: at most 246 data octets, of which some came or went, none before the data
-abbrev pub lineTests : List ℕ → List Bool
-lineTests m =
-    leb (getD m 34 0) 246
-    ∷ leb (getD m 35 0) (getD m 34 0)
-    ∷ (leb 9 (getD m 32 0) || eqb (getD m 35 0) 0)
-    ∷ leb (getD m 46 0) 246
-    ∷ leb (getD m 47 0) (getD m 46 0)
-    ∷ (leb 7 (getD m 44 0) || eqb (getD m 47 0) 0)
     ∷ []
 
 -- the octets that are not used
@@ -113,11 +111,11 @@ unusedTests m =
 abbrev pub imageTests : List ℕ → List Bool
 imageTests m =
     all (setupTests (setupIn m 0))
+    ∷ all (lineTests m)
     ∷ all (caseTests m)
     ∷ all (roleTests m)
     ∷ all (setTests m)
     ∷ all (diagnosisTests m)
-    ∷ all (lineTests m)
     ∷ all (unusedTests m)
     ∷ []
 

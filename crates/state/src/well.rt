@@ -5,7 +5,7 @@ ghost use Prim.Native.Nat.{_≤_};
 ghost use lib.ListN.{length};
 ghost use Rattle.state.specs.Layout.{stateLength};
 ghost use Rattle.state.specs.Unpack.{setupIn};
-ghost use Rattle.state.specs.Well.{all, noneOr, setupTests, caseTests, roleTests, setTests, diagnosisTests, lineTests, unusedTests, wellImage};
+ghost use Rattle.state.specs.Well.{all, noneOr, setCounts, partDone, setupTests, lineTests, caseTests, roleTests, setTests, diagnosisTests, unusedTests, wellImage};
 
 // 0 for none, or lo to hi.
 fn none_or(lo: u8, x: u8, hi: u8) -> bool
@@ -15,6 +15,29 @@ fn none_or(lo: u8, x: u8, hi: u8) -> bool
         return true;
     }
     (lo <= x) & (x <= hi)
+}
+
+// The counts of a set that is shown and of one that waits behind it.
+fn set_counts(lo: u8, shown: u8, waiting: u8, hi: u8) -> bool
+    ensures { λ r. ⌜ r ≡ setCounts lo shown waiting hi ⌝ }
+{
+    if shown == 0 {
+        return waiting == 0;
+    }
+    if !((lo <= shown) & (shown <= hi)) {
+        return false;
+    }
+    none_or(lo, waiting, hi)
+}
+
+// Of count data octets none is done, or the phase has come to the data and no more are done than there are.
+fn part_done(first: u8, phase: u8, count: u8, done: u8) -> bool
+    ensures { λ r. ⌜ r ≡ partDone first phase count done ⌝ }
+{
+    if done == 0 {
+        return true;
+    }
+    (first <= phase) & (done <= count)
 }
 
 // The address and the lengths.
@@ -41,6 +64,26 @@ fn well_setup(mem: &[u8]) -> bool
         return false;
     }
     if !((1 <= mem[8]) & (mem[8] <= 244)) {
+        return false;
+    }
+    true
+}
+
+// The counts of the telegram that is read and of the reply.
+fn well_line(mem: &[u8]) -> bool
+    requires { ⌜ stateLength ≤ length (now mem) ⌝ }
+    ensures { λ r. ⌜ r ≡ all (lineTests (now (mem .entry))) ⌝ }
+{
+    if !(mem[34] <= 246) {
+        return false;
+    }
+    if !part_done(9, mem[32], mem[34], mem[35]) {
+        return false;
+    }
+    if !(mem[46] <= 246) {
+        return false;
+    }
+    if !part_done(7, mem[44], mem[46], mem[47]) {
         return false;
     }
     true
@@ -103,28 +146,16 @@ fn well_sets(mem: &[u8]) -> bool
     requires { ⌜ stateLength ≤ length (now mem) ⌝ }
     ensures { λ r. ⌜ r ≡ all (setTests (now (mem .entry))) ⌝ }
 {
-    if !none_or(7, mem[23], mem[5]) {
-        return false;
-    }
-    if !none_or(7, mem[24], mem[5]) {
-        return false;
-    }
-    if !(mem[25] <= mem[6]) {
-        return false;
-    }
-    if !(mem[26] <= mem[6]) {
+    if !set_counts(7, mem[23], mem[24], mem[5]) {
         return false;
     }
     if !((mem[18] / 8 % 2 == 1) == (mem[24] != 0)) {
         return false;
     }
+    if !set_counts(1, mem[25], mem[26], mem[6]) {
+        return false;
+    }
     if !((mem[18] / 16 % 2 == 1) == (mem[26] != 0)) {
-        return false;
-    }
-    if !((mem[23] != 0) | (mem[24] == 0)) {
-        return false;
-    }
-    if !((mem[25] != 0) | (mem[26] == 0)) {
         return false;
     }
     true
@@ -142,32 +173,6 @@ fn well_diagnosis(mem: &[u8]) -> bool
         return false;
     }
     if !(mem[29] <= 7) {
-        return false;
-    }
-    true
-}
-
-// The counts of the telegram that is read and of the reply.
-fn well_line(mem: &[u8]) -> bool
-    requires { ⌜ stateLength ≤ length (now mem) ⌝ }
-    ensures { λ r. ⌜ r ≡ all (lineTests (now (mem .entry))) ⌝ }
-{
-    if !(mem[34] <= 246) {
-        return false;
-    }
-    if !(mem[35] <= mem[34]) {
-        return false;
-    }
-    if !((9 <= mem[32]) | (mem[35] == 0)) {
-        return false;
-    }
-    if !(mem[46] <= 246) {
-        return false;
-    }
-    if !(mem[47] <= mem[46]) {
-        return false;
-    }
-    if !((7 <= mem[44]) | (mem[47] == 0)) {
         return false;
     }
     true
@@ -194,6 +199,9 @@ pub fn well(mem: &[u8]) -> bool
     if !well_setup(mem) {
         return false;
     }
+    if !well_line(mem) {
+        return false;
+    }
     if !well_cases(mem) {
         return false;
     }
@@ -204,9 +212,6 @@ pub fn well(mem: &[u8]) -> bool
         return false;
     }
     if !well_diagnosis(mem) {
-        return false;
-    }
-    if !well_line(mem) {
         return false;
     }
     if !well_unused(mem) {

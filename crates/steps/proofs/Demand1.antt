@@ -20,7 +20,9 @@ use Rattle.state.specs.Layout.{endOf}
 use Rattle.state.specs.Unpack.{unpacked}
 use Rattle.state.specs.Start.{lengthsOk, asked}
 use Rattle.state.proofs.Choice.{by-test, either}
+use Rattle.state.proofs.Codes.{codes-equal}
 use Rattle.state.proofs.Damage.{passes-holds}
+use Rattle.state.proofs.Round.{image-injective}
 use Rattle.rules.specs.Call.{Call}
 use Rattle.steps.specs.Stepped.{Told}
 use Rattle.steps.specs.Step.{packed, stepOver}
@@ -100,6 +102,8 @@ pub demand-1 : Demand1
 demand-1 = record {
   damage-check = record { exactly = exactly; not-by-start = λ m s slice e. subst ByStart e (by-start m s slice) };
   refusals-leave = record { of-call = called-same; of-start = refused-same };
+  one-image = image-injective;
+  numbers-apart = codes-equal;
   sound-kept = step-sound;
   stays-well = stays-well;
   start-answers = λ m s slice. (started-begins m s slice, λ b. ap (λ (x : Called). x .answer) (begins-started m s slice b));

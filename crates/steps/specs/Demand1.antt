@@ -7,14 +7,17 @@ use mathlib.Core.List.{List}
 use mathlib.Core.Logic.{_↔_}
 use lib.ListN.{length}
 use Rattle.telegram.specs.Telegram.{Octets}
+use Rattle.state.specs.declared.answer.Answer.{Answer}
 use Rattle.state.specs.declared.answer.Answer.the-variants.{Value, Refused}
 use Rattle.state.specs.declared.answer.Refusal.{Refusal}
 use Rattle.state.specs.declared.answer.Refusal.the-variants.{Damaged}
 use Rattle.state.specs.declared.setup.Setup.{Setup}
 use Rattle.state.specs.declared.state.State.{State}
+use Rattle.state.specs.Answer.{answerNumber}
+use Rattle.state.specs.Image.{image}
 use Rattle.state.specs.Layout.{endOf}
 use Rattle.state.specs.Memory.{Holds}
-use Rattle.state.specs.Sound.{Within, Ranged}
+use Rattle.state.specs.Sound.{Within, Ranged, Sound}
 use Rattle.rules.specs.Call.{Call}
 use Rattle.steps.specs.Calls.{started, called}
 use Rattle.steps.specs.Kept.{SoundKept, StaysWell}
@@ -50,10 +53,20 @@ pub record RefusalsLeave : Type 0 where
 abbrev pub StartAnswersZero : Type 0
 StartAnswersZero = (m : List ℕ) (s : Setup) (slice : List ℕ) → (started m s slice .answer ≡ Value 0) ↔ Begins m s
 
+-- "one image per state": no two states that keep the rules have one image
+abbrev pub OneImage : Type 0
+OneImage = (s t : State) → Sound s → Sound t → image s ≡ image t → s ≡ t
+
+-- "told apart from every answer": no two answers have one number
+abbrev pub NumbersApart : Type 0
+NumbersApart = (a b : Answer) → answerNumber a ≡ answerNumber b → a ≡ b
+
 -- all of it
 pub record Demand1 : Type 0 where
   pub damage-check : DamageCheck
   pub refusals-leave : RefusalsLeave
   pub start-answers : StartAnswersZero
+  pub one-image : OneImage
+  pub numbers-apart : NumbersApart
   pub sound-kept : SoundKept
   pub stays-well : StaysWell
