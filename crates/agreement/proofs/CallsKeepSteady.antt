@@ -24,6 +24,7 @@ use Rattle.rules.specs.Phases.{drawing, waitPrm, enteringWaitPrm, dataExch}
 use Rattle.rules.specs.Diagnosis.{delayed, diagnosed, delaying, caughtUp}
 use Rattle.rules.specs.Line.{clearing, clearOn, clearNoted, counts, withRemaining, ticked}
 use Rattle.rules.specs.User.{judgedParameters, judgedConfiguration}
+use Rattle.ledger.proofs.Some.{nothing-in, something-in}
 use Rattle.ledger.specs.Lists.{some, Buffers, takenOutputs, handedOver, withOutputs, withInputs}
 use Rattle.ledger.specs.Ledger.{Line, Ledger, withControl, withBuffers, withLine, begun, busy, diagnosisLeaves, parametersOpen, configurationOpen, fresh}
 use Rattle.ledger.specs.Outcome.{carried, diagnosisChanged, afterReply, settle}
@@ -37,7 +38,7 @@ use Rattle.state.proofs.Choice.{by-test, and-left, and-right}
 use Rattle.rules.proofs.Alike.{Alike, alike}
 use Rattle.ledger.proofs.ByCases.{take-cases, read-cases, write-cases, parameters-cases, configuration-cases}
 use Rattle.ledger.proofs.Fit.{outcome-served}
-use Rattle.agreement.proofs.OutcomesKeepOrder.{Orders, closed-list, open-list, none-fit, kept, entered, served-order}
+use Rattle.agreement.proofs.OutcomesKeepOrder.{Orders, none-fit, kept, entered, served-order}
 
 -- the part of it that has nothing to do with the line
 abbrev Order : Ledger → Type 0
@@ -90,7 +91,7 @@ module _ {l : Ledger} (s : Steady l) where
       by-test (OutcomeKeeps l) waits _ _
       (λ _. record {
         order = record {
-          parameters-closed = λ f. absurd (open-list e (s .order .parameters-closed f));
+          parameters-closed = λ f. absurd (something-in e (s .order .parameters-closed f));
           configuration-closed = s .order .configuration-closed;
           unjudged = λ _. s .order .unjudged e;
           parameters-fit = record { shown = s .order .parameters-fit .waiting; waiting = omega arith };
@@ -126,7 +127,7 @@ module _ {l : Ledger} (s : Steady l) where
       (λ _. record {
         order = record {
           parameters-closed = s .order .parameters-closed;
-          configuration-closed = λ f. absurd (open-list opened (s .order .configuration-closed f));
+          configuration-closed = λ f. absurd (something-in opened (s .order .configuration-closed f));
           unjudged = s .order .unjudged;
           parameters-fit = s .order .parameters-fit;
           configuration-fit = record { shown = s .order .configuration-fit .waiting; waiting = omega arith };
@@ -155,7 +156,7 @@ module _ {l : Ledger} (s : Steady l) where
       -- good parameters are judged, so that none is open
       closed : (t : Bool) → parametersOpen l ≡ t → l .buffers .parameters .shown ≡ []
       closed true f = no-true (sym (s .order .unjudged f) ∙ and-right (configurationOpen l) (l .control .flags .«parameters_good») e)
-      closed false f = closed-list (l .buffers .parameters .shown) f
+      closed false f = nothing-in (l .buffers .parameters .shown) f
 
 -- ---- settling
 
@@ -260,7 +261,7 @@ module _ {l : Ledger} (s : Steady l) where
   -- one octet of the reply is sent, which is not while a telegram is coming
   sent-quiet : (xs : List ℕ) → l .line .reply ≡ xs → begun (withLine l (sendLeft (l .line) xs)) ≡ true → sendLeft (l .line) xs .reply ≡ []
   sent-quiet [] e f = e
-  sent-quiet (x ∷ xs) e f = absurd (open-list (ap some e) (s .quiet f))
+  sent-quiet (x ∷ xs) e f = absurd (something-in (ap some e) (s .quiet f))
 
   pub sent-steady : Steady (afterSend l)
   unfolding afterSend

@@ -8,6 +8,7 @@ use Rattle.telegram.proofs.Run.{start-fresh, off-broken}
 use Rattle.state.specs.declared.control.Control.{Control}
 use Rattle.state.specs.declared.state.State.{State}
 use Rattle.rules.specs.Line.{ticked}
+use Rattle.ledger.proofs.Some.{nothing-in}
 use Rattle.ledger.specs.Ledger as ledger
 use Rattle.ledger.specs.Ledger.{Line, Ledger, withLine}
 use Rattle.ledger.specs.Outcome as ledger-outcome
@@ -29,7 +30,6 @@ use Rattle.rules.proofs.Served.{ticked-quiet}
 use Rattle.agreement.proofs.OutcomeCarried.{quiet-agrees}
 use Rattle.agreement.proofs.LineStays.{ignored-agrees}
 use Rattle.agreement.proofs.OnePartChanges.{reading-changed, reply-dropped}
-use Rattle.agreement.proofs.OutcomesKeepOrder.{closed-list}
 use Rattle.state.proofs.Choice.{both}
 use Rattle.agreement.proofs.SettleAgrees.{idle-spared, settle-agrees}
 
@@ -52,7 +52,7 @@ silenced {s} {m} {l} a = go (begun s) refl
     as-before e = record {
       ignoring = r .ignoring;
       empty = λ _. refl;
-      reading = λ f. r .reading f ∙ ap run (closed-list (l .line .telegram) e);
+      reading = λ f. r .reading f ∙ ap run (nothing-in (l .line .telegram) e);
       stored = λ f. gathered-none s m;
     }
 

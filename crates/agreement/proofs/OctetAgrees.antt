@@ -12,6 +12,7 @@ use Rattle.telegram.proofs.Run.{no-true, inside-broken, inside-complete, broken
 use Rattle.telegram.proofs.Framing.{framing}
 use Rattle.telegram.proofs.Above.{first-never, first-plain, data-goes-on}
 use Rattle.state.specs.declared.state.State.{State}
+use Rattle.ledger.proofs.Some.{nothing-in}
 use Rattle.ledger.specs.Ledger as ledger
 use Rattle.ledger.specs.Ledger.{Ledger, withLine}
 use Rattle.ledger.specs.Outcome as ledger-outcome
@@ -26,7 +27,6 @@ use Rattle.agreement.proofs.SameLine.{begun-agrees, nothing-left}
 use Rattle.agreement.proofs.OnePartChanges.{reading-changed, reply-dropped}
 use Rattle.state.proofs.Choice.{both}
 use Rattle.agreement.proofs.SettleAgrees.{settle-agrees}
-use Rattle.agreement.proofs.OutcomesKeepOrder.{closed-list}
 use Rattle.agreement.proofs.LineStays.{ignored-agrees}
 use Rattle.agreement.proofs.DataStands.{gathered-none, gathered-on}
 use Rattle.agreement.proofs.InnerOctetAgrees.{inner-octet}
@@ -49,7 +49,7 @@ module _ (s : State) (m : List ℕ) (l : Ledger) (b : ℕ) (d : Steady l) (w : R
 
     -- nothing was read before a first octet
     first : ledger.begun l ≡ false → readerStep r b ≡ readerStep start b
-    first n = ap (λ (x : Reader). readerStep x b) (read ∙ ap run (closed-list xs n))
+    first n = ap (λ (x : Reader). readerStep x b) (read ∙ ap run (nothing-in xs n))
 
     -- a beginning drops an unfinished reply
     begins : ledger.begun l ≡ false → status (readerStep r b) ≡ Inside → After (settle (beginning s (readerStep r b)) m) (ledger-outcome.settle (withLine l (bus.beginning b)))

@@ -4,7 +4,7 @@ use Prim.Native.Nat.{ℕ}
 use native.Mathlib.Omega.{arith}
 use mathlib.Core.Path.{_≡_, refl, sym, ap, _∙_}
 use mathlib.Core.Bool.{Bool, true, false}
-use mathlib.Core.List.{List, [], _∷_}
+use mathlib.Core.List.{List}
 use lib.ListN.{length}
 use Rattle.telegram.proofs.Run.{no-true}
 use Rattle.state.specs.declared.setup.Setup.{Setup}
@@ -26,14 +26,6 @@ use Rattle.agreement.proofs.Steady.{SetsFit, InOrder}
 -- what an outcome makes of the control part and the sets; ds is the data received
 abbrev pub Orders : Setup → Sets → Sets → List ℕ → Outcome → Type 0
 Orders g p q ds o = InOrder g (o .control) (onSets (o .parameters) p ds) (onSets (o .configuration) q ds)
-
--- a list with nothing in it, and one with something
-pub closed-list : (xs : List ℕ) → some xs ≡ false → xs ≡ []
-closed-list [] e = refl
-closed-list (x ∷ xs) e = no-true (sym e)
-
-pub open-list : {xs : List ℕ} → some xs ≡ true → xs ≡ [] → ⊥
-open-list e f = no-true (sym (ap some f) ∙ e)
 
 pub none-fit : (n : ℕ) → SetsFit n noSets
 none-fit n = record { shown = omega arith; waiting = omega arith }
