@@ -10,10 +10,11 @@ use Rattle.steps.specs.Calls.{started, answers}
 use Rattle.steps.specs.Demand1.{LengthIn}
 use Rattle.agreement.specs.Agreement.{memoryOf}
 
--- on every memory of a length that Start takes it answers 0, and the list behind it is answered as written down
+-- Start answers 0 on the memory m, and the list behind it is answered as written down
 pub record BenchOverMemory (m : List ℕ) : Type 0 where
   pub starts : started m benchSetup benchSlice .answer ≡ Value 0
   pub answers-are : answers (memoryOf m benchSetup benchSlice) (callsOf bench) ≡ answersOf bench
 
+-- so it is on every memory of a length that Start takes
 abbrev pub BenchOnEveryMemory : Type 0
 BenchOnEveryMemory = (m : List ℕ) → LengthIn (length m) → BenchOverMemory m

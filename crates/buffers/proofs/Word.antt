@@ -9,7 +9,7 @@ use lib.Bits.{or-lt}
 use lib.Count.{trailing-of-zero}
 use borrow.Author.Tests.{eq-eqb, ne-eqb, lt-ltb, ltb-true}
 use Rattle.buffers.specs.declared.events.Events.{Events}
-use Rattle.buffers.specs.Events.{width, configurationEvent, parametersEvent, keptEvents, bit, without, noEvents, only, raised, cleared, acknowledged, pendingOf}
+use Rattle.buffers.specs.Events.{width, configurationEvent, parametersEvent, keptEvents, bit, without, noEvents, only, raised, cleared, acknowledged, pendingOf, AcknowledgeClears, PendingNames}
 use Rattle.buffers.proofs.Bits.{bit-or, bit-without, bit-zero, bit-power, without-lt, lowest-below, lowest-set, lowest-lt}
 
 -- ---- event by event
@@ -132,3 +132,11 @@ pending-width e h q = go (e .word) refl
 -- the lowest
 pub pending-lowest : (e : Events) (n : ℕ) → n < pendingOf e → bit (e .word) n ≡ false
 pending-lowest e n h = lowest-below width (e .word) n h
+
+-- ---- what the specs claim
+
+pub acknowledge-clears : AcknowledgeClears
+acknowledge-clears e mask n = acknowledged-bit e mask n ∙ ap (λ t. bit (e .word) n && not (bit mask n && not t)) (kept-bit n)
+
+pub pending-names : PendingNames
+pending-names = record { none-set = pending-none; some-set = pending-set }

@@ -1,6 +1,7 @@
 -- The event word, a bit for each event.
-use Prim.Native.Nat.{ℕ, _/_, _%_, _^_}
-use mathlib.Core.Bool.{Bool, cond}
+use Prim.Native.Nat.{ℕ, _/_, _%_, _^_, _<_}
+use mathlib.Core.Path.{_≡_}
+use mathlib.Core.Bool.{Bool, true, cond, not, _&&_, _||_}
 use lib.Dec.{eqb, ltb}
 use lib.Bits.{bitAnd, bitOr, bitXor}
 use lib.Count.{trailingZeros}
@@ -73,3 +74,16 @@ acknowledged e mask = record { word = without (e .word) (without mask keptEvents
 -- the number of the lowest event that is set, or the width for none
 abbrev pub pendingOf : Events → ℕ
 pendingOf e = trailingZeros width (e .word)
+
+-- an event that ends with its set: 10 or 11
+abbrev pub endsWithSet : ℕ → Bool
+endsWithSet n = eqb configurationEvent n || eqb parametersEvent n
+
+-- "Acknowledge (mask) clears bits, never 10 or 11"
+abbrev pub AcknowledgeClears : Type 0
+AcknowledgeClears = (e : Events) (mask n : ℕ) → bit (acknowledged e mask .word) n ≡ (bit (e .word) n && not (bit mask n && not (endsWithSet n)))
+
+-- "Pending: the number of some set event, which one is left free, or 16"
+pub record PendingNames : Type 0 where
+  pub none-set : (e : Events) → e .word ≡ 0 → pendingOf e ≡ 16
+  pub some-set : (e : Events) → 0 < e .word → e .word < 2 ^ width → (pendingOf e < 16) × (bit (e .word) (pendingOf e) ≡ true)

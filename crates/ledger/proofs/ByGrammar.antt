@@ -1,7 +1,7 @@
 -- The bus's octet by the grammar (specs/ByGrammar.antt): the reader's status says which of the grammar's cases it is.
 use Prim.Native.Nat.{ℕ}
 use mathlib.Core.Path.{_≡_, refl, ap, _∙_}
-use mathlib.Core.Bool.{Bool, true, false, _&&_, _||_}
+use mathlib.Core.Bool.{Bool, true, false, cond, _&&_, _||_}
 use mathlib.Core.List.{List, [], _∷_, _++_}
 use mathlib.Core.Logic.{_⊎_, inl, inr}
 use lib.Dec.{leb}
@@ -9,18 +9,23 @@ use Rattle.telegram.specs.declared.reader.Status.{Status}
 use Rattle.telegram.specs.declared.reader.Status.the-variants.{Fresh, Inside, Complete, Broken}
 use Rattle.telegram.specs.Telegram.{Telegram, sd4, octetsOf, payloadOf, Valid, IsTelegram}
 use Rattle.telegram.specs.Reading.{run, readerAfter, status}
-use Rattle.telegram.specs.Framing.{Continues}
+use Rattle.telegram.specs.Framing.{Continues, Hopeless}
 use Rattle.telegram.proofs.Framing.{framing}
 use Rattle.state.specs.declared.state.Drawn.the-variants.{Nothing}
 use Rattle.rules.specs.declared.request.Request.{Request}
 use Rattle.rules.specs.declared.outcome.Outcome.{Outcome}
+use Rattle.rules.specs.Call.{gap, send, tick}
+use Rattle.rules.specs.Line.{ticked}
 use Rattle.rules.specs.Phases.{drawing}
 use Rattle.rules.specs.Requests.{masterOf, toStation, toAll, acts, refilled, serviceOf}
-use Rattle.ledger.specs.Ledger.{Ledger, withLine, begun}
-use Rattle.ledger.specs.Outcome.{settle}
-use Rattle.ledger.specs.Bus.{requestBy, outcomeOf, answered, completed, lengthened, beginning, heard}
-use Rattle.ledger.specs.ByGrammar.{octetsWith, Hopeless, breaksOff, HeardAsFramed, ByGrammar, Sd4WithoutEffect}
-use Rattle.ledger.proofs.Exchange.{not-fresh, lengthens-heard}
+use Rattle.ledger.specs.Ledger.{Ledger, withLine, begun, busy}
+use Rattle.ledger.specs.Outcome.{carried, settle}
+use Rattle.ledger.specs.Bus.{requestBy, outcomeOf, answered, completed, lengthened, heard, gapped, paused, sendLeft, afterSend, silenced, elapsed}
+use Rattle.ledger.specs.Calls.{step}
+use Rattle.ledger.specs.Hearing.{begunBy}
+use Rattle.ledger.specs.ByGrammar.{octetsWith, interrupted, HeardAsFramed, ByGrammar, Sd4WithoutEffect}
+use Rattle.ledger.proofs.Exchange.{keeps-line, not-fresh, lengthens-heard}
+use Rattle.ledger.proofs.Settling.{settle-line}
 use Rattle.ledger.proofs.Hearing.{one-more, last-heard, begun-heard}
 use Rattle.ledger.proofs.Some.{nothing-in}
 
@@ -47,7 +52,7 @@ one-of xs b = go (status (run ys)) refl
 
 -- an octet that breaks off
 broken-heard : (l : Ledger) (b : ℕ) (bad : Bool) → l .line .ignored ≡ false → status (readerAfter (run (l .line .telegram)) b bad) ≡ Broken
-    → heard l b bad ≡ breaksOff l
+    → heard l b bad ≡ interrupted l
 unfolding heard
 broken-heard l b bad i s = rw (i, s)
 
@@ -58,10 +63,10 @@ module _ (l : Ledger) (b : ℕ) (i : l .line .ignored ≡ false) where
   abbrev ys : List ℕ
   ys = octetsWith l b
 
-  flagged : (bad : Bool) → bad ≡ true → heard l b bad ≡ breaksOff l
+  flagged : (bad : Bool) → bad ≡ true → heard l b bad ≡ interrupted l
   flagged bad e = broken-heard l b bad i (rw e (framing xs .flagged b []))
 
-  hopeless : (bad : Bool) → Hopeless ys → heard l b bad ≡ breaksOff l
+  hopeless : (bad : Bool) → Hopeless ys → heard l b bad ≡ interrupted l
   hopeless true h = flagged true refl
   hopeless false h = broken-heard l b false i (one-more xs b (framing ys .neither .1 h))
 
@@ -76,7 +81,7 @@ module _ (l : Ledger) (b : ℕ) (i : l .line .ignored ≡ false) where
   longer : (bad : Bool) → bad ≡ false → Continues ys → begun l ≡ true → heard l b bad ≡ withLine l (lengthened (l .line) b)
   longer bad e c g = lengthens-heard l b bad (record { listens = i; begins = g; inside = rw e (one-more xs b (inside c)) })
 
-  begins : (bad : Bool) → bad ≡ false → Continues ys → begun l ≡ false → heard l b bad ≡ settle (withLine l (beginning b))
+  begins : (bad : Bool) → bad ≡ false → Continues ys → begun l ≡ false → heard l b bad ≡ begunBy l b
   begins bad e c g =
       let none = nothing-in xs g in
       rw e (begun-heard l b i none (rw none at (inside c)))
@@ -96,8 +101,30 @@ ignores : (l : Ledger) (b : ℕ) (bad : Bool) → l .line .ignored ≡ true → 
 unfolding heard
 ignores l b bad e = rw e
 
+-- ---- the calls between octets
+
+sends : (l : Ledger) → step l send .ledger .line ≡ sendLeft (l .line) (l .line .reply)
+unfolding afterSend
+sends l = settle-line (withLine l (sendLeft (l .line) (l .line .reply)))
+
+gaps : (l : Ledger) → step l gap .ledger .line ≡ gapped (l .line)
+unfolding paused
+gaps l = settle-line (withLine l (gapped (l .line)))
+
+ticks : (l : Ledger) → step l tick .ledger .line ≡ cond (l .control .noted) (silenced l) (l .line)
+unfolding elapsed
+ticks l = go (l .control .noted)
+  where
+    go : (t : Bool) → cond t (settle (withLine l (silenced l))) (carried l (ticked (busy l) (l .control)) []) .line ≡ cond t (silenced l) (l .line)
+    go true = settle-line (withLine l (silenced l))
+    go false = refl
+
 pub by-grammar : ByGrammar
-by-grammar = record { ignored = ignores; listening = λ l b bad i. framed l b i bad }
+by-grammar = record {
+  ignored = ignores;
+  listening = λ l b bad i. framed l b i bad;
+  between = record { by-user = keeps-line; by-send = sends; by-gap = gaps; by-tick = ticks };
+}
 
 -- ---- SD4
 

@@ -5,6 +5,7 @@ use Rattle.telegram.proofs.Sends.{sending}
 use Rattle.ledger.specs.Demand2.{Demand2}
 use Rattle.ledger.proofs.ByGrammar.{by-grammar, sd4-without-effect}
 use Rattle.ledger.proofs.Hearing.{hears, dialogue}
+use Rattle.ledger.proofs.History.{deeds-make}
 use Rattle.ledger.proofs.EventsFollow.{events-open, publishing-raises}
 use Rattle.ledger.proofs.Fit.{replies-read}
 use Rattle.ledger.proofs.Octets.{sent-octets}
@@ -18,6 +19,7 @@ demand-2 = record {
   hears = hears;
   dialogue = dialogue;
   events-open = events-open;
+  deeds-make = deeds-make;
   publishing-raises = publishing-raises;
   sending = sending;
   reading-back = replies-read;

@@ -22,12 +22,12 @@ use Rattle.rules.proofs.EventsFollow.{clear-follows, ticked-follows, parameters
 use Rattle.ledger.specs.Lists.{some, writtenInput, writtenDiagnosis, withInputs, withDiagnoses}
 use Rattle.ledger.specs.Ledger.{Ledger, withBuffers, withLine, begun, busy, parametersOpen, configurationOpen, openSets, fresh}
 use Rattle.ledger.specs.Outcome.{carried, settle}
-use Rattle.ledger.specs.Bus.{telegramOn, requestBy, dataBy, outcomeOf, answered, completed, brokenOff, lengthened, beginning, sendLeft, silenced, heardAs, heard, paused, afterSend, elapsed}
+use Rattle.ledger.specs.Bus.{telegramOn, requestBy, dataBy, outcomeOf, answered, completed, brokenOff, lengthened, beginning, sendLeft, silenced, heardAs, heard, paused, afterSend, elapsed, gapped}
 use Rattle.ledger.specs.User.{handOver, acknowledgeEvents, leaveMaster}
 use Rattle.rules.specs.Call.{Call, octet, gap, send, tick, take, read, write, hand-over, new-diagnosis, judge-parameters, judge-configuration, events, acknowledge, pending, leave}
 use Rattle.ledger.specs.Calls.{step, after}
 use Rattle.ledger.specs.History.{outputsTaken, publishes, clears, heardDeeds, deedsOf}
-use Rattle.ledger.specs.EventsFollow.{EventsOpen, publishesIn, acknowledges, PublishingRaises}
+use Rattle.ledger.specs.EventsFollow.{EventsOpen, publishesIn, acknowledgesOutputs, PublishingRaises}
 use Rattle.ledger.proofs.ByCases.{take-cases, read-cases, write-cases, diagnosis-cases, parameters-cases, configuration-cases}
 use Rattle.ledger.proofs.Fit.{outcome-served}
 use Rattle.ledger.proofs.EventsCarried.{Open, Goes, waitingSets, quiet, then, alike, carried-goes, quiet-goes, diagnosed-goes, settle-goes}
@@ -67,7 +67,7 @@ heard-goes l b Complete =
 heard-goes l b Broken = settle-goes (withLine l (brokenOff (l .line)))
 
 -- every call
-step-goes : (l : Ledger) (c : Call) → Goes l (acknowledges c outputsEvent) (deedsOf l c) (step l c .ledger)
+step-goes : (l : Ledger) (c : Call) → Goes l (acknowledgesOutputs c) (deedsOf l c) (step l c .ledger)
 unfolding heard paused afterSend elapsed handOver acknowledgeEvents leaveMaster delaying
 step-goes l (octet b bad) = go (l .line .ignored)
   where
@@ -77,7 +77,7 @@ step-goes l (octet b bad) = go (l .line .ignored)
     go : (t : Bool) → Goes l false (cond t [] (heardDeeds s l b)) (cond t l (heardAs s l b))
     go true = quiet l
     go false = heard-goes l b s
-step-goes l gap = settle-goes (withLine l (record { ignored = false; telegram = []; reply = l .line .reply; diagnosing = l .line .diagnosing }))
+step-goes l gap = settle-goes (withLine l (gapped (l .line)))
 step-goes l send = settle-goes (withLine l (sendLeft (l .line) (l .line .reply)))
 step-goes l tick = go (l .control .noted)
   where

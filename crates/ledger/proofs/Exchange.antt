@@ -93,7 +93,7 @@ user-on l n leave u a =
     ap (λ (t : Bool). told 0 (withLine (carried l (clearOn t (l .control)) []) n)) (a .busy-is)
 
 -- so it leaves the line as it was
-keeps-line : (l : Ledger) (c : Call) → ofUser c ≡ true → step l c .ledger .line ≡ l .line
+pub keeps-line : (l : Ledger) (c : Call) → ofUser c ≡ true → step l c .ledger .line ≡ l .line
 keeps-line l c u = ap (λ (t : Told). t .ledger .line) (user-on l (l .line) c u (record { busy-is = refl; leaves-is = refl }))
 
 -- ---------------------------------------------------------------------------------------------------

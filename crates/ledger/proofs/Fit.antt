@@ -32,7 +32,7 @@ use Rattle.rules.specs.Line.{ticked}
 use Rattle.ledger.specs.Lists.{some, Outputs, takenOutputs, Inputs, handedOver, writtenInput, Sets, Diagnoses, exchangedDiagnoses, writtenDiagnosis, Buffers, withOutputs, withInputs, withDiagnoses}
 use Rattle.ledger.specs.Ledger.{Line, Ledger, withLine, begun, busy, diagnosisLeaves, openSets, fresh}
 use Rattle.ledger.specs.Outcome.{onOutputs, onInputs, onSets, onBuffers, carried, diagnosisChanged, afterReply, settle}
-use Rattle.ledger.specs.Bus.{telegramOn, requestBy, dataBy, outcomeOf, answered, completed, brokenOff, lengthened, beginning, sendLeft, silenced, heardAs, heard, paused, afterSend, elapsed}
+use Rattle.ledger.specs.Bus.{telegramOn, requestBy, dataBy, outcomeOf, answered, completed, brokenOff, lengthened, beginning, sendLeft, silenced, heardAs, heard, paused, afterSend, elapsed, gapped}
 use Rattle.ledger.specs.User.{handOver, acknowledgeEvents, leaveMaster, writtenOctet}
 use Rattle.rules.specs.Call.{Call, octet, gap, send, tick, take, read, write, hand-over, new-diagnosis, judge-parameters, judge-configuration, events, acknowledge, pending, leave}
 use Rattle.ledger.specs.Calls.{step, after}
@@ -254,7 +254,7 @@ step-fit l (octet b bad) f = go (l .line .ignored)
     go true = f
     go false = heard-fit b s f
 step-fit l gap f =
-    settle-fit (on-line f (record { ignored = false; telegram = []; reply = l .line .reply; diagnosing = l .line .diagnosing }) (f .reply))
+    settle-fit (on-line f (gapped (l .line)) (f .reply))
 step-fit l send f = settle-fit (on-line f (sendLeft (l .line) (l .line .reply)) (sent-left (l .line) (l .line .reply) refl (f .reply)))
 step-fit l tick f = go (l .control .noted)
   where

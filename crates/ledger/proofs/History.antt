@@ -9,7 +9,7 @@ use borrow.Author.Tests.{le-leb, lt-ltb}
 use Rattle.state.specs.declared.setup.Setup.{Setup}
 use Rattle.rules.specs.declared.outcome.OutputsDeed.{OutputsDeed}
 use Rattle.rules.specs.declared.outcome.OutputsDeed.the-variants.{Keep, Publish, Zeros}
-use Rattle.ledger.specs.Lists.{some, Outputs, published, publishedZeros, takenOutputs as tookOver, writtenInput, writtenDiagnosis, withInputs, withDiagnoses}
+use Rattle.ledger.specs.Lists.{some, Outputs, published, publishedZeros, tookNew, writtenInput, writtenDiagnosis, withInputs, withDiagnoses}
 use Rattle.telegram.specs.declared.reader.Status.{Status}
 use Rattle.telegram.specs.declared.reader.Status.the-variants.{Fresh, Inside, Complete, Broken}
 use Rattle.telegram.specs.Telegram.{payloadOf}
@@ -19,7 +19,7 @@ use Rattle.rules.specs.Line.{clearOn, clearNoted, ticked}
 use Rattle.rules.specs.User.{judgedParameters, judgedConfiguration}
 use Rattle.ledger.specs.Ledger.{Ledger, withLine, begun, busy, fresh}
 use Rattle.ledger.specs.Outcome.{onOutputs, carried, settle}
-use Rattle.ledger.specs.Bus.{telegramOn, requestBy, outcomeOf, answered, completed, brokenOff, lengthened, beginning, sendLeft, silenced, heardAs, heard, paused, afterSend, elapsed}
+use Rattle.ledger.specs.Bus.{telegramOn, requestBy, outcomeOf, answered, completed, brokenOff, lengthened, beginning, sendLeft, silenced, heardAs, heard, paused, afterSend, elapsed, gapped}
 use Rattle.ledger.specs.User.{readOctet, handOver, acknowledgeEvents, leaveMaster}
 use Rattle.rules.specs.Call.{Call, octet, gap, send, tick, take, read, write, hand-over, new-diagnosis, judge-parameters, judge-configuration, events, acknowledge, pending, leave}
 use Rattle.ledger.specs.Calls.{step, after}
@@ -27,25 +27,16 @@ use Rattle.ledger.proofs.Runs.{answers-append}
 use Rattle.ledger.proofs.Settling.{settle-outputs}
 use Rattle.ledger.proofs.Kept.{step-kept, after-kept}
 use Rattle.ledger.proofs.ByCases.{take-cases, read-cases, write-cases, diagnosis-cases, parameters-cases, configuration-cases}
-use Rattle.ledger.specs.History.{Deed, accepted, zeroed, outputsTaken, newest, readable, publishes, clears, heardDeeds, deedsOf, history, OutputsRead, OutputsReadable}
+use Rattle.ledger.specs.History.{Deed, accepted, zeroed, outputsTaken, newest, readable, publishes, clears, heardDeeds, deedsOf, history, made, DeedsMake, OutputsRead, OutputsReadable}
 
 -- ---------------------------------------------------------------------------------------------------
 -- The outputs as the deeds make them, the newest deed first.
-
-abbrev took : Outputs → Outputs
-took o = cond (o .fresh) (tookOver o) o
-
-abbrev made : ℕ → List Deed → Outputs → Outputs
-made n [] o = o
-made n (accepted ds ∷ h) o = published (made n h o) ds
-made n (zeroed ∷ h) o = publishedZeros (made n h o) n
-made n (outputsTaken ∷ h) o = took (made n h o)
 
 made-append : (n : ℕ) (g h : List Deed) (o : Outputs) → made n (g ++ h) o ≡ made n g (made n h o)
 made-append n [] h o = refl
 made-append n (accepted ds ∷ g) h o = ap (λ (q : Outputs). published q ds) (made-append n g h o)
 made-append n (zeroed ∷ g) h o = ap (λ (q : Outputs). publishedZeros q n) (made-append n g h o)
-made-append n (outputsTaken ∷ g) h o = ap took (made-append n g h o)
+made-append n (outputsTaken ∷ g) h o = ap tookNew (made-append n g h o)
 
 -- as the ledger makes them by an outcome
 made-one : (n : ℕ) (d : OutputsDeed) (ds : List ℕ) (o : Outputs) → made n (publishes d ds) o ≡ onOutputs d o n ds
@@ -66,7 +57,7 @@ made-shows n (outputsTaken ∷ h) o s =
     let q = made n h o in go (q .held) (q .next) (q .fresh) (q .zeros) (made-shows n h o s)
   where
     go : (x y : List ℕ) (t z : Bool) → Shows n (record { held = x; next = y; fresh = t; zeros = z }) h
-        → Shows n (took (record { held = x; next = y; fresh = t; zeros = z })) (outputsTaken ∷ h)
+        → Shows n (tookNew (record { held = x; next = y; fresh = t; zeros = z })) (outputsTaken ∷ h)
     go x y true z w = record { holds = w .brings; brings = w .brings }
     go x y false z w = record { holds = w .brings; brings = w .brings }
 
@@ -122,7 +113,7 @@ step-made l (octet b bad) = go (l .line .ignored)
     go : (t : Bool) → Made l (cond t [] (heardDeeds s l b)) (cond t l (heardAs s l b))
     go true = refl
     go false = heard-made l b s
-step-made l gap = settles-one (withLine l (record { ignored = false; telegram = []; reply = l .line .reply; diagnosing = l .line .diagnosing }))
+step-made l gap = settles-one (withLine l (gapped (l .line)))
 step-made l send = settles-one (withLine l (sendLeft (l .line) (l .line .reply)))
 step-made l tick = go (l .control .noted)
   where
@@ -168,6 +159,10 @@ after-made l (c ∷ cs) =
     ∙ ap (λ (s : Setup). made (s .«output_len») (history m cs) (m .buffers .outputs)) (step-kept l c .0)
     ∙ ap (made n (history m cs)) (step-made l c)
     ∙ sym (made-append n (history m cs) (deedsOf l c) (l .buffers .outputs))
+
+pub deeds-make : DeedsMake
+unfolding Made
+deeds-make = step-made
 
 module _ (s : Setup) (slice : List ℕ) (cs : List Call) where
   held-readable : after (fresh s slice) cs .buffers .outputs .held ≡ readable (s .«output_len») (history (fresh s slice) cs)

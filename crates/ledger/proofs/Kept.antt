@@ -9,7 +9,7 @@ use Rattle.telegram.specs.Reading.{run, readerAfter, status}
 use Rattle.rules.specs.Line.{ticked}
 use Rattle.ledger.specs.Ledger.{Ledger, withLine, begun, busy}
 use Rattle.ledger.specs.Outcome.{carried, settle}
-use Rattle.ledger.specs.Bus.{telegramOn, answered, completed, brokenOff, lengthened, beginning, sendLeft, silenced, heardAs, heard, paused, afterSend, elapsed}
+use Rattle.ledger.specs.Bus.{telegramOn, answered, completed, brokenOff, lengthened, beginning, sendLeft, silenced, heardAs, heard, paused, afterSend, elapsed, gapped}
 use Rattle.ledger.specs.User.{handOver, acknowledgeEvents, leaveMaster}
 use Rattle.rules.specs.Call.{Call, octet, gap, send, tick, take, read, write, hand-over, new-diagnosis, judge-parameters, judge-configuration, events, acknowledge, pending, leave}
 use Rattle.ledger.specs.Calls.{step, after}
@@ -45,7 +45,7 @@ step-kept l (octet b bad) = go (l .line .ignored)
     go true = (refl, refl)
     go false = heard-kept l b s
 step-kept l gap =
-    settled-kept l (withLine l (record { ignored = false; telegram = []; reply = l .line .reply; diagnosing = l .line .diagnosing }))
+    settled-kept l (withLine l (gapped (l .line)))
     (refl, refl)
 step-kept l send = settled-kept l (withLine l (sendLeft (l .line) (l .line .reply))) (refl, refl)
 step-kept l tick = go (l .control .noted)

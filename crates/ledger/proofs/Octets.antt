@@ -25,7 +25,7 @@ use Rattle.rules.proofs.Owner.{clear-owned, ticked-owned, parameters-owned, con
 use Rattle.ledger.specs.Lists.{some, takenOutputs, handedOver, Buffers, withOutputs, withInputs}
 use Rattle.ledger.specs.Ledger.{Line, Ledger, begun, busy, openSets, fresh}
 use Rattle.ledger.specs.Outcome.{carried}
-use Rattle.ledger.specs.Bus.{telegramOn, requestBy, dataBy, outcomeOf, answered, completed, brokenOff, lengthened, beginning, sendTold, sendLeft, silenced, heardAs, heard, paused, afterSend, elapsed}
+use Rattle.ledger.specs.Bus.{telegramOn, requestBy, dataBy, outcomeOf, answered, completed, brokenOff, lengthened, beginning, sendTold, sendLeft, silenced, heardAs, heard, paused, afterSend, elapsed, gapped}
 use Rattle.ledger.specs.User.{octetsOfKind, writtenOctet, handOver, acknowledgeEvents, leaveMaster}
 use Rattle.ledger.specs.Calls.{step, after}
 use Rattle.ledger.specs.ReadBack.{Fit}
@@ -80,7 +80,7 @@ unfolding heard paused afterSend elapsed handOver acknowledgeEvents leaveMaster 
 step-octal l (octet b bad) h k f =
     either Octal (l .line .ignored) f (heard-octal b bad (status (readerAfter (run (l .line .telegram)) b bad)) h refl k f)
 step-octal l gap h k f =
-    settle-octal (on-line f (record { ignored = false; telegram = []; reply = l .line .reply; diagnosing = l .line .diagnosing }) tt (f .reply))
+    settle-octal (on-line f (gapped (l .line)) tt (f .reply))
 step-octal l send h k f =
     let w = sent-octal (l .line) (l .line .reply) refl (f .telegram) (f .reply) in
     settle-octal (on-line f (sendLeft (l .line) (l .line .reply)) (w .0) (w .1))
@@ -155,7 +155,6 @@ kind-octets b kind f =
 octal-answers : (l : Ledger) → Octal l → AnswersOctets l
 octal-answers l f = record {
   left-are = f .reply;
-  none-left = (told-none (l .line .reply) (f .reply), ap sendTold);
   answers-none = (
     λ e. told-none (l .line .reply) (f .reply) (let m : sendTold (l .line .reply) ≡ 256 = cc in m),
     λ e. ap (λ (xs : List ℕ). Value (sendTold xs)) e,

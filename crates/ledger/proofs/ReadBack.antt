@@ -13,7 +13,7 @@ use Rattle.state.specs.declared.state.Drawn.{Drawn}
 use Rattle.state.specs.declared.state.Drawn.the-variants.{Nothing, Acknowledge, Status, Rejected, Exchange, Inputs, Outputs, Configuration, Diagnosis}
 use Rattle.rules.specs.Diagnosis.{headerOf}
 use Rattle.ledger.specs.Lists.{Buffers}
-use Rattle.ledger.specs.Replies.{headerOctets, diagnosisOctets, Reply, silence, acknowledgement, answer, serviceTelegram, replyBy, replyOctets}
+use Rattle.ledger.specs.Replies.{headerOctets, diagnosisOctets, WholeReply, silence, acknowledgement, answer, serviceTelegram, replyBy, replyOctets}
 use Rattle.ledger.specs.ReadBack.{StartTakes, ListsFit, CountsFit, Left, ReadsBack}
 
 -- as many diagnosis octets as the count says
@@ -29,7 +29,7 @@ service-valid : (s : Setup) (master point : ℕ) (ds : List ℕ) → length ds �
 service-valid s master point ds h = (omega arith, omega arith, inr (omega arith, omega arith, omega arith))
 
 -- a telegram that is drawn is one of the grammar
-abbrev pub ValidReply : Reply → Type 0
+abbrev pub ValidReply : WholeReply → Type 0
 ValidReply silence = Unit
 ValidReply acknowledgement = Unit
 ValidReply (answer t) = Valid t
@@ -56,12 +56,12 @@ telegram-reads t v =
     let f = framing (octetsOf t) in
     record { octets-are = refl; valid = v; fields-are = f .fields t v refl .0; data-are = f .fields t v refl .1; telegram-is = f .told t v refl }
 
-pub reply-reads : (r : Reply) → ValidReply r → (u : Telegram) → r ≡ answer u → ReadsBack (replyOctets r) u
+pub reply-reads : (r : WholeReply) → ValidReply r → (u : Telegram) → r ≡ answer u → ReadsBack (replyOctets r) u
 reply-reads silence v u e = let z : _≡_ {A = ℕ} 0 1 = cc in absurd (omega arith)
 reply-reads acknowledgement v u e = let z : _≡_ {A = ℕ} 0 1 = cc in absurd (omega arith)
 reply-reads (answer t) v u e = let same : t ≡ u = cc in subst (ReadsBack (octetsOf t)) same (telegram-reads t v)
 
-pub reply-left : (r : Reply) → ValidReply r → Left (replyOctets r)
+pub reply-left : (r : WholeReply) → ValidReply r → Left (replyOctets r)
 reply-left silence v = inl refl
 reply-left acknowledgement v = inr ([], inl refl)
 reply-left (answer t) v = inr ([], inr (t, v, refl))

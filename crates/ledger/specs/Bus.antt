@@ -88,9 +88,13 @@ heardAs Broken l b = settle (withLine l (brokenOff (l .line)))
 unfoldable pub heard : Ledger → ℕ → Bool → Ledger
 heard l b bad = cond (l .line .ignored) l (heardAs (status (readerAfter (run (l .line .telegram)) b bad)) l b)
 
--- a gap: the next octet may begin a telegram
+-- the line after a gap: the next octet may begin a telegram; a reply stays
+abbrev pub gapped : Line → Line
+gapped n = record { ignored = false; telegram = []; reply = n .reply; diagnosing = n .diagnosing }
+
+-- a gap; one inside a telegram breaks it off
 unfoldable pub paused : Ledger → Ledger
-paused l = settle (withLine l (record { ignored = false; telegram = []; reply = l .line .reply; diagnosing = l .line .diagnosing }))
+paused l = settle (withLine l (gapped (l .line)))
 
 -- send answers the first reply octet left, 256 when no octet is left
 abbrev pub sendTold : List ℕ → ℕ

@@ -4,6 +4,7 @@ use Rattle.telegram.specs.Telegram.{Telegram}
 use Rattle.telegram.specs.Framing.{FramingPromise, FirstOctets}
 use Rattle.telegram.specs.Sending.{SendingPromise}
 use Rattle.ledger.specs.Ledger.{Ledger}
+use Rattle.ledger.specs.History.{DeedsMake}
 use Rattle.ledger.specs.Hearing.{Hears, Dialogue}
 use Rattle.ledger.specs.ByGrammar.{ByGrammar, Sd4WithoutEffect}
 use Rattle.ledger.specs.ReadBack.{ReadingBack}
@@ -25,6 +26,8 @@ pub record Demand2 : Type 0 where
   pub dialogue : (l : Ledger) (t : Telegram) → Dialogue l t
   -- events 10 and 11 are set exactly while a set of that kind is open
   pub events-open : EventsOpen
+  -- every call makes of the outputs what its deeds say
+  pub deeds-make : DeedsMake
   -- whatever publishes raises 13, and nothing else does
   pub publishing-raises : PublishingRaises
   -- the sender of a telegram sends its octets

@@ -31,27 +31,27 @@ publishesIn (accepted ds ∷ earlier) = true
 publishesIn (zeroed ∷ earlier) = true
 publishesIn (outputsTaken ∷ earlier) = publishesIn earlier
 
--- a call acknowledges event n: "Acknowledge (mask) clears bits"
-abbrev pub acknowledges : Call → ℕ → Bool
-acknowledges (octet b bad) n = false
-acknowledges gap n = false
-acknowledges send n = false
-acknowledges tick n = false
-acknowledges take n = false
-acknowledges (read kind index) n = false
-acknowledges (write kind index x) n = false
-acknowledges hand-over n = false
-acknowledges (new-diagnosis count flags) n = false
-acknowledges (judge-parameters j) n = false
-acknowledges (judge-configuration j) n = false
-acknowledges events n = false
-acknowledges (acknowledge mask) n = bit mask n
-acknowledges pending n = false
-acknowledges leave n = false
+-- a call acknowledges event 13: "Acknowledge (mask) clears bits"
+abbrev pub acknowledgesOutputs : Call → Bool
+acknowledgesOutputs (octet b bad) = false
+acknowledgesOutputs gap = false
+acknowledgesOutputs send = false
+acknowledgesOutputs tick = false
+acknowledgesOutputs take = false
+acknowledgesOutputs (read kind index) = false
+acknowledgesOutputs (write kind index x) = false
+acknowledgesOutputs hand-over = false
+acknowledgesOutputs (new-diagnosis count flags) = false
+acknowledgesOutputs (judge-parameters j) = false
+acknowledgesOutputs (judge-configuration j) = false
+acknowledgesOutputs events = false
+acknowledgesOutputs (acknowledge mask) = bit mask outputsEvent
+acknowledgesOutputs pending = false
+acknowledgesOutputs leave = false
 
--- "Publishing puts outputs in next, event 13": after every call, on every ledger, it is set if it was and is not acknowledged, or if the
--- call published
+-- "Publishing puts outputs in next, event 13": after every call, on every ledger, it is set exactly if it was and
+-- is not acknowledged, or if the call published
 abbrev pub PublishingRaises : Type 0
 PublishingRaises =
     (l : Ledger) (c : Call)
-    → eventSet (step l c .ledger) outputsEvent ≡ ((eventSet l outputsEvent && not (acknowledges c outputsEvent)) || publishesIn (deedsOf l c))
+    → eventSet (step l c .ledger) outputsEvent ≡ ((eventSet l outputsEvent && not (acknowledgesOutputs c)) || publishesIn (deedsOf l c))

@@ -15,7 +15,7 @@ use Rattle.rules.specs.declared.outcome.OutputsDeed.{OutputsDeed}
 use Rattle.rules.specs.declared.outcome.OutputsDeed.the-variants.{Keep, Publish, Zeros}
 use Rattle.rules.specs.Line.{clearOn, clearNoted, ticked}
 use Rattle.rules.specs.User.{judgedParameters, judgedConfiguration}
-use Rattle.ledger.specs.Lists.{some}
+use Rattle.ledger.specs.Lists.{some, Outputs, published, publishedZeros, tookNew}
 use Rattle.ledger.specs.Ledger.{Ledger, withLine, busy, parametersOpen, configurationOpen, fresh}
 use Rattle.ledger.specs.Bus.{telegramOn, requestBy, outcomeOf, completed, brokenOff, sendLeft, silenced}
 use Rattle.rules.specs.Call.{Call, octet, gap, send, tick, take, read, write, hand-over, new-diagnosis, judge-parameters, judge-configuration, events, acknowledge, pending, leave}
@@ -90,6 +90,17 @@ deedsOf l leave = publishes (clearOn (busy l) (l .control) .outputs) []
 abbrev pub history : Ledger → List Call → List Deed
 history l [] = []
 history l (c ∷ cs) = history (step l c .ledger) cs ++ deedsOf l c
+
+-- what deeds make of the outputs, the newest first: take changes next and held where next is new
+abbrev pub made : ℕ → List Deed → Outputs → Outputs
+made n [] o = o
+made n (accepted ds ∷ earlier) o = published (made n earlier o) ds
+made n (zeroed ∷ earlier) o = publishedZeros (made n earlier o) n
+made n (outputsTaken ∷ earlier) o = tookNew (made n earlier o)
+
+-- every call makes of the outputs what its deeds say, and nothing else
+abbrev pub DeedsMake : Type 0
+DeedsMake = (l : Ledger) (c : Call) → step l c .ledger .buffers .outputs ≡ made (l .setup .«output_len») (deedsOf l c) (l .buffers .outputs)
 
 -- after every list of calls the outputs read are those of the newest telegram accepted before the latest take, or zeros
 pub record OutputsRead (s : Setup) (slice : List ℕ) (cs : List Call) (index : ℕ) (rest : List Call) : Type 0 where

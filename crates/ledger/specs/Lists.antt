@@ -28,6 +28,10 @@ publishedZeros o n = record { held = o .held; next = replicate n 0; fresh = true
 abbrev pub takenOutputs : Outputs → Outputs
 takenOutputs o = record { held = o .next; next = o .held; fresh = false; zeros = o .zeros }
 
+-- where next is new
+abbrev pub tookNew : Outputs → Outputs
+tookNew o = cond (o .fresh) (takenOutputs o) o
+
 -- the inputs that the controller sends (fill), those that are next, and those that the user holds
 pub record Inputs : Type 0 where
   pub sending : List ℕ

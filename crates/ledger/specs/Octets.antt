@@ -8,7 +8,6 @@ use Rattle.state.specs.declared.setup.Setup.{Setup}
 use Rattle.state.specs.declared.answer.Answer.the-variants.{Value}
 use Rattle.rules.specs.Call.{Call, octet, gap, send, tick, take, read, write, hand-over, new-diagnosis, judge-parameters, judge-configuration, events, acknowledge, pending, leave}
 use Rattle.ledger.specs.Ledger.{Ledger, fresh}
-use Rattle.ledger.specs.Bus.{sendTold}
 use Rattle.ledger.specs.Calls.{step, after}
 use Rattle.ledger.specs.ReadBack.{StartTakes}
 
@@ -39,9 +38,7 @@ AllOctets (c ∷ cs) = OctetsIn c × AllOctets cs
 pub record AnswersOctets (l : Ledger) : Type 0 where
   -- what is left of the reply are octets
   pub left-are : Octets (l .line .reply)
-  -- so that 256 says that none is left
-  pub none-left : (sendTold (l .line .reply) ≡ 256) ↔ (l .line .reply ≡ [])
-  -- as Send's answer
+  -- so that 256 from Send says that none is left
   pub answers-none : (step l send .answer ≡ Value 256) ↔ (l .line .reply ≡ [])
   -- what a read answers is an octet
   pub reads-octet : (kind index n : ℕ) → step l (read kind index) .answer ≡ Value n → n < 256

@@ -17,7 +17,7 @@ use Rattle.rules.specs.Requests.{masterOf}
 use Rattle.ledger.specs.Lists.{Outputs, Inputs, Sets, Diagnoses, Buffers}
 use Rattle.ledger.specs.Ledger.{Ledger, fresh}
 use Rattle.ledger.specs.Outcome.{onBuffers}
-use Rattle.ledger.specs.Replies.{Reply, answer, replyBy, replyOctets}
+use Rattle.ledger.specs.Replies.{WholeReply, answer, replyBy, replyOctets}
 use Rattle.ledger.specs.Bus.{telegramOn, requestBy, outcomeOf, completed, heard}
 use Rattle.rules.specs.Call.{Call}
 use Rattle.ledger.specs.Calls.{after}
@@ -87,7 +87,7 @@ pub record Fit (l : Ledger) : Type 0 where
 -- The reply that is drawn ----------------------------------------------------------------------
 
 -- the reply that a complete telegram t draws
-abbrev pub drawnBy : Ledger → Telegram → Reply
+abbrev pub drawnBy : Ledger → Telegram → WholeReply
 drawnBy l t =
     let o = outcomeOf l (requestBy t) (payloadOf t) in
     replyBy (o .drawn) (l .setup) (l .slice) (o .control) (onBuffers o (l .setup) (payloadOf t) (l .buffers)) (masterOf (requestBy t))

@@ -21,10 +21,10 @@ abbrev pub diagnosisOctets : Setup → Control → List ℕ → List ℕ
 diagnosisOctets s c own = headerOctets (headerOf c) (s .ident) ++ drop 6 (take (c .diagnosis .count) own)
 
 -- what a telegram draws: no reply, the single octet E5, or a telegram
-pub data Reply : Type 0 where
-  silence : Reply
-  acknowledgement : Reply
-  answer : (t : Telegram) → Reply
+pub data WholeReply : Type 0 where
+  silence : WholeReply
+  acknowledgement : WholeReply
+  answer : (t : Telegram) → WholeReply
 
 -- 10 SA own FC FCS 16: to the master, from this station
 abbrev pub shortTelegram : Setup → ℕ → ℕ → Telegram
@@ -35,7 +35,7 @@ abbrev pub serviceTelegram : Setup → ℕ → ℕ → List ℕ → Telegram
 serviceTelegram s master point ds = sd2 (master + 128) (s .address + 128) 0x08 (0x3E ∷ point ∷ ds)
 
 -- the reply to a master, by its fields DA, SA, FC and data
-abbrev pub replyBy : Drawn → Setup → List ℕ → Control → Buffers → ℕ → Reply
+abbrev pub replyBy : Drawn → Setup → List ℕ → Control → Buffers → ℕ → WholeReply
 replyBy Nothing s slice c b master = silence
 replyBy Acknowledge s slice c b master = acknowledgement
 replyBy Status s slice c b master = answer (shortTelegram s master 0x00)
@@ -47,7 +47,7 @@ replyBy Configuration s slice c b master = answer (serviceTelegram s master 59 s
 replyBy Diagnosis s slice c b master = answer (serviceTelegram s master 60 (diagnosisOctets s c (b .diagnosis .own)))
 
 -- its octets, whole
-abbrev pub replyOctets : Reply → List ℕ
+abbrev pub replyOctets : WholeReply → List ℕ
 replyOctets silence = []
 replyOctets acknowledgement = 0xE5 ∷ []
 replyOctets (answer t) = octetsOf t

@@ -128,9 +128,9 @@ ends (x ∷ bs) p s m b =
 
 -- for every memory of the right length that holds a state
 pub lent-same : LentSame
-lent-same m s n h bs =
-    let g : Holds m (unpacked m) = subst (Holds m) (sym (holds-unpacked m s h)) h in
-    let r = ends bs m (unpacked m) m (record { length-in = n; holds = g; safe = holds-safe m (unpacked m) g; bodies = refl }) in
+lent-same m u bs =
+    let g : Holds m (unpacked m) = subst (Holds m) (sym (holds-unpacked m (u .state) (u .holds))) (u .holds) in
+    let r = ends bs m (unpacked m) m (record { length-in = u .length-in; holds = g; safe = holds-safe m (unpacked m) g; bodies = refl }) in
     record { image-is = r .image-is; answers-are = r .answers-are; well-still = r .well-still; holds-still = r .holds-still }
 
 -- and with that state named
@@ -143,7 +143,7 @@ module _ (m : List ℕ) (s : Setup) (slice : List ℕ) (long : s .«get_cfg_len�
   same : (pre : List Call) (bs : List Beat) → Same (memoryAfter (memoryOf m s slice) pre) bs
   same pre bs =
       let r = ready-after pre (memoryOf m s slice) (initialState s) (fresh s slice) (begins-ready m s slice long zero) in
-      lent-same (memoryAfter (memoryOf m s slice) pre) (r .0) (r .1 .length-in) (r .1 .on .holds) bs
+      lent-same (memoryAfter (memoryOf m s slice) pre) (record { length-in = r .1 .length-in; state = r .0; holds = r .1 .on .holds }) bs
 
   carried-over : CarriesOver m s slice
   carried-over = record {

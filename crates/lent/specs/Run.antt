@@ -18,7 +18,7 @@ use Rattle.steps.specs.Stepped.{Stepped, unchanged}
 use Rattle.steps.specs.Reading.{heard}
 use Rattle.steps.specs.Bus.{paused, elapsed}
 use Rattle.steps.specs.Calls.{started, wellMemory, answers, memoryAfter}
-use Rattle.steps.specs.Demand1.{LengthIn}
+use Rattle.steps.specs.Demand1.{Undamaged}
 use Rattle.agreement.specs.Agreement.{memoryOf}
 
 -- what the bus does
@@ -75,7 +75,7 @@ pub record Same (m : List ℕ) (bs : List Beat) : Type 0 where
 
 -- so it is on every memory that nobody damaged
 abbrev pub LentSame : Type 0
-LentSame = (m : List ℕ) (s : State) → LengthIn (length m) → Holds m s → (bs : List Beat) → Same m bs
+LentSame = (m : List ℕ) → Undamaged m → (bs : List Beat) → Same m bs
 
 -- demand 3 carries over: after Start and any calls the state is unpacked, lent for any octets, gaps and Ticks and packed
 -- again, and every call from then on answers as the ledger does

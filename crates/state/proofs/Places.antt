@@ -10,7 +10,7 @@ use lib.Dec.{ltb}
 use borrow.Author.Tests.{ltb-true, ltb-false}
 use Rattle.octets.proofs.Parts.{places-apart}
 use Rattle.state.specs.declared.setup.Setup.{Setup}
-use Rattle.state.specs.Layout.{stateLength, roundedUp, rowCounts, rowCount, rowLength, getCfgRow, rowBase, startOf, getCfgAt, endOf}
+use Rattle.state.specs.Layout.{stateLength, roundedUp, rowCounts, rowCount, rowLength, getCfgRow, rowBase, startOf, getCfgAt, endOf, BuffersEnd}
 
 -- a length is at most what it is rounded up to
 pub rounded-le : (n : ℕ) → n ≤ roundedUp n
@@ -150,28 +150,6 @@ base-small s a o h = go (ltb a (length rowCounts)) refl
 
 -- ---- the three sums
 
--- all six lengths n
-abbrev allLengths : ℕ → Setup
-allLengths n =
-    record {
-      address = 0;
-      ident = 0;
-      «output_len» = n;
-      «input_len» = n;
-      «parameter_len» = n;
-      «configuration_len» = n;
-      «diagnosis_len» = n;
-      «get_cfg_len» = n;
-    }
-
-pub all-96 : endOf (allLengths 96) ≡ 1504
+pub buffers-end : BuffersEnd
 unfolding rowBase roundedUp
-all-96 = refl
-
-pub all-97 : endOf (allLengths 97) ≡ 1624
-unfolding rowBase roundedUp
-all-97 = refl
-
-pub all-244 : endOf (allLengths 244) ≡ 3784
-unfolding rowBase roundedUp
-all-244 = refl
+buffers-end = record { all-96 = refl; all-97 = refl; all-244 = refl }

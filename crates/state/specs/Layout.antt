@@ -1,5 +1,6 @@
 -- Where the buffers lie behind the state part. Nothing else knows these numbers.
 use Prim.Native.Nat.{ℕ, zero, suc, _+_, _*_, _/_}
+use mathlib.Core.Path.{_≡_}
 use mathlib.Core.List.{List, [], _∷_}
 use lib.ListN.{length, getD}
 use Rattle.state.specs.declared.setup.Setup.{Setup}
@@ -81,3 +82,23 @@ getCfgAt s = rowBase s getCfgRow
 -- where the last one ends
 abbrev pub endOf : Setup → ℕ
 endOf s = rowBase s (length rowCounts)
+
+-- all six lengths n
+abbrev pub allLengths : ℕ → Setup
+allLengths n =
+    record {
+      address = 0;
+      ident = 0;
+      «output_len» = n;
+      «input_len» = n;
+      «parameter_len» = n;
+      «configuration_len» = n;
+      «diagnosis_len» = n;
+      «get_cfg_len» = n;
+    }
+
+-- "All six lengths 96 end at 1,504", "all 97 end at 1,624", "All 244 end at 3,784"
+pub record BuffersEnd : Type 0 where
+  pub all-96 : endOf (allLengths 96) ≡ 1504
+  pub all-97 : endOf (allLengths 97) ≡ 1624
+  pub all-244 : endOf (allLengths 244) ≡ 3784

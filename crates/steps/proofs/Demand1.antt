@@ -30,7 +30,7 @@ use Rattle.steps.specs.Calls.{lengthOk, startedIn, startedAs, started, w
 use Rattle.steps.specs.Demand1.{Undamaged, Demand1}
 use Rattle.steps.proofs.Holding.{ByUser, step-cases}
 use Rattle.steps.proofs.KeepsSound.{step-sound}
-use Rattle.steps.proofs.StaysWell.{stays-well}
+use Rattle.steps.proofs.StaysUndamaged.{stays-undamaged}
 use Rattle.steps.proofs.Guarded.{well-length, well-passes, holds-well, called-steps, called-damaged, started-begins, begins-started, refused-same}
 
 -- an answer that a step may give
@@ -105,6 +105,6 @@ demand-1 = record {
   one-image = image-injective;
   numbers-apart = codes-equal;
   sound-kept = step-sound;
-  stays-well = stays-well;
+  stays-undamaged = stays-undamaged;
   start-answers = λ m s slice. (started-begins m s slice, λ b. ap (λ (x : Called). x .answer) (begins-started m s slice b));
 }

@@ -41,7 +41,7 @@ use Rattle.steps.specs.Reading.{keptOctets, readBy, storedAs, requestBy,
 use Rattle.steps.specs.Bus.{paused, sentBy, sendLeft, silencedReader, elapsed}
 use Rattle.steps.specs.User.{absent, takeOutputs, readOctet, writeOctet, handOver, newDiagnosis, judgeParameters, judgeConfiguration, acknowledgeEvents, leaveMaster}
 use Rattle.steps.specs.Step.{step}
-use Rattle.steps.specs.Kept.{SoundKept}
+use Rattle.steps.specs.Demand1.{SoundKept}
 use Rattle.steps.proofs.KeepsSafe.{outputs-permute, inputs-permute, sets-permute}
 use Rattle.steps.proofs.OutcomeServed.{outcome-served}
 use Rattle.steps.proofs.SetsCounted.{SetCounts, sets-counts}

@@ -7,6 +7,6 @@ pub mod OutcomeServed
 pub mod SetsCounted
 pub mod SoundWith
 pub mod KeepsSound
-pub mod StaysWell
+pub mod StaysUndamaged
 pub mod Runs
 pub mod Demand1

@@ -19,8 +19,8 @@ use Rattle.state.specs.Layout.{endOf}
 use Rattle.state.specs.Memory.{Holds}
 use Rattle.state.specs.Sound.{Within, Ranged, Sound}
 use Rattle.rules.specs.Call.{Call}
+use Rattle.steps.specs.Step.{step}
 use Rattle.steps.specs.Calls.{started, called}
-use Rattle.steps.specs.Kept.{SoundKept, StaysWell}
 
 -- "1,536 to 4,096 octets, a multiple of 8"
 pub record LengthIn (n : ℕ) : Type 0 where
@@ -49,6 +49,14 @@ pub record RefusalsLeave : Type 0 where
   pub of-call : (m : List ℕ) (c : Call) (why : Refusal) → called m c .answer ≡ Refused why → called m c .memory ≡ m
   pub of-start : (m : List ℕ) (s : Setup) (slice : List ℕ) (why : Refusal) → started m s slice .answer ≡ Refused why → started m s slice .memory ≡ m
 
+-- every call leads from every state whose roles, lengths and counts keep the rules to such a state, reached or not
+abbrev pub SoundKept : Type 0
+SoundKept = (s : State) (m : List ℕ) (c : Call) → Sound s → Sound (step s m c .state)
+
+-- so no call damages a memory, whatever led to it
+abbrev pub StaysUndamaged : Type 0
+StaysUndamaged = (m : List ℕ) (c : Call) → Undamaged m → Undamaged (called m c .memory)
+
 -- Start answers 0 exactly if what it is given keeps the rules
 abbrev pub StartAnswersZero : Type 0
 StartAnswersZero = (m : List ℕ) (s : Setup) (slice : List ℕ) → (started m s slice .answer ≡ Value 0) ↔ Begins m s
@@ -69,4 +77,4 @@ pub record Demand1 : Type 0 where
   pub one-image : OneImage
   pub numbers-apart : NumbersApart
   pub sound-kept : SoundKept
-  pub stays-well : StaysWell
+  pub stays-undamaged : StaysUndamaged

@@ -8,5 +8,4 @@ pub mod Bus
 pub mod User
 pub mod Step
 pub mod Calls
-pub mod Kept
 pub mod Demand1

@@ -16,7 +16,8 @@ use Rattle.telegram.specs.declared.reader.Status.the-variants.{Complete}
 use Rattle.telegram.specs.Checksum.{total, checksum}
 use Rattle.telegram.specs.Telegram.{sd1, sd2, sd3, sd4, Addresses, IsTelegram}
 use Rattle.telegram.specs.Reading.{rd, before, start, afterSa, counted, runFrom, run, status}
-use Rattle.telegram.proofs.Run.{no-true, inside-complete, fresh-complete, passed}
+use Rattle.telegram.proofs.Run.{no-true, inside-complete, fresh-complete}
+use Rattle.telegram.proofs.Steps.{passed}
 
 -- complete: nothing more came
 ended : (k : Kind) (n i da sa fc dp sp s : ℕ) (ys : List ℕ) → status (runFrom (rd Done k n i da sa fc dp sp s) ys) ≡ Complete → ys ≡ []

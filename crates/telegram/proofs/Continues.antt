@@ -15,7 +15,8 @@ use Rattle.telegram.specs.declared.reader.Status.{Status}
 use Rattle.telegram.specs.declared.reader.Status.the-variants.{Fresh, Inside, Complete, Broken}
 use Rattle.telegram.specs.Telegram.{Octets}
 use Rattle.telegram.specs.Reading.{rd, before, moved, off, okAt, nextAt, afterSa, counted, readerStep, runFrom, status, statusAt}
-use Rattle.telegram.proofs.Run.{no-true, on, goes}
+use Rattle.telegram.proofs.Run.{no-true, on}
+use Rattle.telegram.proofs.Steps.{goes}
 
 -- what a reader never leaves: its length octet and its check octet are octets
 abbrev pub Small : Reader → Type 0

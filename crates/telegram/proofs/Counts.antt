@@ -53,7 +53,7 @@ module _ (r : Reader) (b : ℕ) (most : r .count ≤ 246) (part : r .at ≤ r .c
   body-counts false e = record { count = most; read = part; none-yet = λ z. no-true z }
 
   -- an octet that may come
-  pub next-counts : (p : Phase) → (beforeData p ≡ true → r .at ≡ 0) → okAt p r b ≡ true → ReadCounts (nextAt p r b)
+  next-counts : (p : Phase) → (beforeData p ≡ true → r .at ≡ 0) → okAt p r b ≡ true → ReadCounts (nextAt p r b)
   next-counts reading.Start z o =
       one-of (eqb b 0x10) (before-counts reading.Da Sd1 0 (omega arith))
       (one-of (eqb b 0xA2) (before-counts reading.Da Sd3 8 (omega arith))

@@ -15,7 +15,7 @@ use Rattle.telegram.specs.declared.reader.Status.the-variants.{Broken}
 use Rattle.telegram.specs.Reading.{rd, before, moved, off, okAt, nextAt, readerStep, runFrom, status, inBody, takesData, gathered}
 use Rattle.telegram.proofs.Run.{no-true, stays-broken}
 use Rattle.telegram.specs.Counts.{beforeData, ReadCounts}
-use Rattle.telegram.proofs.Counts.{next-counts}
+use Rattle.telegram.proofs.Counts.{step-counts}
 
 -- over two lists, the second from where the first led
 pub gather-append : (r : Reader) (xs ys : List ℕ) → gathered r (xs ++ ys) ≡ gathered r xs ++ gathered (runFrom r xs) ys
@@ -69,17 +69,17 @@ pub counts-from : (r : Reader) (xs : List ℕ) → ReadCounts r → ¬ (status (
     → (runFrom r xs) .at ≡ r .at + length (gathered r xs)
 unfolding readerStep takesData
 counts-from r [] f n = sym (add-zero (r .at))
-counts-from r (x ∷ xs) f n = go (okAt (r .phase) r x) refl n (counts-from (readerStep r x) xs)
+counts-from r (x ∷ xs) f n = go (okAt (r .phase) r x) refl n (counts-from (readerStep r x) xs (step-counts r x f))
   where
     go : (c : Bool) → okAt (r .phase) r x ≡ c
         → ¬ (status (runFrom (cond c (nextAt (r .phase) r x) off) xs) ≡ Broken)
-        → (ReadCounts (cond c (nextAt (r .phase) r x) off) → ¬ (status (runFrom (cond c (nextAt (r .phase) r x) off) xs) ≡ Broken)
+        → (¬ (status (runFrom (cond c (nextAt (r .phase) r x) off) xs) ≡ Broken)
         → (runFrom (cond c (nextAt (r .phase) r x) off) xs) .at
         ≡ (cond c (nextAt (r .phase) r x) off) .at + length (gathered (cond c (nextAt (r .phase) r x) off) xs))
         → (runFrom (cond c (nextAt (r .phase) r x) off) xs) .at
         ≡ r .at + length (cond (takesData r) (x ∷ gathered (cond c (nextAt (r .phase) r x) off) xs) (gathered (cond c (nextAt (r .phase) r x) off) xs))
     go true e m ih =
-        let a = ih (next-counts r x (f .count) (f .read) (r .phase) (f .none-yet) e) m in
+        let a = ih m in
         let s = next-at (r .phase) r x (f .none-yet) e in
         let l = length-cond (takesData r) x (gathered (nextAt (r .phase) r x) xs) in
         omega arith

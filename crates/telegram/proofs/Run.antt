@@ -1,12 +1,12 @@
 -- A reader over lists of octets: the laws that the theorems share.
 use Prim.Native.Nat.{ℕ}
 use native.Mathlib.Omega.{arith}
-use mathlib.Core.Path.{_≡_, refl, sym, ap, _∙_}
+use mathlib.Core.Path.{_≡_, refl, ap, _∙_}
 use mathlib.Core.List.{List, [], _∷_, _++_}
-use mathlib.Core.Bool.{Bool, true, false, cond}
+use mathlib.Core.Bool.{true, false}
 use Rattle.telegram.specs.declared.reader.Reader.{Reader}
 use Rattle.telegram.specs.declared.reader.Status.the-variants.{Fresh, Inside, Complete, Broken}
-use Rattle.telegram.specs.Reading.{start, off, okAt, nextAt, readerStep, runFrom, run, status}
+use Rattle.telegram.specs.Reading.{start, off, readerStep, runFrom, run, status}
 
 -- a test that failed did not pass
 pub no-true : {A : Type 0} → false ≡ true → A
@@ -58,19 +58,3 @@ off-stays (y ∷ ys) = rw (step-off y) (off-stays ys)
 
 pub stays-broken : (ys : List ℕ) → status (runFrom off ys) ≡ Broken
 stays-broken ys = ap status (off-stays ys) ∙ off-broken
-
--- the octet may come: the step leads on
-pub goes : (r : Reader) (b : ℕ) → okAt (r .phase) r b ≡ true → readerStep r b ≡ nextAt (r .phase) r b
-unfolding readerStep
-goes r b h = rw h
-
--- after an octet a reader completes only if the octet may come, from where the octet leads
-pub passed : (r : Reader) (b : ℕ) (ys : List ℕ) → status (runFrom (readerStep r b) ys) ≡ Complete
-    → (okAt (r .phase) r b ≡ true) × (status (runFrom (nextAt (r .phase) r b) ys) ≡ Complete)
-unfolding readerStep
-passed r b ys = go (okAt (r .phase) r b)
-  where
-    go : (t : Bool) → status (runFrom (cond t (nextAt (r .phase) r b) off) ys) ≡ Complete
-        → (t ≡ true) × (status (runFrom (nextAt (r .phase) r b) ys) ≡ Complete)
-    go true h = (refl, h)
-    go false h = absurd (broken-complete (sym (stays-broken ys) ∙ h))

@@ -2,7 +2,8 @@
 use Prim.Native.Nat.{ℕ, _+_, _-_, _%_, _≤_, _<_}
 use native.Mathlib.Omega.{arith}
 use mathlib.Core.Path.{_≡_, refl, sym, ap, _∙_}
-use mathlib.Core.Bool.{Bool, true, _&&_}
+use mathlib.Core.Bool.{Bool, true, false, cond, _&&_}
+use mathlib.Core.List.{List}
 use lib.Dec.{ltb}
 use borrow.Author.Tests.{ltb-true, lt-ltb, le-ltb, le-leb, lt-leb, eq-eqb, ne-eqb}
 use Rattle.telegram.specs.declared.Kind.the-variants.{Sd1, Sd2, Sd3, Sd4}
@@ -10,8 +11,9 @@ use Rattle.telegram.specs.declared.Datum.the-variants.{Number, Nothing}
 use Rattle.telegram.specs.declared.reader.Phase.{Phase}
 use Rattle.telegram.specs.declared.reader.Phase.the-variants.{Start, Le, LeAgain, SdAgain, Da, Sa, Fc, Dsap, Ssap, Body, End, Done, Off}
 use Rattle.telegram.specs.declared.reader.Reader.{Reader}
-use Rattle.telegram.specs.Reading.{rd, before, moved, off, nextAt, afterFc, stepAt, readerStep, inBody, takesData, datumOf}
-use Rattle.telegram.proofs.Run.{no-true}
+use Rattle.telegram.specs.declared.reader.Status.the-variants.{Complete}
+use Rattle.telegram.specs.Reading.{rd, before, moved, off, okAt, nextAt, afterFc, stepAt, readerStep, runFrom, status, inBody, takesData, datumOf}
+use Rattle.telegram.proofs.Run.{no-true, broken-complete, stays-broken}
 
 module _ (r : Reader) (b : ℕ) where
   pub start-sd1 : b ≡ 0x10 → before Da Sd1 0 ≡ stepAt Start r b
@@ -184,3 +186,21 @@ module _ (r : Reader) (e : takesData r ≡ true) where
   pub data-step : (b : ℕ) → rd Body (r .kind) (r .count) (r .at + 1) (r .da) (r .sa) (r .fc) (r .dsap) (r .ssap) ((r .sum + b) % 256) ≡ readerStep r b
   unfolding readerStep
   data-step b = body-data r b data-room ∙ ap (λ (p : Phase). stepAt p r b) (sym data-body)
+
+-- ---- an octet that may come
+
+-- the octet may come: the step leads on
+pub goes : (r : Reader) (b : ℕ) → okAt (r .phase) r b ≡ true → readerStep r b ≡ nextAt (r .phase) r b
+unfolding readerStep
+goes r b h = rw h
+
+-- after an octet a reader completes only if the octet may come, from where the octet leads
+pub passed : (r : Reader) (b : ℕ) (ys : List ℕ) → status (runFrom (readerStep r b) ys) ≡ Complete
+    → (okAt (r .phase) r b ≡ true) × (status (runFrom (nextAt (r .phase) r b) ys) ≡ Complete)
+unfolding readerStep
+passed r b ys = go (okAt (r .phase) r b)
+  where
+    go : (t : Bool) → status (runFrom (cond t (nextAt (r .phase) r b) off) ys) ≡ Complete
+        → (t ≡ true) × (status (runFrom (nextAt (r .phase) r b) ys) ≡ Complete)
+    go true h = (refl, h)
+    go false h = absurd (broken-complete (sym (stays-broken ys) ∙ h))

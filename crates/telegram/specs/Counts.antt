@@ -9,7 +9,7 @@ use Rattle.telegram.specs.declared.sender.Stage.{Stage}
 use Rattle.telegram.specs.declared.sender.Stage.the-variants as stage
 use Rattle.telegram.specs.declared.sender.Sender.{Sender}
 
--- a reader's phase before the data octets; the octets up to SSAP are still to come
+-- a reader's phase before the data octets: an octet that stands before them is still to come
 abbrev pub beforeData : Phase → Bool
 beforeData reading.Start = true
 beforeData reading.Le = true
@@ -25,7 +25,7 @@ beforeData reading.End = false
 beforeData reading.Done = false
 beforeData reading.Off = false
 
--- a sender's stage before the data octets; FC and what stands before it are still to be sent
+-- a sender's stage before the data octets: FC or an octet before it is still to be sent
 abbrev pub stageBeforeData : Stage → Bool
 stageBeforeData stage.Start = true
 stageBeforeData stage.Le = true

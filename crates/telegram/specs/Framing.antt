@@ -13,6 +13,10 @@ use Rattle.telegram.specs.Reading.{start, readerAfter, run, runFrom, sta
 abbrev pub Continues : List ℕ → Type 0
 Continues xs = (y : ℕ) × (ys : List ℕ) × Octets (y ∷ ys) × IsTelegram (xs ++ y ∷ ys)
 
+-- they are no telegram, and none can result
+abbrev pub Hopeless : List ℕ → Type 0
+Hopeless xs = ¬ IsTelegram xs × ¬ Continues xs
+
 -- the promise for the octets xs
 pub record Framing (xs : List ℕ) : Type 0 where
   -- nothing has begun: exactly if no octet came
@@ -22,7 +26,7 @@ pub record Framing (xs : List ℕ) : Type 0 where
   -- inside: exactly if octets came, they are no telegram, and some more make them one
   pub part : (status (run xs) ≡ Inside) ↔ (¬ (xs ≡ []) × ¬ IsTelegram xs × Continues xs)
   -- broken off: exactly if they are none, and none can result
-  pub neither : (status (run xs) ≡ Broken) ↔ (¬ IsTelegram xs × ¬ Continues xs)
+  pub neither : (status (run xs) ≡ Broken) ↔ Hopeless xs
   -- complete with the telegram's fields, and the octets told of as data are its data, in order
   pub fields : (t : Telegram) → Valid t → octetsOf t ≡ xs → (run xs ≡ finished t) × (gathered start xs ≡ payloadOf t)
   -- that telegram is told by the reader's fields and the data gathered
