@@ -89,15 +89,18 @@ after-counts r b bad h = one-of bad off-counts (step-counts r b h)
 
 -- ---- sending
 
--- nothing was sent yet
+-- no data octet was sent yet
+unsent : (g : Stage) (k : Kind) (n da sa fc : ℕ) → n ≤ 246 → SentCounts (sn g k n 0 da sa fc 0)
+unsent g k n da sa fc h = record { count = h; sent = omega arith; none-yet = λ _. refl }
+
 pub sending-counts : (k : Kind) (da sa fc n : ℕ) → n ≤ 246 → SentCounts (sending k da sa fc n)
-sending-counts k da sa fc n h = record { count = h; sent = omega arith; none-yet = λ _. refl }
+sending-counts k da sa fc n = unsent stage.Start k n da sa fc
 
 pub empty-counts : SentCounts empty
-empty-counts = record { count = omega arith; sent = omega arith; none-yet = λ _. refl }
+empty-counts = unsent stage.Empty Sd1 0 0 0 0 (omega arith)
 
 pub single-counts : SentCounts single
-single-counts = record { count = omega arith; sent = omega arith; none-yet = λ _. refl }
+single-counts = unsent stage.Single Sd1 0 0 0 0 (omega arith)
 
 module _ (s : Sender) (b : ℕ) (most : s .count ≤ 246) (part : s .at ≤ s .count) where
   -- a data octet or the check octet
