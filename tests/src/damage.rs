@@ -170,14 +170,20 @@ impl Trial<'_> {
         }
         let parameters = self.values.parameters as u8;
         let configuration = self.values.configuration as u8;
-        for (shown_at, mark, length) in [(23, 0x08, parameters), (25, 0x10, configuration)] {
-            for (shown, waiting) in pairs(&[0, length]) {
+        let sets = [(23, 0x08, 7, parameters), (25, 0x10, 1, configuration)];
+        for (shown_at, mark, least, length) in sets {
+            for (shown, waiting) in pairs(&[0, least - 1, least, length, length + 1]) {
+                let in_range = |count: u8| least <= count && count <= length;
+                let keeps = match shown {
+                    0 => waiting == 0,
+                    _ => in_range(shown) && (waiting == 0 || in_range(waiting)),
+                };
                 let marks = match waiting {
                     0 => self.card.state()[MARKS] & !mark,
                     _ => self.card.state()[MARKS] | mark,
                 };
                 let octets = [(shown_at, shown), (shown_at + 1, waiting), (MARKS, marks)];
-                self.judge_counts(&octets, waiting == 0 || shown != 0)?;
+                self.judge_counts(&octets, keeps)?;
             }
         }
         Ok(())
