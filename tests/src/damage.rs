@@ -151,40 +151,41 @@ impl Trial<'_> {
         Ok(())
     }
 
-    /// Counts at their limits and one past them, as docs/memory.md has them: of the telegram that is read, of the reply,
-    /// and of the sets that are shown and that wait. Refused are exactly those that break the rules.
+    /// Counts at their limits and one past them, as docs/memory.md has them. Refused are exactly those that break the rules.
     pub fn try_counts(&mut self) -> Result<(), String> {
-        for (phase_at, first_of_data, last) in [(READING, 9, 12), (SENDING, 7, 10)] {
-            for phase in 0..=last {
-                for (count, done) in pairs(&[0, 1, 2, 245, 246, 247, 255]) {
-                    let whole = count <= 246 && done <= count;
-                    let keeps = whole && (done == 0 || phase >= first_of_data);
-                    let octets = [
-                        (phase_at, phase),
-                        (phase_at + 2, count),
-                        (phase_at + 3, done),
-                    ];
-                    self.judge_counts(&octets, keeps)?;
-                }
-            }
-        }
-        let parameters = self.values.parameters as u8;
-        let configuration = self.values.configuration as u8;
-        let sets = [(23, 0x08, 7, parameters), (25, 0x10, 1, configuration)];
-        for (shown_at, mark, least, length) in sets {
-            for (shown, waiting) in pairs(&[0, least - 1, least, length, length + 1]) {
-                let in_range = |count: u8| least <= count && count <= length;
-                let keeps = match shown {
-                    0 => waiting == 0,
-                    _ => in_range(shown) && (waiting == 0 || in_range(waiting)),
-                };
-                let marks = match waiting {
-                    0 => self.card.state()[MARKS] & !mark,
-                    _ => self.card.state()[MARKS] | mark,
-                };
-                let octets = [(shown_at, shown), (shown_at + 1, waiting), (MARKS, marks)];
+        self.try_line_counts(READING, 9, 12)?;
+        self.try_line_counts(SENDING, 7, 10)?;
+        self.try_set_counts(23, 0x08, 7, self.values.parameters as u8)?;
+        self.try_set_counts(25, 0x10, 1, self.values.configuration as u8)
+    }
+
+    /// Of the telegram that is read or of the reply: its phase, how many data octets it has and how many are done.
+    fn try_line_counts(&mut self, at: usize, first_of_data: u8, last: u8) -> Result<(), String> {
+        for phase in 0..=last {
+            for (count, done) in pairs(&[0, 1, 2, 245, 246, 247, 255]) {
+                let whole = count <= 246 && done <= count;
+                let keeps = whole && (done == 0 || phase >= first_of_data);
+                let octets = [(at, phase), (at + 2, count), (at + 3, done)];
                 self.judge_counts(&octets, keeps)?;
             }
+        }
+        Ok(())
+    }
+
+    /// Of a set that is shown and of one that waits behind it.
+    fn try_set_counts(&mut self, at: usize, mark: u8, least: u8, length: u8) -> Result<(), String> {
+        let in_range = |count: u8| least <= count && count <= length;
+        for (shown, waiting) in pairs(&[0, least - 1, least, length, length + 1]) {
+            let keeps = match shown {
+                0 => waiting == 0,
+                _ => in_range(shown) && (waiting == 0 || in_range(waiting)),
+            };
+            let marks = match waiting {
+                0 => self.card.state()[MARKS] & !mark,
+                _ => self.card.state()[MARKS] | mark,
+            };
+            let octets = [(at, shown), (at + 1, waiting), (MARKS, marks)];
+            self.judge_counts(&octets, keeps)?;
         }
         Ok(())
     }
