@@ -5,6 +5,7 @@ use native.Mathlib.Omega.{arith}
 use mathlib.Core.Path.{refl}
 use mathlib.Core.Bool.{true, false}
 use mathlib.Core.List.{List, [], _∷_, _++_}
+use Rattle.telegram.proofs.Framing.{framing}
 use Rattle.state.specs.declared.answer.Refusal.the-variants.{Judging, Range, Absent, Delayed}
 use Rattle.ledger.specs.Ledger.{Ledger, fresh}
 use Rattle.rules.specs.Call.{octet, gap, send, tick, take, read, write, hand-over, new-diagnosis, judge-parameters, judge-configuration, events, acknowledge, leave}
@@ -494,7 +495,10 @@ judge-bad-is-not-delayed = written refl
 -- and what the theorems ask for is there: the second octet of a telegram is inner, and these values are what Start takes
 inner-octet : Inner (after started (gap ∷ octet 0x10 false ∷ [])) 0x05 false
 unfolding computing
-inner-octet = record { before = record { listens = refl; inside = refl }; behind = record { listens = refl; inside = refl } }
+inner-octet = record {
+  before = record { listens = refl; begins = refl; unfinished = framing (0x10 ∷ []) .part .0 refl .2 };
+  behind = record { listens = refl; begins = refl; unfinished = framing (0x10 ∷ 0x05 ∷ []) .part .0 refl .2 };
+}
 
 start-takes-values : StartTakes (station 1 1 10 4 10 2) (0x20 ∷ 0x21 ∷ [])
 start-takes-values = omega arith

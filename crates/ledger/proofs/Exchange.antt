@@ -104,11 +104,6 @@ pub record Lengthens (n : Line) (b : ℕ) (bad : Bool) : Type 0 where
   pub begins : some (n .telegram) ≡ true
   pub inside : status (readerAfter (run (n .telegram)) b bad) ≡ Inside
 
--- inside, octets came
-came : (xs : List ℕ) → status (run xs) ≡ Inside → some xs ≡ true
-came [] e = absurd (framing [] .part .0 e .0 refl)
-came (x ∷ xs) e = refl
-
 -- with an octet something has begun
 pub not-fresh : (xs : List ℕ) (b : ℕ) (bad : Bool) → status (readerAfter (run xs) b bad) ≡ Fresh → ⊥
 not-fresh xs b true e = let f = framing xs .flagged b [] in let z : _≡_ {A = ℕ} 0 1 = cc in omega arith
@@ -126,7 +121,7 @@ inner-lengthens : (l : Ledger) (b : ℕ) (bad : Bool) → Inner l b bad → Leng
 unfolding heard answered
 inner-lengthens l b bad i = record {
   listens = i .before .listens;
-  begins = came (l .line .telegram) (i .before .inside);
+  begins = i .before .begins;
   inside = go (status (readerAfter (run (l .line .telegram)) b bad)) refl (i .behind);
 }
   where

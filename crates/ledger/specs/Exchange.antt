@@ -6,17 +6,17 @@ use mathlib.Core.List.{List, [], _∷_, _++_}
 use lib.ListN.{length}
 use Rattle.state.specs.declared.answer.Answer.{Answer}
 use Rattle.state.specs.declared.answer.Answer.the-variants.{Value}
-use Rattle.telegram.specs.declared.reader.Status.the-variants.{Inside}
-use Rattle.telegram.specs.Reading.{run, status}
-use Rattle.ledger.specs.Ledger.{Ledger}
+use Rattle.telegram.specs.Framing.{Continues}
+use Rattle.ledger.specs.Ledger.{Ledger, begun}
 use Rattle.ledger.specs.Bus.{heard}
 use Rattle.rules.specs.Call.{Call, octet, gap, send, tick, take, read, write, hand-over, new-diagnosis, judge-parameters, judge-configuration, events, acknowledge, pending, leave}
 use Rattle.ledger.specs.Calls.{answers, after}
 
--- a telegram is begun, unfinished and not broken off
+-- a telegram is begun, unfinished and not broken off: octets are heard, some came, and some more complete a telegram
 pub record MidTelegram (l : Ledger) : Type 0 where
   pub listens : l .line .ignored ≡ false
-  pub inside : status (run (l .line .telegram)) ≡ Inside
+  pub begins : begun l ≡ true
+  pub unfinished : Continues (l .line .telegram)
 
 -- an octet is inner if that is so both before and after it
 pub record Inner (l : Ledger) (b : ℕ) (bad : Bool) : Type 0 where
