@@ -4,7 +4,7 @@ use native.Mathlib.Omega.{arith}
 use mathlib.Core.Path.{_≡_, refl, sym, ap, _∙_}
 use mathlib.Core.Bool.{Bool, true, false, not, _&&_, _||_}
 use mathlib.Core.List.{List, [], _∷_, _++_}
-use mathlib.Core.Logic.{_⊎_, inl, inr}
+use mathlib.Core.Logic.{inl, inr}
 use lib.Dec.{eqb, leb}
 use borrow.Author.Tests.{eqb-false, not-true, not-false}
 use Rattle.buffers.specs.Events.{watchdogEvent}
@@ -31,7 +31,7 @@ use Rattle.ledger.specs.Outcome.{carried, diagnosisChanged, afterReply, settle}
 use Rattle.ledger.specs.Bus.{telegramOn, answered, completed, brokenOff, lengthened, beginning, sendLeft, silenced, heardAs, heard, paused, afterSend, elapsed}
 use Rattle.ledger.specs.User.{Told, told, refusing, writtenOctet, handOver, newDiagnosis, acknowledgeEvents, leaveMaster}
 use Rattle.rules.specs.Call.{Call, octet, gap, send, tick, take, read, write, hand-over, new-diagnosis, judge-parameters, judge-configuration, events, acknowledge, pending, leave}
-use Rattle.ledger.proofs.Fit.{count-in}
+use Rattle.state.proofs.Tests.{none-or-some, within-and}
 use Rattle.ledger.specs.Calls.{step, after}
 use Rattle.agreement.proofs.Steady.{CountIn, InOrder, Steady}
 use Rattle.state.proofs.Choice.{by-test, and-left, and-right}
@@ -192,16 +192,11 @@ after-half l h =
     (λ e. record {
       order =
           diagnosed-order l (l .control .diagnosis .«delayed_count») (l .control .diagnosis .«delayed_flags»)
-          (waits (h .delayed-count) (eqb-false _ _ (not-true _ (and-left (delayed (l .control)) (not (diagnosisLeaves l)) e)))) h;
+          (none-or-some (h .delayed-count) (eqb-false _ _ (not-true _ (and-left (delayed (l .control)) (not (diagnosisLeaves l)) e)))) h;
       line = refl;
       delaying = λ f. no-true f;
     })
     (λ e. record { order = h; line = refl; delaying = λ f. remains (delayed (l .control)) (diagnosisLeaves l) f e })
-  where
-    waits : (l .control .diagnosis .«delayed_count» ≡ 0) ⊎ CountIn (l .setup) (l .control .diagnosis .«delayed_count»)
-        → (l .control .diagnosis .«delayed_count» ≡ 0 → ⊥) → CountIn (l .setup) (l .control .diagnosis .«delayed_count»)
-    waits (inl z) n = absurd (n z)
-    waits (inr w) n = w
 
 pub settle-steady : (l : Ledger) → Order l → (begun l ≡ true → l .line .reply ≡ []) → Steady (settle l)
 unfolding settle waitPrm
@@ -341,8 +336,8 @@ step-steady l (new-diagnosis count flags) s =
     by-test Keeps (not (within 6 count (l .setup .«diagnosis_len») && leb flags 7)) (refusing Range l) _ (λ _. s)
     (λ e. by-test Keeps (delayed (l .control)) (refusing Delayed l) _ (λ _. s)
     (λ _. by-test Keeps (diagnosisLeaves l) (told 0 (withControl l (delaying (l .control) count flags))) (told 0 (diagnosisChanged l (diagnosed (l .control) count flags)))
-    (λ f. delaying-steady s count flags (count-in count _ _ (not-false _ e)) f)
-    (λ _. diagnosed-steady s count flags (count-in count _ _ (not-false _ e)))))
+    (λ f. delaying-steady s count flags (within-and 6 count _ _ (not-false _ e)) f)
+    (λ _. diagnosed-steady s count flags (within-and 6 count _ _ (not-false _ e)))))
 step-steady l (judge-parameters j) s =
     parameters-cases Keeps l j (λ _ _. s)
     (λ e. carried-steady s _ (parameters-keeps s (some (l .buffers .parameters .waiting)) (eqb j 1) (and-left (parametersOpen l) (leb j 1) e)))

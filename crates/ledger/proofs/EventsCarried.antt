@@ -21,7 +21,7 @@ use Rattle.rules.specs.Phases.{drawing}
 use Rattle.rules.specs.Line.{clearing, clearNoted}
 use Rattle.rules.proofs.Served.{Receives, Lawful, Quiet, clear-noted-quiet}
 use Rattle.rules.proofs.ByCases.{another-raised}
-use Rattle.rules.proofs.EventsFollow.{publishing, Shows, Follows, noted-follows}
+use Rattle.rules.proofs.EventsFollow.{publishing, EventShows, EventsAfter, noted-follows}
 use Rattle.ledger.specs.Lists.{some, Sets}
 use Rattle.ledger.specs.Ledger.{Ledger, busy, diagnosisLeaves, parametersOpen, configurationOpen, openSets}
 use Rattle.ledger.specs.Outcome.{onSets, carried, diagnosisChanged, afterReply, settle}
@@ -94,7 +94,7 @@ has-some (x ∷ ds) h = refl
 
 -- an event that goes with its sets still does; a set that is received is not empty
 sets-go : (Given : Type 0) (d : SetDeed) (x : Sets) (low high : ℕ) (ds : List ℕ) (before later : Bool) → 1 ≤ low → Receives (Given × Within low (length ds) high) d
-    → Shows d (some (x .shown)) (some (x .waiting)) before later → before ≡ some (x .shown) → later ≡ some (onSets d x ds .shown)
+    → EventShows d (some (x .shown)) (some (x .waiting)) before later → before ≡ some (x .shown) → later ≡ some (onSets d x ds .shown)
 sets-go Given set-deed.Keep x low high ds before later h r s e = s ∙ e
 sets-go Given set-deed.Receive x low high ds before later h r s e = go (some (x .shown)) s
   where
@@ -110,7 +110,7 @@ waitingSets l = record { parameters = some (l .buffers .parameters .waiting); co
 
 -- the events go with what the outcome does
 pub carried-goes : (l : Ledger) {Given Clear : Type 0} {At : ℕ → Type 0} (o : Outcome) (ds : List ℕ) → Lawful (l .setup) (l .control) (length ds) Given Clear At o
-    → Follows (l .control .events) (openSets l) (waitingSets l) o → Goes l false (publishes (o .outputs) ds) (carried l o ds)
+    → EventsAfter (l .control .events) (openSets l) (waitingSets l) o → Goes l false (publishes (o .outputs) ds) (carried l o ds)
 carried-goes l {Given} {Clear} {At} o ds w f = (
   f .outputs-raise ∙ ap (λ (t : Bool). eventSet l outputsEvent || t) (sym (publishes-in (o .outputs) ds))
       ∙ kept-or (eventSet l outputsEvent) (publishesIn (publishes (o .outputs) ds)),
@@ -123,7 +123,7 @@ carried-goes l {Given} {Clear} {At} o ds w f = (
 )
 
 -- one without data
-pub quiet-goes : (l : Ledger) (o : Outcome) → Quiet (l .setup) (l .control) Unit o → Follows (l .control .events) (openSets l) (waitingSets l) o
+pub quiet-goes : (l : Ledger) (o : Outcome) → Quiet (l .setup) (l .control) Unit o → EventsAfter (l .control .events) (openSets l) (waitingSets l) o
     → Goes l false (publishes (o .outputs) []) (carried l o [])
 quiet-goes l o w f = carried-goes l o [] w f
 

@@ -5,7 +5,7 @@ use native.Mathlib.Omega.{arith}
 use mathlib.Core.Path.{_≡_, refl, ap, _∙_}
 use mathlib.Core.Bool.{Bool, true, false, cond, not, _&&_, _||_}
 use mathlib.Core.List.{List, [], _∷_, _++_, append-assoc}
-use mathlib.Core.Logic.{_⊎_, inl, inr}
+use mathlib.Core.Logic.{inl, inr}
 use lib.Dec.{eqb, leb}
 use lib.ListN.{length, length-replicate, length-set}
 use borrow.Author.Tests.{leb-true, eqb-false, not-true}
@@ -23,7 +23,7 @@ use Rattle.rules.specs.declared.outcome.OutputsDeed.the-variants as outputs-dee
 use Rattle.rules.specs.declared.outcome.SetDeed.{SetDeed}
 use Rattle.rules.specs.declared.outcome.SetDeed.the-variants as set-deed
 use Rattle.rules.specs.declared.outcome.Outcome.{Outcome}
-use Rattle.state.specs.Sound.{Within}
+use Rattle.state.specs.Sound.{Within, DiagnosisCounted}
 use Rattle.state.specs.Well.{within}
 use Rattle.rules.specs.Control.{bit}
 use Rattle.rules.specs.Requests.{masterOf, toStation, toAll, acts, serviceOf}
@@ -36,13 +36,13 @@ use Rattle.ledger.specs.Bus.{telegramOn, requestBy, dataBy, outcomeOf, a
 use Rattle.ledger.specs.User.{handOver, acknowledgeEvents, leaveMaster, writtenOctet}
 use Rattle.rules.specs.Call.{Call, octet, gap, send, tick, take, read, write, hand-over, new-diagnosis, judge-parameters, judge-configuration, events, acknowledge, pending, leave}
 use Rattle.ledger.specs.Calls.{step, after}
-use Rattle.ledger.specs.ReadBack.{StartTakes, OutputsFit, InputsFit, SetsFit, DiagnosesFit, ListsFit, CountsFit, Left, Fit, drawnBy, Draws, Fixes, ReadingBack}
+use Rattle.ledger.specs.ReadBack.{StartTakes, OutputsFit, InputsFit, SetsFit, DiagnosesFit, ListsFit, Left, Fit, drawnBy, Draws, Fixes, ReadingBack}
 use Rattle.ledger.proofs.Settling.{settle-line}
 use Rattle.ledger.proofs.ByCases.{take-cases, read-cases, write-cases, diagnosis-cases, parameters-cases, configuration-cases}
 use Rattle.ledger.proofs.Hearing.{last-heard}
 use Rattle.rules.proofs.Served.{Publishes, Receives, Lawful, Quiet, clear-quiet, clear-noted-quiet, ticked-quiet, parameters-quiet, configuration-quiet, Served, served}
 use Rattle.state.proofs.Choice.{by-test, and-left, and-right}
-use Rattle.state.proofs.Tests.{within-true}
+use Rattle.state.proofs.Tests.{none-or-some, within-and}
 use Rattle.ledger.proofs.ReadBack.{ValidReply, reply-valid, reply-reads, reply-left}
 
 -- ---------------------------------------------------------------------------------------------------
@@ -102,7 +102,7 @@ module _ {l : Ledger} (f : Fit l) where
   on-line n w = record { start-takes = f .start-takes; lists = f .lists; counts = f .counts; reply = w }
 
   -- other lists and another control part
-  on-lists : (b : Buffers) (c : Control) → ListsFit (l .setup) b → CountsFit (l .setup) (c .diagnosis)
+  on-lists : (b : Buffers) (c : Control) → ListsFit (l .setup) b → DiagnosisCounted (l .setup .«diagnosis_len») (c .diagnosis)
       → Fit (record { setup = l .setup; slice = l .slice; control = c; buffers = b; line = l .line })
   on-lists b c x y = record { start-takes = f .start-takes; lists = x; counts = y; reply = f .reply }
 
@@ -134,7 +134,7 @@ module _ {l : Ledger} (f : Fit l) where
   }
 
   -- the two diagnosis lists change
-  changed-fit : (c : Control) → CountsFit (l .setup) (c .diagnosis) → Fit (diagnosisChanged l c)
+  changed-fit : (c : Control) → DiagnosisCounted (l .setup .«diagnosis_len») (c .diagnosis) → Fit (diagnosisChanged l c)
   changed-fit c w =
       on-lists (withDiagnoses (l .buffers) (exchangedDiagnoses (l .buffers .diagnosis))) c
       (on-diagnoses (exchangedDiagnoses (l .buffers .diagnosis)) (record { own = f .lists .diagnosis .user; user = f .lists .diagnosis .own })) w
@@ -143,15 +143,10 @@ module _ {l : Ledger} (f : Fit l) where
   unfolding afterReply diagnosed
   reply-fit = go (delayed (l .control) && not (diagnosisLeaves l)) refl
     where
-      waits : (d : ℕ) → (d ≡ 0) ⊎ ((6 ≤ d) × (d ≤ l .setup .«diagnosis_len»)) → (d ≡ 0 → ⊥) → (6 ≤ d) × (d ≤ l .setup .«diagnosis_len»)
-      waits d (inl z) n = absurd (n z)
-      waits d (inr w) n = w
-
       go : (t : Bool) → delayed (l .control) && not (diagnosisLeaves l) ≡ t → Fit (cond t (diagnosisChanged l (caughtUp (l .control))) l)
       go true e =
-          let n = l .control .diagnosis .«delayed_count» in
           changed-fit (caughtUp (l .control))
-          (record { count = waits n (f .counts .delayed) (eqb-false _ _ (not-true _ (and-left (delayed (l .control)) _ e))); delayed = inl refl; flags = omega arith })
+          (record { count = none-or-some (f .counts .delayed) (eqb-false _ _ (not-true _ (and-left (delayed (l .control)) _ e))); delayed = inl refl; flags = omega arith })
       go false e = f
 
 settle-fit : {l : Ledger} → Fit l → Fit (settle l)
@@ -235,11 +230,7 @@ written-fit {l} kind index x f = go (eqb kind 4)
         on-diagnoses f (writtenDiagnosis (b .diagnosis) index x)
         (record { own = f .lists .diagnosis .own; user = length-set (b .diagnosis .user) index x ∙ f .lists .diagnosis .user })
 
--- a count that new diagnosis takes
-pub count-in : (n m : ℕ) (p : Bool) → within 6 n m && p ≡ true → Within 6 n m
-count-in n m p e = within-true 6 n m (and-left (within 6 n m) p e)
-
--- and its flags
+-- the flags that new diagnosis takes
 flags-in : (n m flags : ℕ) → within 6 n m && leb flags 7 ≡ true → flags ≤ 7
 flags-in n m flags e = leb-true flags 7 (and-right (within 6 n m) (leb flags 7) e)
 
@@ -275,8 +266,8 @@ step-fit l hand-over f =
     (record { sending = f .lists .inputs .sending; next = f .lists .inputs .held; held = f .lists .inputs .next })) (f .counts)
 step-fit l (new-diagnosis count flags) f =
     diagnosis-cases (λ t. Fit (t .ledger)) l count flags (λ _. f)
-    (λ e. on-lists f (l .buffers) (delaying (l .control) count flags) (f .lists) (record { count = f .counts .count; delayed = inr (count-in count _ _ e); flags = flags-in count _ flags e }))
-    (λ e. changed-fit f _ (record { count = count-in count _ _ e; delayed = inl refl; flags = omega arith }))
+    (λ e. on-lists f (l .buffers) (delaying (l .control) count flags) (f .lists) (record { count = f .counts .count; delayed = inr (within-and 6 count _ _ e); flags = flags-in count _ flags e }))
+    (λ e. changed-fit f _ (record { count = within-and 6 count _ _ e; delayed = inl refl; flags = omega arith }))
 step-fit l (judge-parameters j) f =
     parameters-cases (λ t. Fit (t .ledger)) l j (λ _ _. f)
     (λ _. quiet-fit f (parameters-quiet (l .setup) (l .control) (some (l .buffers .parameters .waiting)) (eqb j 1) tt))

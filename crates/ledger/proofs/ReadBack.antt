@@ -11,13 +11,14 @@ use Rattle.state.specs.declared.setup.Setup.{Setup}
 use Rattle.state.specs.declared.control.Control.{Control}
 use Rattle.state.specs.declared.state.Drawn.{Drawn}
 use Rattle.state.specs.declared.state.Drawn.the-variants.{Nothing, Acknowledge, Status, Rejected, Exchange, Inputs, Outputs, Configuration, Diagnosis}
+use Rattle.state.specs.Sound.{DiagnosisCounted}
 use Rattle.rules.specs.Diagnosis.{headerOf}
 use Rattle.ledger.specs.Lists.{Buffers}
 use Rattle.ledger.specs.Replies.{headerOctets, diagnosisOctets, WholeReply, silence, acknowledgement, answer, serviceTelegram, replyBy, replyOctets}
-use Rattle.ledger.specs.ReadBack.{StartTakes, ListsFit, CountsFit, Left, ReadsBack}
+use Rattle.ledger.specs.ReadBack.{StartTakes, ListsFit, Left, ReadsBack}
 
 -- as many diagnosis octets as the count says
-diagnosis-length : (s : Setup) (c : Control) (own : List ℕ) → length own ≡ s .«diagnosis_len» → CountsFit s (c .diagnosis)
+diagnosis-length : (s : Setup) (c : Control) (own : List ℕ) → length own ≡ s .«diagnosis_len» → DiagnosisCounted (s .«diagnosis_len») (c .diagnosis)
     → length (diagnosisOctets s c own) ≡ c .diagnosis .count
 diagnosis-length s c own e f =
     let n = c .diagnosis .count in
@@ -35,7 +36,7 @@ ValidReply acknowledgement = Unit
 ValidReply (answer t) = Valid t
 
 module _ (s : Setup) (slice : List ℕ) (c : Control) (b : Buffers) (master : ℕ)
-    (a : StartTakes s slice) (f : ListsFit s b) (k : CountsFit s (c .diagnosis)) (m : master < 128) where
+    (a : StartTakes s slice) (f : ListsFit s b) (k : DiagnosisCounted (s .«diagnosis_len») (c .diagnosis)) (m : master < 128) where
   -- what is drawn is valid
   pub reply-valid : (d : Drawn) → ValidReply (replyBy d s slice c b master)
   reply-valid Nothing = tt

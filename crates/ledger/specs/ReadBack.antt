@@ -10,9 +10,8 @@ use Rattle.telegram.specs.Telegram.{Telegram, kindOf, octetsOf, payloadOf, Vali
 use Rattle.telegram.specs.Reading.{start, run, readerAfter, status, gathered, finished, telegramOf}
 use Rattle.telegram.specs.Sending.{startOctet}
 use Rattle.state.specs.declared.setup.Setup.{Setup}
-use Rattle.state.specs.declared.control.Diagnosis.{Diagnosis as DiagnosisCounts}
 use Rattle.state.specs.declared.state.Drawn.the-variants as drawn
-use Rattle.state.specs.Sound.{Within, NoneOr, Ranged}
+use Rattle.state.specs.Sound.{NoneOr, Ranged, DiagnosisCounted}
 use Rattle.rules.specs.Requests.{masterOf}
 use Rattle.ledger.specs.Lists.{Outputs, Inputs, Sets, Diagnoses, Buffers}
 use Rattle.ledger.specs.Ledger.{Ledger, fresh}
@@ -63,12 +62,6 @@ pub record ListsFit (s : Setup) (b : Buffers) : Type 0 where
   pub configuration : SetsFit 1 (s .«configuration_len») (b .configuration)
   pub diagnosis : DiagnosesFit (s .«diagnosis_len») (b .diagnosis)
 
--- diagnosis has 6 octets to the set length, and so has one that is delayed, with three flags
-pub record CountsFit (s : Setup) (d : DiagnosisCounts) : Type 0 where
-  pub count : Within 6 (d .count) (s .«diagnosis_len»)
-  pub delayed : NoneOr 6 (d .«delayed_count») (s .«diagnosis_len»)
-  pub flags : d .«delayed_flags» ≤ 7
-
 -- a reply is E5 or a telegram
 abbrev pub IsReply : List ℕ → Type 0
 IsReply xs = (xs ≡ 0xE5 ∷ []) ⊎ IsTelegram xs
@@ -81,7 +74,7 @@ Left xs = (xs ≡ []) ⊎ ((sent : List ℕ) × IsReply (sent ++ xs))
 pub record Fit (l : Ledger) : Type 0 where
   pub start-takes : StartTakes (l .setup) (l .slice)
   pub lists : ListsFit (l .setup) (l .buffers)
-  pub counts : CountsFit (l .setup) (l .control .diagnosis)
+  pub counts : DiagnosisCounted (l .setup .«diagnosis_len») (l .control .diagnosis)
   pub reply : Left (l .line .reply)
 
 -- The reply that is drawn ----------------------------------------------------------------------

@@ -7,7 +7,7 @@ use mathlib.Core.Bool.{Bool, true, false, cond, not, _&&_, _||_}
 use lib.Dec.{eqb, leb}
 use borrow.Author.Tests.{eqb-true, not-true, not-false}
 use Rattle.buffers.specs.declared.events.Events.{Events}
-use Rattle.buffers.specs.Events.{bit as told, raised, watchdogEvent, controlEvent, outputsEvent, configurationEvent, parametersEvent}
+use Rattle.buffers.specs.Events.{bit as eventBit, raised, watchdogEvent, controlEvent, outputsEvent, configurationEvent, parametersEvent}
 use Rattle.buffers.proofs.Word.{raised-other}
 use Rattle.telegram.proofs.Run.{no-true}
 use Rattle.state.specs.declared.setup.Setup.{Setup}
@@ -40,9 +40,9 @@ use Rattle.rules.proofs.Alike.{Alike, alike}
 
 -- events 13, 11 and 10 are as they were
 pub record Untouched (e f : Events) : Type 0 where
-  pub outputs-same : told (f .word) outputsEvent ≡ told (e .word) outputsEvent
-  pub parameters-same : told (f .word) parametersEvent ≡ told (e .word) parametersEvent
-  pub configuration-same : told (f .word) configurationEvent ≡ told (e .word) configurationEvent
+  pub outputs-same : eventBit (f .word) outputsEvent ≡ eventBit (e .word) outputsEvent
+  pub parameters-same : eventBit (f .word) parametersEvent ≡ eventBit (e .word) parametersEvent
+  pub configuration-same : eventBit (f .word) configurationEvent ≡ eventBit (e .word) configurationEvent
 
 -- where another event is raised
 pub another-raised : (e : Events) (n : ℕ) → (n ≡ outputsEvent → ⊥) → (n ≡ parametersEvent → ⊥) → (n ≡ configurationEvent → ⊥) → Untouched e (raised e n)
@@ -53,20 +53,20 @@ another-raised e n x y z = record {
 }
 
 -- a control part that is alike, with that owner, and with these events as they were
-pub record Beside (c k : Control) : Type 0 where
+pub record Akin (c k : Control) : Type 0 where
   pub alike-is : Alike c k
   pub owner-same : k .owner ≡ c .owner
   pub untouched : Untouched (c .events) (k .events)
 
 -- no event changes
-pub beside : {c k : Control} → Alike c k → k .owner ≡ c .owner → k .events ≡ c .events → Beside c k
-beside a e f = record {
+pub akin : {c k : Control} → Alike c k → k .owner ≡ c .owner → k .events ≡ c .events → Akin c k
+akin a e f = record {
   alike-is = a;
   owner-same = e;
   untouched = record {
-    outputs-same = ap (λ (x : Events). told (x .word) outputsEvent) f;
-    parameters-same = ap (λ (x : Events). told (x .word) parametersEvent) f;
-    configuration-same = ap (λ (x : Events). told (x .word) configurationEvent) f;
+    outputs-same = ap (λ (x : Events). eventBit (x .word) outputsEvent) f;
+    parameters-same = ap (λ (x : Events). eventBit (x .word) parametersEvent) f;
+    configuration-same = ap (λ (x : Events). eventBit (x .word) configurationEvent) f;
   };
 }
 
@@ -89,14 +89,14 @@ Published Given outputs-deed.Publish = Given
 Published Given outputs-deed.Zeros = Unit
 
 module _ (P : Outcome → Type 0) (c : Control)
-    (replies : (k : Control) (d : Drawn) → Beside c k → (isOutputs d ≡ true → inExchange k ≡ true) → P (drawing k d)) where
+    (replies : (k : Control) (d : Drawn) → Akin c k → (isOutputs d ≡ true → inExchange k ≡ true) → P (drawing k d)) where
   -- a reply without the held outputs
-  draws : (k : Control) (d : Drawn) → Beside c k → isOutputs d ≡ false → P (drawing k d)
+  draws : (k : Control) (d : Drawn) → Akin c k → isOutputs d ≡ false → P (drawing k d)
   draws k d s e = replies k d s (λ f. no-true (sym e ∙ f))
 
   -- the control part stays
-  same : Beside c c
-  same = beside (alike refl refl refl) refl refl
+  same : Akin c c
+  same = akin (alike refl refl refl) refl refl
 
   -- with nothing but such a reply
   stays : (d : Drawn) → isOutputs d ≡ false → P (drawing c d)
@@ -105,16 +105,16 @@ module _ (P : Outcome → Type 0) (c : Control)
   -- a clear, which is carried out on an idle line
   module _ (busy : Bool) (clears : busy ≡ false → (k : Control) → k .diagnosis ≡ c .diagnosis → P (enteringWaitPrm k drawn.Nothing)) where
     -- on a busy line it is noted
-    clear-beside : (k : Control) → Beside c k → P (clearOn busy k)
-    clear-beside k s =
+    clear-akin : (k : Control) → Akin c k → P (clearOn busy k)
+    clear-akin k s =
         let a = s .alike-is in
-        let n : Beside c (withNoted k true) =
+        let n : Akin c (withNoted k true) =
         record { alike-is = alike (a .phase-same) (a .good-same) (a .diagnosis-same); owner-same = s .owner-same; untouched = s .untouched } in
         by-test P busy _ _ (λ _. draws (withNoted k true) drawn.Nothing n refl) (λ e. clears e _ (a .diagnosis-same))
 
     -- leave master
     pub clear-cases : P (clearOn busy c)
-    clear-cases = clear-beside c same
+    clear-cases = clear-akin c same
 
     -- a noted clear
     pub noted-cases : P (clearNoted busy c)
@@ -127,13 +127,13 @@ module _ (P : Outcome → Type 0) (c : Control)
     ticked-cases =
         either P (not (counts c)) (stays drawn.Nothing refl)
         (either P (leb (c .watchdog .remaining) 1)
-        (clear-beside (raise (withRemaining c 0) watchdogEvent)
+        (clear-akin (raise (withRemaining c 0) watchdogEvent)
         (record {
           alike-is = alike refl refl refl;
           owner-same = refl;
           untouched = another-raised (c .events) watchdogEvent (λ q. omega arith) (λ q. omega arith) (λ q. omega arith);
         }))
-        (draws _ drawn.Nothing (beside (alike refl refl refl) refl refl) refl))
+        (draws _ drawn.Nothing (akin (alike refl refl refl) refl refl) refl))
 
   -- the others, which may enter WAIT_PRM at any time
   module _ (resets : (k : Control) (d : Drawn) → k .diagnosis ≡ c .diagnosis → isOutputs d ≡ false → P (enteringWaitPrm k d)) where
@@ -153,7 +153,7 @@ module _ (P : Outcome → Type 0) (c : Control)
     module _ (g : Setup) (r : Request) (opened : OpenSets)
         (receives-prm : (p : Prm) → To r 61 → Within 7 (r .count) (g .«parameter_len») → P (goodPrm c (opened .parameters) (masterOf r) p))
         (receives-cfg : To r 62 → Within 1 (r .count) (g .«configuration_len») → P (goodCfg c (opened .configuration)))
-        (publishes : (k : Control) (u : OutputsDeed) (d : Drawn) → Beside c k → isOutputs d ≡ false → Published (Plain r × (r .count ≡ g .«output_len»)) u
+        (publishes : (k : Control) (u : OutputsDeed) (d : Drawn) → Akin c k → isOutputs d ≡ false → Published (Plain r × (r .count ≡ g .«output_len»)) u
         → P (record { control = raise k outputsEvent; outputs = u; parameters = set-deed.Keep; configuration = set-deed.Keep; drawn = d })) where
       -- Set_Prm
       setPrm-cases : (p : Prm) → To r 61 → P (setPrm g c (opened .parameters) r p)
@@ -187,7 +187,7 @@ module _ (P : Outcome → Type 0) (c : Control)
       slaveDiag-cases : P (slaveDiag c r)
       unfolding slaveDiag
       slaveDiag-cases =
-          either P (owns c (masterOf r) && not (c .flags .«stat_diag»)) (draws _ drawn.Diagnosis (beside (alike refl refl refl) refl refl) refl)
+          either P (owns c (masterOf r) && not (c .flags .«stat_diag»)) (draws _ drawn.Diagnosis (akin (alike refl refl refl) refl refl) refl)
           (stays drawn.Diagnosis refl)
 
       -- Global_Control
@@ -198,9 +198,9 @@ module _ (P : Outcome → Type 0) (c : Control)
           (either P (bit first 1) (publishes _ outputs-deed.Zeros drawn.Nothing stored refl tt) (draws _ drawn.Nothing stored refl))
           (stays drawn.Nothing refl)
         where
-          stored : Beside c (storing c first)
+          stored : Akin c (storing c first)
           stored =
-              either (Beside c) (eqb first (c .stored)) same
+              either (Akin c) (eqb first (c .stored)) same
               (record {
                 alike-is = alike refl refl refl;
                 owner-same = refl;

@@ -27,7 +27,7 @@ use Rattle.rules.specs.Services.{showing, parametrized, goodPrm, goodCfg
 use Rattle.rules.specs.Line.{clearOn, clearNoted, ticked}
 use Rattle.rules.specs.User.{changingSets, judgedParameters, judgedConfiguration}
 use Rattle.rules.proofs.Headed.{headed}
-use Rattle.rules.proofs.ByCases.{isOutputs, Beside, Published, clear-cases, noted-cases, ticked-cases, parameters-cases, configuration-cases, serve-cases, refilled-same}
+use Rattle.rules.proofs.ByCases.{isOutputs, Akin, Published, clear-cases, noted-cases, ticked-cases, parameters-cases, configuration-cases, serve-cases, refilled-same}
 
 -- event n is set
 abbrev on : Events → ℕ → Bool
@@ -40,17 +40,17 @@ publishing outputs-deed.Publish = true
 publishing outputs-deed.Zeros = true
 
 -- what becomes of the event of a kind of sets. opened: a set of that kind is open, waits: a newer one waits
-abbrev pub Shows : SetDeed → Bool → Bool → Bool → Bool → Type 0
-Shows set-deed.Keep opened waits before after = after ≡ before
-Shows set-deed.Receive opened waits before after = after ≡ cond opened before true
-Shows set-deed.Advance opened waits before after = (opened ≡ true) × (waits ≡ true) × (after ≡ before)
-Shows set-deed.Drop opened waits before after = after ≡ false
+abbrev pub EventShows : SetDeed → Bool → Bool → Bool → Bool → Type 0
+EventShows set-deed.Keep opened waits before after = after ≡ before
+EventShows set-deed.Receive opened waits before after = after ≡ cond opened before true
+EventShows set-deed.Advance opened waits before after = (opened ≡ true) × (waits ≡ true) × (after ≡ before)
+EventShows set-deed.Drop opened waits before after = after ≡ false
 
 -- the events after an outcome, by those before and the sets that are open and that wait
-pub record Follows (e : Events) (opened waiting : OpenSets) (o : Outcome) : Type 0 where
+pub record EventsAfter (e : Events) (opened waiting : OpenSets) (o : Outcome) : Type 0 where
   pub outputs-raise : on (o .control .events) outputsEvent ≡ (on e outputsEvent || publishing (o .outputs))
-  pub parameters-show : Shows (o .parameters) (opened .parameters) (waiting .parameters) (on e parametersEvent) (on (o .control .events) parametersEvent)
-  pub configuration-show : Shows (o .configuration) (opened .configuration) (waiting .configuration) (on e configurationEvent) (on (o .control .events) configurationEvent)
+  pub parameters-show : EventShows (o .parameters) (opened .parameters) (waiting .parameters) (on e parametersEvent) (on (o .control .events) parametersEvent)
+  pub configuration-show : EventShows (o .configuration) (opened .configuration) (waiting .configuration) (on e configurationEvent) (on (o .control .events) configurationEvent)
 
 -- ---- a set shown, and DATA_EXCH left
 
@@ -96,7 +96,7 @@ module _ (c : Control) where
 
 module _ (opened waiting : OpenSets) where
   -- nothing but a reply
-  replies-follow : (c k : Control) (d : Drawn) → Beside c k → (isOutputs d ≡ true → inExchange k ≡ true) → Follows (c .events) opened waiting (drawing k d)
+  replies-follow : (c k : Control) (d : Drawn) → Akin c k → (isOutputs d ≡ true → inExchange k ≡ true) → EventsAfter (c .events) opened waiting (drawing k d)
   replies-follow c k d s _ = record {
     outputs-raise = s .untouched .outputs-same ∙ sym (or-false (on (c .events) outputsEvent));
     parameters-show = s .untouched .parameters-same;
@@ -104,7 +104,7 @@ module _ (opened waiting : OpenSets) where
   }
 
   -- WAIT_PRM clears 11 and 10 and raises 13, whatever was set
-  resets-follow : (e : Events) (k : Control) (d : Drawn) → Follows e opened waiting (enteringWaitPrm k d)
+  resets-follow : (e : Events) (k : Control) (d : Drawn) → EventsAfter e opened waiting (enteringWaitPrm k d)
   unfolding waitPrm
   resets-follow e k d =
       let x = leftExchange k in
@@ -121,7 +121,7 @@ module _ (opened waiting : OpenSets) where
 
   module _ (c : Control) where
     -- a good Set_Prm
-    prm-follows : (master : ℕ) (p : Prm) → Follows (c .events) opened waiting (goodPrm c (opened .parameters) master p)
+    prm-follows : (master : ℕ) (p : Prm) → EventsAfter (c .events) opened waiting (goodPrm c (opened .parameters) master p)
     unfolding parametrized
     prm-follows master p =
         let x = waitCfg c .events in
@@ -141,7 +141,7 @@ module _ (opened waiting : OpenSets) where
         }
 
     -- a good Chk_Cfg
-    cfg-follows : Follows (c .events) opened waiting (goodCfg c (opened .configuration))
+    cfg-follows : EventsAfter (c .events) opened waiting (goodCfg c (opened .configuration))
     cfg-follows =
         let x = waitCfg c .events in
         record {
@@ -155,8 +155,8 @@ module _ (opened waiting : OpenSets) where
         }
 
     -- outputs or zeros published
-    publishing-follows : (Given : Type 0) (k : Control) (u : OutputsDeed) (d : Drawn) → Beside c k → isOutputs d ≡ false → Published Given u
-        → Follows (c .events) opened waiting
+    publishing-follows : (Given : Type 0) (k : Control) (u : OutputsDeed) (d : Drawn) → Akin c k → isOutputs d ≡ false → Published Given u
+        → EventsAfter (c .events) opened waiting
         (record { control = raise k outputsEvent; outputs = u; parameters = set-deed.Keep; configuration = set-deed.Keep; drawn = d })
     publishing-follows Given k u d s _ h = record {
       outputs-raise =
@@ -173,13 +173,13 @@ module _ (opened waiting : OpenSets) where
 
     -- a newer set shown instead
     moves-follow : (p q : SetDeed)
-        → Shows p (opened .parameters) (waiting .parameters) (on (c .events) parametersEvent) (on (c .events) parametersEvent)
-        → Shows q (opened .configuration) (waiting .configuration) (on (c .events) configurationEvent) (on (c .events) configurationEvent)
-        → Follows (c .events) opened waiting (changingSets c p q)
+        → EventShows p (opened .parameters) (waiting .parameters) (on (c .events) parametersEvent) (on (c .events) parametersEvent)
+        → EventShows q (opened .configuration) (waiting .configuration) (on (c .events) configurationEvent) (on (c .events) configurationEvent)
+        → EventsAfter (c .events) opened waiting (changingSets c p q)
     moves-follow p q x y = record { outputs-raise = sym (or-false (on (c .events) outputsEvent)); parameters-show = x; configuration-show = y }
 
     -- parameters judged good: the set is closed
-    prm-closed : (f : Flags) → Follows (c .events) opened waiting (changingSets (withFlags (clear c parametersEvent) f) set-deed.Drop set-deed.Keep)
+    prm-closed : (f : Flags) → EventsAfter (c .events) opened waiting (changingSets (withFlags (clear c parametersEvent) f) set-deed.Drop set-deed.Keep)
     prm-closed f = record {
       outputs-raise = cleared-other (c .events) parametersEvent outputsEvent (λ q. omega arith) ∙ sym (or-false (on (c .events) outputsEvent));
       parameters-show = cleared-same (c .events) parametersEvent (omega arith);
@@ -187,7 +187,7 @@ module _ (opened waiting : OpenSets) where
     }
 
     -- configuration judged good: DATA_EXCH
-    cfg-closed : Follows (c .events) opened waiting (changingSets (dataExch (clear c configurationEvent)) set-deed.Keep set-deed.Drop)
+    cfg-closed : EventsAfter (c .events) opened waiting (changingSets (dataExch (clear c configurationEvent)) set-deed.Keep set-deed.Drop)
     unfolding dataExch
     cfg-closed =
         let x = cleared (c .events) configurationEvent in
@@ -207,41 +207,41 @@ module _ (opened waiting : OpenSets) where
 
     -- what holds of each
     Here : Outcome → Type 0
-    Here o = Follows (c .events) opened waiting o
+    Here o = EventsAfter (c .events) opened waiting o
 
     -- leave master
-    pub clear-follows : (busy : Bool) → Follows (c .events) opened waiting (clearOn busy c)
+    pub clear-follows : (busy : Bool) → EventsAfter (c .events) opened waiting (clearOn busy c)
     unfolding Here
     clear-follows busy = clear-cases Here c (replies-follow c) busy (λ _ k _. resets-follow (c .events) k Nothing)
 
     -- a noted clear
-    pub noted-follows : (busy : Bool) → Follows (c .events) opened waiting (clearNoted busy c)
+    pub noted-follows : (busy : Bool) → EventsAfter (c .events) opened waiting (clearNoted busy c)
     unfolding Here
     noted-follows busy = noted-cases Here c (replies-follow c) busy (λ _ k _. resets-follow (c .events) k Nothing)
 
     -- a Tick
-    pub ticked-follows : (busy : Bool) → Follows (c .events) opened waiting (ticked busy c)
+    pub ticked-follows : (busy : Bool) → EventsAfter (c .events) opened waiting (ticked busy c)
     unfolding Here
     ticked-follows busy = ticked-cases Here c (replies-follow c) busy (λ _ k _. resets-follow (c .events) k Nothing)
 
     -- the judgement of parameters, where a set is open
-    pub parameters-follow : (good : Bool) → opened .parameters ≡ true → Follows (c .events) opened waiting (judgedParameters c (waiting .parameters) good)
+    pub parameters-follow : (good : Bool) → opened .parameters ≡ true → EventsAfter (c .events) opened waiting (judgedParameters c (waiting .parameters) good)
     unfolding Here
     parameters-follow good h =
         parameters-cases Here c (replies-follow c) (λ k d _ _. resets-follow (c .events) k d) (waiting .parameters) good
         (λ w. moves-follow set-deed.Advance set-deed.Keep (h, w, refl) refl) prm-closed
 
     -- and of configuration
-    pub configuration-follows : (good : Bool) → opened .configuration ≡ true → Follows (c .events) opened waiting (judgedConfiguration c (waiting .configuration) good)
+    pub configuration-follows : (good : Bool) → opened .configuration ≡ true → EventsAfter (c .events) opened waiting (judgedConfiguration c (waiting .configuration) good)
     unfolding Here
     configuration-follows good h =
         configuration-cases Here c (replies-follow c) (λ k d _ _. resets-follow (c .events) k d) (waiting .configuration) good
         (λ w. moves-follow set-deed.Keep set-deed.Advance refl (h, w, refl)) cfg-closed
 
   -- a telegram
-  pub telegram-follows : (g : Setup) (c : Control) (r : Request) (octets : Data) → Follows (c .events) opened waiting (outcomeBy g c opened r octets)
+  pub telegram-follows : (g : Setup) (c : Control) (r : Request) (octets : Data) → EventsAfter (c .events) opened waiting (outcomeBy g c opened r octets)
   telegram-follows g c r octets =
       let k = refilled g c r in
-      subst (λ (e : Events). Follows e opened waiting (outcomeBy g c opened r octets)) (refilled-same g c r .1)
-      (serve-cases (λ o. Follows (k .events) opened waiting o) k (replies-follow k) (λ n d _ _. resets-follow (k .events) n d) g r opened
+      subst (λ (e : Events). EventsAfter e opened waiting (outcomeBy g c opened r octets)) (refilled-same g c r .1)
+      (serve-cases (λ o. EventsAfter (k .events) opened waiting o) k (replies-follow k) (λ n d _ _. resets-follow (k .events) n d) g r opened
       (λ p _ _. prm-follows k _ p) (λ _ _. cfg-follows k) (publishing-follows k _) (serviceOf g r) octets (headed r g))

@@ -19,7 +19,7 @@ use Rattle.rules.specs.Services.{parametrized, serve, outcomeBy}
 use Rattle.rules.specs.Line.{clearOn, clearNoted, ticked}
 use Rattle.rules.specs.User.{judgedParameters, judgedConfiguration}
 use Rattle.rules.proofs.Headed.{headed}
-use Rattle.rules.proofs.ByCases.{Beside, clear-cases, noted-cases, ticked-cases, parameters-cases, configuration-cases, serve-cases, refilled-same}
+use Rattle.rules.proofs.ByCases.{Akin, clear-cases, noted-cases, ticked-cases, parameters-cases, configuration-cases, serve-cases, refilled-same}
 
 -- the owner is an octet
 abbrev pub Owned : Outcome → Type 0
@@ -32,7 +32,7 @@ resets k d = omega arith
 
 module _ (c : Control) (h : c .owner < 256) where
   -- as it was
-  stays : (k : Control) → Beside c k → k .owner < 256
+  stays : (k : Control) → Akin c k → k .owner < 256
   stays k s = rw (s .owner-same) h
 
   -- leave master

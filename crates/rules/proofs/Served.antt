@@ -27,7 +27,7 @@ use Rattle.rules.specs.Line.{clearOn, clearNoted, ticked}
 use Rattle.rules.specs.User.{changingSets, judgedParameters, judgedConfiguration}
 use Rattle.rules.proofs.Headed.{Plain, To, headed}
 pub use Rattle.rules.proofs.ByCases.{isOutputs}
-use Rattle.rules.proofs.ByCases.{Beside, Published, clear-cases, noted-cases, ticked-cases, parameters-cases, configuration-cases, serve-cases}
+use Rattle.rules.proofs.ByCases.{Akin, Published, clear-cases, noted-cases, ticked-cases, parameters-cases, configuration-cases, serve-cases}
 use Rattle.rules.proofs.Alike.{Alike, exchange-same, refilled-alike}
 
 -- ---- every outcome
@@ -90,7 +90,7 @@ Quiet g c Clear o = Lawful g c 0 ⊥ Clear (λ _. ⊥) o
 
 module _ (g : Setup) (c : Control) {Clear : Type 0} where
   -- nothing but a reply
-  answers : (k : Control) (d : Drawn) → Beside c k → (isOutputs d ≡ true → inExchange k ≡ true) → Quiet g c Clear (drawing k d)
+  answers : (k : Control) (d : Drawn) → Akin c k → (isOutputs d ≡ true → inExchange k ≡ true) → Quiet g c Clear (drawing k d)
   answers k d s f = draws (s .alike-is) f
 
   -- leave master, and an expired watchdog
@@ -163,7 +163,7 @@ served-from s v = record {
 
 module _ (g : Setup) (c : Control) (r : Request) where
   -- nothing but a reply
-  replies : (k : Control) (d : Drawn) → Beside c k → (isOutputs d ≡ true → inExchange k ≡ true) → Served g c r (drawing k d)
+  replies : (k : Control) (d : Drawn) → Akin c k → (isOutputs d ≡ true → inExchange k ≡ true) → Served g c r (drawing k d)
   replies k d s f =
       let a = s .alike-is in
       record { lawful = draws a f; in-exchange = λ e. (sym (exchange-same a) ∙ e, refl, refl); judges = a .good-same }
@@ -221,7 +221,7 @@ module _ (g : Setup) (c : Control) (r : Request) where
   }
 
   -- published, or zeros by Global_Control: the phase and the sets stay
-  publishes : (k : Control) (d : OutputsDeed) (x : Drawn) → Beside c k → isOutputs x ≡ false → Published (Plain r × (r .count ≡ g .«output_len»)) d
+  publishes : (k : Control) (d : OutputsDeed) (x : Drawn) → Akin c k → isOutputs x ≡ false → Published (Plain r × (r .count ≡ g .«output_len»)) d
       → Served g c r (record { control = raise k outputsEvent; outputs = d; parameters = set-deed.Keep; configuration = set-deed.Keep; drawn = x })
   publishes k d x s f p =
       let a = s .alike-is in

@@ -21,7 +21,7 @@ use Rattle.state.specs.Sound.{Sound}
 use Rattle.state.specs.Well.{all, setupTests, lineTests, caseTests, roleTests, setTests, diagnosisTests, unusedTests, imageTests, wellImage}
 use Rattle.state.proofs.Numbers.{reading-back, reading-counted, reading-le, kind-back, kind-counted, kind-le, stage-back, stage-counted, stage-le, phase-back, phase-counted, phase-le, drawn-back, drawn-counted, drawn-le}
 use Rattle.state.proofs.Asking.{tests-ranged, ranged-tests}
-use Rattle.state.proofs.Tests.{all-at, within-true, within-holds, none-or-true, none-or-holds, none-or-most, most-none-or, set-counts-true, set-counts-holds, beq-true, beq-holds}
+use Rattle.state.proofs.Tests.{all-at, within-true, within-holds, none-or-true, none-or-holds, set-counts-true, set-counts-holds, beq-true, beq-holds}
 use Rattle.state.proofs.LineCounts.{reading-before, reading-numbered, stage-before, stage-numbered, part-true, part-holds}
 use Rattle.state.proofs.Bits.{bit-le, Marked, marked, sum-marks}
 
@@ -187,10 +187,10 @@ module _ (s : State) (h : Sound s) (r : List ℕ) where
       let c = s .configuration in
       λ i.
       all
-      (set-counts-holds 7 (p .shown) (p .waiting) (s .setup .«parameter_len») (record { shown-in = h .parameters-shown; waiting-in = h .parameters-waiting; behind = h .parameters-behind }) i
-      ∷ beq-holds (bitAt (marksOf s) 8) (not (eqb (p .waiting) 0)) (marks-back s .bit₃ ∙ h .parameters-fresh) i
-      ∷ set-counts-holds 1 (c .shown) (c .waiting) (s .setup .«configuration_len») (record { shown-in = most-none-or (c .shown) _ (h .configuration-shown); waiting-in = most-none-or (c .waiting) _ (h .configuration-waiting); behind = h .configuration-behind }) i
-      ∷ beq-holds (bitAt (marksOf s) 16) (not (eqb (c .waiting) 0)) (marks-back s .bit₄ ∙ h .configuration-fresh) i
+      (set-counts-holds 7 (s .setup .«parameter_len») p (h .parameter-counts) i
+      ∷ beq-holds (bitAt (marksOf s) 8) (not (eqb (p .waiting) 0)) (marks-back s .bit₃ ∙ h .parameter-counts .fresh) i
+      ∷ set-counts-holds 1 (s .setup .«configuration_len») c (h .configuration-counts) i
+      ∷ beq-holds (bitAt (marksOf s) 16) (not (eqb (c .waiting) 0)) (marks-back s .bit₄ ∙ h .configuration-counts .fresh) i
       ∷ [])
 
   -- diagnosis passes
@@ -200,9 +200,9 @@ module _ (s : State) (h : Sound s) (r : List ℕ) where
       let d = s .control .diagnosis in
       λ i.
       all
-      (within-holds 6 (d .count) (s .setup .«diagnosis_len») (h .diagnosis-count) i
-      ∷ none-or-holds 6 (d .«delayed_count») (s .setup .«diagnosis_len») (h .delayed-count) i
-      ∷ le-leb (d .«delayed_flags») 7 (h .delayed-flags) i
+      (within-holds 6 (d .count) (s .setup .«diagnosis_len») (h .diagnosis-counts .count) i
+      ∷ none-or-holds 6 (d .«delayed_count») (s .setup .«diagnosis_len») (h .diagnosis-counts .delayed) i
+      ∷ le-leb (d .«delayed_flags») 7 (h .diagnosis-counts .flags) i
       ∷ [])
 
   -- the counts of the telegram and of the reply pass
@@ -240,8 +240,6 @@ well-sound m h =
     let roles = all-at (imageTests m) 3 h in
     let sets = all-at (imageTests m) 4 h in
     let diagnosis = all-at (imageTests m) 5 h in
-    let p = set-counts-true 7 (getD m 23 0) (getD m 24 0) (getD m 5 0) (all-at (setTests m) 0 sets) in
-    let c = set-counts-true 1 (getD m 25 0) (getD m 26 0) (getD m 6 0) (all-at (setTests m) 2 sets) in
     let phase-in = leb-true (getD m 32 0) 12 (all-at (caseTests m) 1 cases) in
     let stage-in = leb-true (getD m 44 0) 10 (all-at (caseTests m) 3 cases) in
     let reading = part-true 9 (getD m 32 0) (getD m 34 0) (getD m 35 0) (reading-numbered (getD m 32 0) phase-in) (all-at (lineTests m) 1 line) in
@@ -252,17 +250,13 @@ well-sound m h =
       inputs = places-permutation (getD m 20 0);
       parameters = places-permutation (getD m 21 0);
       configuration = places-permutation (getD m 22 0);
-      parameters-shown = p .shown-in;
-      parameters-waiting = p .waiting-in;
-      configuration-shown = none-or-most 1 (getD m 25 0) (getD m 6 0) (c .shown-in);
-      configuration-waiting = none-or-most 1 (getD m 26 0) (getD m 6 0) (c .waiting-in);
-      parameters-fresh = beq-true (bitAt (marksIn m) 8) (not (eqb (getD m 24 0) 0)) (all-at (setTests m) 1 sets);
-      configuration-fresh = beq-true (bitAt (marksIn m) 16) (not (eqb (getD m 26 0) 0)) (all-at (setTests m) 3 sets);
-      parameters-behind = p .behind;
-      configuration-behind = c .behind;
-      diagnosis-count = within-true 6 (getD m 27 0) (getD m 7 0) (all-at (diagnosisTests m) 0 diagnosis);
-      delayed-count = none-or-true 6 (getD m 28 0) (getD m 7 0) (all-at (diagnosisTests m) 1 diagnosis);
-      delayed-flags = leb-true (getD m 29 0) 7 (all-at (diagnosisTests m) 2 diagnosis);
+      parameter-counts = set-counts-true 7 (getD m 5 0) _ (all-at (setTests m) 0 sets) (beq-true (bitAt (marksIn m) 8) (not (eqb (getD m 24 0) 0)) (all-at (setTests m) 1 sets));
+      configuration-counts = set-counts-true 1 (getD m 6 0) _ (all-at (setTests m) 2 sets) (beq-true (bitAt (marksIn m) 16) (not (eqb (getD m 26 0) 0)) (all-at (setTests m) 3 sets));
+      diagnosis-counts = record {
+        count = within-true 6 (getD m 27 0) (getD m 7 0) (all-at (diagnosisTests m) 0 diagnosis);
+        delayed = none-or-true 6 (getD m 28 0) (getD m 7 0) (all-at (diagnosisTests m) 1 diagnosis);
+        flags = leb-true (getD m 29 0) 7 (all-at (diagnosisTests m) 2 diagnosis);
+      };
       reading = record { count = leb-true (getD m 34 0) 246 (all-at (lineTests m) 0 line); read = reading .0; none-yet = reading .1 };
       sending = record { count = leb-true (getD m 46 0) 246 (all-at (lineTests m) 2 line); sent = sending .0; none-yet = sending .1 };
       place = leb-true (getD m 53 0) 2 (all-at (roleTests m) 5 roles);

@@ -1,5 +1,5 @@
 -- Tests joined by `&`, and the facts that they stand for.
-use Prim.Native.Nat.{ℕ, zero, suc, _≤_}
+use Prim.Native.Nat.{ℕ, zero, suc}
 use native.Mathlib.Omega.{arith}
 use mathlib.Core.Path.{_≡_, refl, sym, ap, _∙_}
 use mathlib.Core.Logic.{inl, inr, ⊎-elim}
@@ -8,7 +8,8 @@ use mathlib.Core.List.{List, [], _∷_}
 use lib.Dec.{leb, eqb}
 use lib.ListN.{getD}
 use borrow.Author.Tests.{leb-true, le-leb, eqb-true, eqb-false, eq-eqb, ne-eqb, not-false}
-use Rattle.state.specs.Sound.{Within, NoneOr}
+use Rattle.state.specs.declared.state.Sets.{Sets}
+use Rattle.state.specs.Sound.{Within, NoneOr, SetsCounted}
 use Rattle.state.specs.Well.{allFrom, all, within, noneOr, setCounts}
 use Rattle.state.proofs.Choice.{and-left, and-right, or-holds}
 
@@ -82,46 +83,41 @@ pub none-or-holds : (lo x hi : ℕ) → NoneOr lo x hi → noneOr lo x hi ≡ tr
 none-or-holds lo x hi h =
     ⊎-elim (λ e. λ i. eq-eqb x 0 e i || within lo x hi) (λ w. or-holds (eqb x 0) (within lo x hi) (λ _. within-holds lo x hi w)) h
 
--- at most hi, as a range with 0 for none
-pub none-or-most : (lo x hi : ℕ) → NoneOr lo x hi → x ≤ hi
-none-or-most lo x hi (inl z) = omega arith
-none-or-most lo x hi (inr w) = w .1
+-- one that is there
+pub none-or-some : {lo x hi : ℕ} → NoneOr lo x hi → (x ≡ 0 → ⊥) → Within lo x hi
+none-or-some (inl z) n = absurd (n z)
+none-or-some (inr w) n = w
 
--- and back
-pub most-none-or : (x hi : ℕ) → x ≤ hi → NoneOr 1 x hi
-most-none-or zero hi h = inl refl
-most-none-or (suc n) hi h = inr (omega arith, h)
+-- a range tested beside something else
+pub within-and : (lo x hi : ℕ) (p : Bool) → within lo x hi && p ≡ true → Within lo x hi
+within-and lo x hi p e = within-true lo x hi (and-left (within lo x hi) p e)
 
 -- what the test of a set's counts says
-pub record SetIn (lo shown waiting hi : ℕ) : Type 0 where
-  pub shown-in : NoneOr lo shown hi
-  pub waiting-in : NoneOr lo waiting hi
-  pub behind : shown ≡ 0 → waiting ≡ 0
-
-module _ (lo shown waiting hi : ℕ) where
-  pub set-counts-true : setCounts lo shown waiting hi ≡ true → SetIn lo shown waiting hi
-  set-counts-true h = go (eqb shown 0) refl h
+module _ (lo hi : ℕ) (x : Sets) where
+  pub set-counts-true : setCounts lo (x .shown) (x .waiting) hi ≡ true → x .set .fresh ≡ not (eqb (x .waiting) 0) → SetsCounted lo hi x
+  set-counts-true h marked = go (eqb (x .shown) 0) refl h
     where
-      go : (t : Bool) → eqb shown 0 ≡ t → cond t (eqb waiting 0) (within lo shown hi && noneOr lo waiting hi) ≡ true → SetIn lo shown waiting hi
+      go : (t : Bool) → eqb (x .shown) 0 ≡ t → cond t (eqb (x .waiting) 0) (within lo (x .shown) hi && noneOr lo (x .waiting) hi) ≡ true → SetsCounted lo hi x
       go true e g =
-          let z = eqb-true waiting 0 g in
-          record { shown-in = inl (eqb-true shown 0 e); waiting-in = inl z; behind = λ _. z }
+          let z = eqb-true (x .waiting) 0 g in
+          record { shown = inl (eqb-true (x .shown) 0 e); waiting = inl z; fresh = marked; behind = λ _. z }
       go false e g =
           record {
-            shown-in = inr (within-true lo shown hi (and-left (within lo shown hi) (noneOr lo waiting hi) g));
-            waiting-in = none-or-true lo waiting hi (and-right (within lo shown hi) (noneOr lo waiting hi) g);
-            behind = λ z. absurd (eqb-false shown 0 e z);
+            shown = inr (within-and lo (x .shown) hi (noneOr lo (x .waiting) hi) g);
+            waiting = none-or-true lo (x .waiting) hi (and-right (within lo (x .shown) hi) (noneOr lo (x .waiting) hi) g);
+            fresh = marked;
+            behind = λ z. absurd (eqb-false (x .shown) 0 e z);
           }
 
   -- and back
-  pub set-counts-holds : SetIn lo shown waiting hi → setCounts lo shown waiting hi ≡ true
-  set-counts-holds h = go (eqb shown 0) refl (h .shown-in)
+  pub set-counts-holds : SetsCounted lo hi x → setCounts lo (x .shown) (x .waiting) hi ≡ true
+  set-counts-holds h = go (eqb (x .shown) 0) refl
     where
-      go : (t : Bool) → eqb shown 0 ≡ t → NoneOr lo shown hi → cond t (eqb waiting 0) (within lo shown hi && noneOr lo waiting hi) ≡ true
-      go true e n = eq-eqb waiting 0 (h .behind (eqb-true shown 0 e))
-      go false e (inl z) = absurd (eqb-false shown 0 e z)
-      go false e (inr w) = λ i. within-holds lo shown hi w i && none-or-holds lo waiting hi (h .waiting-in) i
+      go : (t : Bool) → eqb (x .shown) 0 ≡ t → cond t (eqb (x .waiting) 0) (within lo (x .shown) hi && noneOr lo (x .waiting) hi) ≡ true
+      go true e = eq-eqb (x .waiting) 0 (h .behind (eqb-true (x .shown) 0 e))
+      go false e = λ i. within-holds lo (x .shown) hi (none-or-some (h .shown) (eqb-false (x .shown) 0 e)) i && none-or-holds lo (x .waiting) hi (h .waiting) i
 
+module _ (lo shown waiting hi : ℕ) where
   -- where one is shown its own range decides, and then the one that waits
   pub set-counts-out : (shown ≡ 0 → ⊥) → within lo shown hi ≡ false → false ≡ setCounts lo shown waiting hi
   set-counts-out n e = rw (ne-eqb shown 0 n, e)

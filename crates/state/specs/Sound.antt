@@ -7,6 +7,8 @@ use lib.Dec.{eqb}
 use Rattle.buffers.specs.Triple.{Permutation}
 use Rattle.telegram.specs.Counts.{ReadCounts, SentCounts}
 use Rattle.state.specs.declared.setup.Setup.{Setup}
+use Rattle.state.specs.declared.control.Diagnosis.{Diagnosis}
+use Rattle.state.specs.declared.state.Sets.{Sets}
 use Rattle.state.specs.declared.state.State.{State}
 
 -- lo to hi
@@ -34,6 +36,21 @@ pub record Ranged (s : Setup) : Type 0 where
   -- Get_Cfg sends 1 to 244 octets
   pub get-cfg-len : Within 1 (s .«get_cfg_len») 244
 
+-- the counts of a set of parameters or of configuration that is shown and of one that waits: lo to hi octets, 0 for none
+pub record SetsCounted (lo hi : ℕ) (x : Sets) : Type 0 where
+  pub shown : NoneOr lo (x .shown) hi
+  pub waiting : NoneOr lo (x .waiting) hi
+  -- one waits exactly if its count is not 0
+  pub fresh : x .set .fresh ≡ not (eqb (x .waiting) 0)
+  -- and only behind one that is shown
+  pub behind : x .shown ≡ 0 → x .waiting ≡ 0
+
+-- diagnosis of 6 octets to the set length n, and a delayed one of that or 0 for none, with three flag bits
+pub record DiagnosisCounted (n : ℕ) (d : Diagnosis) : Type 0 where
+  pub count : Within 6 (d .count) n
+  pub delayed : NoneOr 6 (d .«delayed_count») n
+  pub flags : d .«delayed_flags» ≤ 7
+
 -- what holds of every state that is kept
 pub record Sound (s : State) : Type 0 where
   -- Start took its setup
@@ -46,28 +63,12 @@ pub record Sound (s : State) : Type 0 where
   pub parameters : Permutation (s .parameters .set .place)
   -- and of the configuration set
   pub configuration : Permutation (s .configuration .set .place)
-  -- parameters that are shown are 7 octets to the set length
-  pub parameters-shown : NoneOr 7 (s .parameters .shown) (s .setup .«parameter_len»)
-  -- and so are those that wait
-  pub parameters-waiting : NoneOr 7 (s .parameters .waiting) (s .setup .«parameter_len»)
-  -- a configuration that is shown is at most the set length
-  pub configuration-shown : s .configuration .shown ≤ s .setup .«configuration_len»
-  -- and so is one that waits
-  pub configuration-waiting : s .configuration .waiting ≤ s .setup .«configuration_len»
-  -- parameters wait exactly if their count is not 0
-  pub parameters-fresh : s .parameters .set .fresh ≡ not (eqb (s .parameters .waiting) 0)
-  -- a configuration waits exactly if its count is not 0
-  pub configuration-fresh : s .configuration .set .fresh ≡ not (eqb (s .configuration .waiting) 0)
-  -- parameters wait only behind some that are shown
-  pub parameters-behind : s .parameters .shown ≡ 0 → s .parameters .waiting ≡ 0
-  -- and so does a configuration
-  pub configuration-behind : s .configuration .shown ≡ 0 → s .configuration .waiting ≡ 0
-  -- diagnosis counts 6 octets to the set length
-  pub diagnosis-count : Within 6 (s .control .diagnosis .count) (s .setup .«diagnosis_len»)
-  -- and so does a delayed one
-  pub delayed-count : NoneOr 6 (s .control .diagnosis .«delayed_count») (s .setup .«diagnosis_len»)
-  -- the flags of a delayed diagnosis are three bits
-  pub delayed-flags : s .control .diagnosis .«delayed_flags» ≤ 7
+  -- parameters have 7 octets to the set length
+  pub parameter-counts : SetsCounted 7 (s .setup .«parameter_len») (s .parameters)
+  -- and a configuration 1 to the set length
+  pub configuration-counts : SetsCounted 1 (s .setup .«configuration_len») (s .configuration)
+  -- so many octets has the diagnosis
+  pub diagnosis-counts : DiagnosisCounted (s .setup .«diagnosis_len») (s .control .diagnosis)
   -- the telegram that is read counts its data octets and those that were read
   pub reading : ReadCounts (s .incoming .reader)
   -- the reply counts its data octets and those that were sent

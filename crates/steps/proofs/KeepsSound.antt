@@ -17,16 +17,15 @@ use Rattle.telegram.specs.Reading.{start, off, readerAfter, status, datumOf}
 use Rattle.telegram.specs.Sending.{left, sent}
 use Rattle.telegram.specs.Counts.{ReadCounts, SentCounts}
 use Rattle.telegram.proofs.Counts.{start-counts, off-counts, after-counts, empty-counts, single-counts, sending-counts, sent-counts}
-use Rattle.state.specs.declared.setup.Setup.{Setup}
 use Rattle.state.specs.declared.state.Drawn.{Drawn}
 use Rattle.state.specs.declared.state.Drawn.the-variants as drawn
 use Rattle.state.specs.declared.state.Reply.{Reply}
 use Rattle.state.specs.declared.state.State.{State}
-use Rattle.state.specs.Sound.{Within, NoneOr, Sound}
+use Rattle.state.specs.Sound.{Within, Sound}
 use Rattle.state.specs.Well.{within}
 use Rattle.state.specs.With.{withReply}
 use Rattle.state.proofs.Choice.{by-test, either, and-left, and-right}
-use Rattle.state.proofs.Tests.{within-true}
+use Rattle.state.proofs.Tests.{none-or-some, within-and}
 use Rattle.rules.specs.declared.outcome.Outcome.{Outcome}
 use Rattle.rules.specs.Requests.{masterOf}
 use Rattle.rules.specs.Diagnosis.{delayed, diagnosed, delaying, caughtUp}
@@ -44,8 +43,8 @@ use Rattle.steps.specs.Step.{step}
 use Rattle.steps.specs.Demand1.{SoundKept}
 use Rattle.steps.proofs.KeepsSafe.{outputs-permute, inputs-permute, sets-permute}
 use Rattle.steps.proofs.OutcomeServed.{outcome-served}
-use Rattle.steps.proofs.SetsCounted.{SetCounts, sets-counts}
-use Rattle.steps.proofs.SoundWith.{diagnosis-same, sound-control, sound-outputs, sound-inputs, sound-incoming, sound-read-by, sound-reply, sound-beginning}
+use Rattle.steps.proofs.SetsCounted.{sets-counts}
+use Rattle.steps.proofs.SoundWith.{sound-control, sound-outputs, sound-inputs, sound-incoming, sound-read-by, sound-reply, sound-beginning}
 
 -- what a step or a call leaves is sound
 abbrev SoundStep : Stepped → Type 0
@@ -56,36 +55,19 @@ SoundTold t = Sound (t .state)
 
 -- ---- an outcome carried out
 
-parameters-of : (s : State) → Sound s → SetCounts (λ n. NoneOr 7 n (s .setup .«parameter_len»)) (s .parameters)
-parameters-of s h = record { shown = h .parameters-shown; waiting = h .parameters-waiting; fresh = h .parameters-fresh; behind = h .parameters-behind }
-
-configuration-of : (s : State) → Sound s → SetCounts (λ n. n ≤ s .setup .«configuration_len») (s .configuration)
-configuration-of s h = record { shown = h .configuration-shown; waiting = h .configuration-waiting; fresh = h .configuration-fresh; behind = h .configuration-behind }
-
 sound-carried : {Given Clear : Type 0} {At : ℕ → Type 0} {o : Outcome} (s : State) (m : List ℕ) (count : ℕ) → Sound s
     → Lawful (s .setup) (s .control) count Given Clear At o → SoundStep (carried s m o count)
 unfolding carried
 sound-carried {Given} {Clear} {At} {o} s m count h w =
-    let n : Setup = s .setup in
-    let p = sets-counts (λ k. NoneOr 7 k (n .«parameter_len»)) (inl refl) _ count (λ v. inr (v .1)) (λ v. omega arith) (o .parameters) (s .parameters) (w .parameters-come) (parameters-of s h) in
-    let c = sets-counts (λ k. k ≤ n .«configuration_len») (omega arith) _ count (λ v. v .1 .1) (λ v. v .1 .0) (o .configuration) (s .configuration) (w .configuration-come) (configuration-of s h) in
     record {
       setup = h .setup;
       outputs = outputs-permute (o .outputs) (s .outputs) (h .outputs);
       inputs = inputs-permute (o .outputs) (s .inputs) (h .inputs);
       parameters = sets-permute (o .parameters) (s .parameters) count (h .parameters);
       configuration = sets-permute (o .configuration) (s .configuration) count (h .configuration);
-      parameters-shown = p .shown;
-      parameters-waiting = p .waiting;
-      configuration-shown = c .shown;
-      configuration-waiting = c .waiting;
-      parameters-fresh = p .fresh;
-      configuration-fresh = c .fresh;
-      parameters-behind = p .behind;
-      configuration-behind = c .behind;
-      diagnosis-count = rw (w .counts-stay) (h .diagnosis-count);
-      delayed-count = rw (w .counts-stay) (h .delayed-count);
-      delayed-flags = rw (w .counts-stay) (h .delayed-flags);
+      parameter-counts = sets-counts 7 (s .setup .«parameter_len») (omega arith) _ count (λ v. v .1) (o .parameters) (s .parameters) (w .parameters-come) (h .parameter-counts);
+      configuration-counts = sets-counts 1 (s .setup .«configuration_len») (omega arith) _ count (λ v. v .1) (o .configuration) (s .configuration) (w .configuration-come) (h .configuration-counts);
+      diagnosis-counts = rw (w .counts-stay) (h .diagnosis-counts);
       reading = h .reading;
       sending = h .sending;
       place = h .place;
@@ -101,16 +83,12 @@ sound-after-reply : (s : State) → Sound s → Sound (afterReply s)
 unfolding afterReply diagnosed
 sound-after-reply s h = by-test Sound (delayed (s .control) && not (diagnosisLeaves s)) (diagnosisChanged s (caughtUp (s .control))) s changed (λ _. h)
   where
-    counted : (d : ℕ) → NoneOr 6 d (s .setup .«diagnosis_len») → (d ≡ 0 → ⊥) → Within 6 d (s .setup .«diagnosis_len»)
-    counted d (inl z) n = absurd (n z)
-    counted d (inr w) n = w
-
     changed : delayed (s .control) && not (diagnosisLeaves s) ≡ true → Sound (diagnosisChanged s (caughtUp (s .control)))
     changed e =
         sound-control s h (caughtUp (s .control)) (not (s .swapped))
         (record {
-          count = counted (s .control .diagnosis .«delayed_count») (h .delayed-count) (eqb-false _ _ (not-true _ (and-left (delayed (s .control)) _ e)));
-          later = inl refl;
+          count = none-or-some (h .diagnosis-counts .delayed) (eqb-false _ _ (not-true _ (and-left (delayed (s .control)) _ e)));
+          delayed = inl refl;
           flags = omega arith;
         })
 
@@ -135,7 +113,7 @@ sender-counts drawn.Inputs s master h = sending-counts _ _ _ _ _ (service-most _
 sender-counts drawn.Outputs s master h = sending-counts _ _ _ _ _ (service-most _ (h .setup .output-len .1))
 sender-counts drawn.Configuration s master h = sending-counts _ _ _ _ _ (service-most _ (h .setup .get-cfg-len .1))
 sender-counts drawn.Diagnosis s master h =
-    let l = h .diagnosis-count .1 in
+    let l = h .diagnosis-counts .count .1 in
     let u = h .setup .diagnosis-len .1 in
     sending-counts _ _ _ _ _ (service-most _ (omega arith))
 
@@ -205,14 +183,14 @@ module _ (s : State) (m : List ℕ) (h : Sound s) where
       by-test SoundTold (not (within 6 count len && leb flags 7)) _ _ (λ _. h)
       (λ e. either SoundTold (delayed (s .control)) h
       (either SoundTold (diagnosisLeaves s)
-      (sound-control s h (delaying (s .control) count flags) (s .swapped) (record { count = h .diagnosis-count; later = inr (fits e); flags = bits e }))
-      (sound-control s h (diagnosed (s .control) count flags) (not (s .swapped)) (record { count = fits e; later = inl refl; flags = omega arith }))))
+      (sound-control s h (delaying (s .control) count flags) (s .swapped) (record { count = h .diagnosis-counts .count; delayed = inr (fits e); flags = bits e }))
+      (sound-control s h (diagnosed (s .control) count flags) (not (s .swapped)) (record { count = fits e; delayed = inl refl; flags = omega arith }))))
     where
       len : ℕ
       len = s .setup .«diagnosis_len»
 
       fits : not (within 6 count len && leb flags 7) ≡ false → Within 6 count len
-      fits e = within-true 6 count len (and-left (within 6 count len) (leb flags 7) (not-false _ e))
+      fits e = within-and 6 count len (leb flags 7) (not-false _ e)
 
       bits : not (within 6 count len && leb flags 7) ≡ false → flags ≤ 7
       bits e = leb-true flags 7 (and-right (within 6 count len) (leb flags 7) (not-false _ e))
@@ -236,7 +214,7 @@ module _ (s : State) (m : List ℕ) (h : Sound s) where
       either SoundTold (not (isOpen (s .configuration) && s .control .flags .«parameters_good»)) h
       (either SoundTold (not (leb j 1)) h (sound-quiet s m h (configuration-quiet (s .setup) (s .control) _ _ tt)))
   sound-after events = h
-  sound-after (acknowledge mask) = sound-control s h _ (s .swapped) (diagnosis-same s h)
+  sound-after (acknowledge mask) = sound-control s h _ (s .swapped) (h .diagnosis-counts)
   sound-after pending = h
   sound-after leave = sound-quiet s m h (clear-quiet (s .setup) (s .control) (busy s) (λ _. tt))
 

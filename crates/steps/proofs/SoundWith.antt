@@ -1,5 +1,5 @@
 -- A sound state with a part of it changed, where that part keeps the rules.
-use Prim.Native.Nat.{ℕ, _≤_}
+use Prim.Native.Nat.{_≤_}
 use native.Mathlib.Omega.{arith}
 use mathlib.Core.Bool.{Bool}
 use Rattle.buffers.specs.declared.triple.Triple.{Triple}
@@ -8,21 +8,14 @@ use Rattle.telegram.specs.declared.reader.Reader.{Reader}
 use Rattle.telegram.specs.Counts.{ReadCounts, SentCounts}
 use Rattle.telegram.proofs.Counts.{empty-counts}
 use Rattle.state.specs.declared.control.Control.{Control}
-use Rattle.state.specs.declared.control.Diagnosis.{Diagnosis}
 use Rattle.state.specs.declared.state.Incoming.{Incoming}
 use Rattle.state.specs.declared.state.Outputs.{Outputs}
 use Rattle.state.specs.declared.state.Reply.{Reply}
 use Rattle.state.specs.declared.state.State.{State}
-use Rattle.state.specs.Sound.{Within, NoneOr, Sound}
+use Rattle.state.specs.Sound.{DiagnosisCounted, Sound}
 use Rattle.state.specs.Start.{noReply}
 use Rattle.state.specs.With.{withOutputs, withInputs, withIncoming, withReply}
 use Rattle.steps.specs.Reading.{readOn, readBy, beginning}
-
--- what the diagnosis counts keep; n is the set length
-pub record DiagnosisCounts (n : ℕ) (d : Diagnosis) : Type 0 where
-  pub count : Within 6 (d .count) n
-  pub later : NoneOr 6 (d .«delayed_count») n
-  pub flags : d .«delayed_flags» ≤ 7
 
 -- what a reply keeps
 pub record ReplySound (r : Reply) : Type 0 where
@@ -32,7 +25,7 @@ pub record ReplySound (r : Reply) : Type 0 where
 module _ (s : State) (h : Sound s) where
   -- all but the setup and the sets of parameters and of configuration
   with-others : (c : Control) (o : Outputs) (t : Triple) (swapped : Bool) (i : Incoming) (r : Reply)
-      → DiagnosisCounts (s .setup .«diagnosis_len») (c .diagnosis) → Permutation (o .set .place) → Permutation (t .place) → ReadCounts (i .reader) → ReplySound r
+      → DiagnosisCounted (s .setup .«diagnosis_len») (c .diagnosis) → Permutation (o .set .place) → Permutation (t .place) → ReadCounts (i .reader) → ReplySound r
       → Sound (record { setup = s .setup; control = c; outputs = o; inputs = t; parameters = s .parameters; configuration = s .configuration; swapped = swapped; incoming = i; reply = r })
   with-others c o t swapped i r d p q a b = record {
     setup = h .setup;
@@ -40,51 +33,40 @@ module _ (s : State) (h : Sound s) where
     inputs = q;
     parameters = h .parameters;
     configuration = h .configuration;
-    parameters-shown = h .parameters-shown;
-    parameters-waiting = h .parameters-waiting;
-    configuration-shown = h .configuration-shown;
-    configuration-waiting = h .configuration-waiting;
-    parameters-fresh = h .parameters-fresh;
-    configuration-fresh = h .configuration-fresh;
-    parameters-behind = h .parameters-behind;
-    configuration-behind = h .configuration-behind;
-    diagnosis-count = d .count;
-    delayed-count = d .later;
-    delayed-flags = d .flags;
+    parameter-counts = h .parameter-counts;
+    configuration-counts = h .configuration-counts;
+    diagnosis-counts = d;
     reading = a;
     sending = b .counts;
     place = b .place;
   }
 
-  pub diagnosis-same : DiagnosisCounts (s .setup .«diagnosis_len») (s .control .diagnosis)
-  diagnosis-same = record { count = h .diagnosis-count; later = h .delayed-count; flags = h .delayed-flags }
-
   reply-same : ReplySound (s .reply)
   reply-same = record { counts = h .sending; place = h .place }
 
   -- another control part, and which diagnosis buffer is whose
-  pub sound-control : (c : Control) (swapped : Bool) → DiagnosisCounts (s .setup .«diagnosis_len») (c .diagnosis)
+  pub sound-control : (c : Control) (swapped : Bool) → DiagnosisCounted (s .setup .«diagnosis_len») (c .diagnosis)
       → Sound (record { setup = s .setup; control = c; outputs = s .outputs; inputs = s .inputs; parameters = s .parameters; configuration = s .configuration; swapped = swapped; incoming = s .incoming; reply = s .reply })
   sound-control c swapped d = with-others c (s .outputs) (s .inputs) swapped (s .incoming) (s .reply) d (h .outputs) (h .inputs) (h .reading) reply-same
 
   -- other roles of the outputs
   pub sound-outputs : (o : Outputs) → Permutation (o .set .place) → Sound (withOutputs s o)
-  sound-outputs o p = with-others (s .control) o (s .inputs) (s .swapped) (s .incoming) (s .reply) diagnosis-same p (h .inputs) (h .reading) reply-same
+  sound-outputs o p = with-others (s .control) o (s .inputs) (s .swapped) (s .incoming) (s .reply) (h .diagnosis-counts) p (h .inputs) (h .reading) reply-same
 
   -- and of the inputs
   pub sound-inputs : (t : Triple) → Permutation (t .place) → Sound (withInputs s t)
-  sound-inputs t p = with-others (s .control) (s .outputs) t (s .swapped) (s .incoming) (s .reply) diagnosis-same (h .outputs) p (h .reading) reply-same
+  sound-inputs t p = with-others (s .control) (s .outputs) t (s .swapped) (s .incoming) (s .reply) (h .diagnosis-counts) (h .outputs) p (h .reading) reply-same
 
   -- another reading
   pub sound-incoming : (i : Incoming) → ReadCounts (i .reader) → Sound (withIncoming s i)
-  sound-incoming i a = with-others (s .control) (s .outputs) (s .inputs) (s .swapped) i (s .reply) diagnosis-same (h .outputs) (h .inputs) a reply-same
+  sound-incoming i a = with-others (s .control) (s .outputs) (s .inputs) (s .swapped) i (s .reply) (h .diagnosis-counts) (h .outputs) (h .inputs) a reply-same
 
   pub sound-read-by : (r : Reader) → ReadCounts r → Sound (readBy s r)
   sound-read-by r a = sound-incoming (readOn (s .incoming) r) a
 
   -- another reply
   pub sound-reply : (r : Reply) → ReplySound r → Sound (withReply s r)
-  sound-reply r b = with-others (s .control) (s .outputs) (s .inputs) (s .swapped) (s .incoming) r diagnosis-same (h .outputs) (h .inputs) (h .reading) b
+  sound-reply r b = with-others (s .control) (s .outputs) (s .inputs) (s .swapped) (s .incoming) r (h .diagnosis-counts) (h .outputs) (h .inputs) (h .reading) b
 
   pub sound-no-reply : Sound (withReply s noReply)
   sound-no-reply = sound-reply noReply (record { counts = empty-counts; place = omega arith })
