@@ -1,37 +1,37 @@
 -- The ranges of a setup as tests and as facts, and that Start accepts a setup exactly if it is in them.
 use Prim.Native.Nat.{ℕ, _≤_}
 use native.Mathlib.Omega.{arith}
-use mathlib.Core.Path.{_≡_, refl, ap, _∙_}
+use mathlib.Core.Path.{_≡_, refl}
 use mathlib.Core.Bool.{Bool, true, false, not, cond}
 use mathlib.Core.List.{[], _∷_}
 use lib.Dec.{ltb}
-use borrow.Author.Tests.{leb-true, le-leb, ltb-false, le-ltb}
+use borrow.Author.Tests.{ltb-false, le-ltb}
 use Rattle.state.specs.declared.answer.Refusal.the-variants.{Address, Length}
 use Rattle.state.specs.declared.setup.Setup.{Setup}
 use Rattle.state.specs.declared.start.Asked.the-variants.{Accepted, Declined}
 use Rattle.state.specs.Sound.{Ranged}
 use Rattle.state.specs.Start.{lengthsOk, asked}
-use Rattle.state.specs.Well.{all, lengthTests, setupTests}
+use Rattle.state.specs.Well.{all, lengthTests}
 use Rattle.state.proofs.Tests.{all-at, within-true, within-holds}
 
-pub tests-ranged : (s : Setup) → all (setupTests s) ≡ true → Ranged s
-tests-ranged s e =
+pub tests-ranged : (s : Setup) → s .address ≤ 126 → all (lengthTests s) ≡ true → Ranged s
+tests-ranged s a e =
     record {
-      address = leb-true (s .address) 126 (all-at (setupTests s) 0 e);
-      output-len = within-true 1 (s .«output_len») 244 (all-at (setupTests s) 1 e);
-      input-len = within-true 1 (s .«input_len») 244 (all-at (setupTests s) 2 e);
-      parameter-len = within-true 7 (s .«parameter_len») 244 (all-at (setupTests s) 3 e);
-      configuration-len = within-true 1 (s .«configuration_len») 244 (all-at (setupTests s) 4 e);
-      diagnosis-len = within-true 6 (s .«diagnosis_len») 244 (all-at (setupTests s) 5 e);
-      get-cfg-len = within-true 1 (s .«get_cfg_len») 244 (all-at (setupTests s) 6 e);
+      address = a;
+      output-len = within-true 1 (s .«output_len») 244 (all-at (lengthTests s) 0 e);
+      input-len = within-true 1 (s .«input_len») 244 (all-at (lengthTests s) 1 e);
+      parameter-len = within-true 7 (s .«parameter_len») 244 (all-at (lengthTests s) 2 e);
+      configuration-len = within-true 1 (s .«configuration_len») 244 (all-at (lengthTests s) 3 e);
+      diagnosis-len = within-true 6 (s .«diagnosis_len») 244 (all-at (lengthTests s) 4 e);
+      get-cfg-len = within-true 1 (s .«get_cfg_len») 244 (all-at (lengthTests s) 5 e);
     }
 
 pub lengths-ranged : (s : Setup) → s .address ≤ 126 → lengthsOk s ≡ true → Ranged s
 unfolding lengthsOk
-lengths-ranged s a e = tests-ranged s (ap (λ (b : Bool). all (b ∷ lengthTests s)) (le-leb (s .address) 126 a) ∙ e)
+lengths-ranged s a e = tests-ranged s a e
 
--- the address aside
-lengths-hold : (s : Setup) → Ranged s → all (lengthTests s) ≡ true
+-- and back
+pub lengths-hold : (s : Setup) → Ranged s → all (lengthTests s) ≡ true
 lengths-hold s r =
     λ i.
     all
@@ -42,10 +42,6 @@ lengths-hold s r =
     ∷ within-holds 6 (s .«diagnosis_len») 244 (r .diagnosis-len) i
     ∷ within-holds 1 (s .«get_cfg_len») 244 (r .get-cfg-len) i
     ∷ [])
-
--- all of them
-pub ranged-tests : (s : Setup) → Ranged s → all (setupTests s) ≡ true
-ranged-tests s r = ap (λ (t : Bool). all (t ∷ lengthTests s)) (le-leb (s .address) 126 (r .address)) ∙ lengths-hold s r
 
 -- what is accepted is what was given, in its ranges
 pub record Accepts (s t : Setup) : Type 0 where

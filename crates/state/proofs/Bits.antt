@@ -1,5 +1,5 @@
 -- Eight marks in one octet, and back.
-use Prim.Native.Nat.{ℕ, _+_, _*_, _/_, _%_, _≤_, _<_}
+use Prim.Native.Nat.{ℕ, zero, suc, _+_, _*_, _/_, _%_, _≤_, _<_}
 use native.Mathlib.Omega.{arith}
 use mathlib.Core.Path.{_≡_, refl, ap}
 use mathlib.Core.Bool.{Bool, true, false}
@@ -30,9 +30,15 @@ bit-le true = omega arith
 bit-le false = omega arith
 
 -- a mark comes back from its number
-bit-in : (b : Bool) (n : ℕ) → n ≡ bitOf b → eqb n 1 ≡ b
+pub bit-in : (b : Bool) (n : ℕ) → n ≡ bitOf b → eqb n 1 ≡ b
 bit-in true n h = ap (λ (k : ℕ). eqb k 1) h
 bit-in false n h = ap (λ (k : ℕ). eqb k 1) h
+
+-- and its number from it
+pub mark-coded : (n : ℕ) → n ≤ 1 → bitOf (eqb n 1) ≡ n
+mark-coded zero h = refl
+mark-coded (suc zero) h = refl
+mark-coded (suc (suc n)) h = absurd (omega arith)
 
 -- each mark comes back from the sum
 pub marked : (x : ℕ) (b₀ b₁ b₂ b₃ b₄ b₅ b₆ b₇ : Bool) → x ≡ sum b₀ b₁ b₂ b₃ b₄ b₅ b₆ b₇ → Marked x b₀ b₁ b₂ b₃ b₄ b₅ b₆ b₇
@@ -57,7 +63,7 @@ marked x b₀ b₁ b₂ b₃ b₄ b₅ b₆ b₇ e =
     }
 
 -- bit 0 as a number
-odd-bit : (n : ℕ) → bitOf (odd n) ≡ n % 2
+pub odd-bit : (n : ℕ) → bitOf (odd n) ≡ n % 2
 odd-bit n = go (odd n) refl
   where
     go : (t : Bool) → odd n ≡ t → bitOf t ≡ n % 2

@@ -3,6 +3,7 @@ pub mod Numbers
 pub mod Tests
 pub mod Choice
 pub mod Bits
+pub mod SetCodes
 pub mod LineCounts
 pub mod Round
 pub mod Places

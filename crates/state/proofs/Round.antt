@@ -1,29 +1,30 @@
 -- A sound state and its image are each other's: the octets that pass the tests are the images of the sound states.
 use Prim.Native.Nat.{ℕ, zero, suc, _+_, _/_, _%_, _≤_, _<_}
 use native.Mathlib.Omega.{arith}
-use native.Mathlib.Nat.{mod-add-div, div-eq-of-lt}
+use native.Mathlib.Nat.{mod-add-div}
 use mathlib.Core.Path.{_≡_, refl, sym, ap, subst, _∙_}
-use mathlib.Core.Bool.{true, false, not}
+use mathlib.Core.Bool.{Bool, true}
 use mathlib.Core.List.{List, [], _∷_, _++_}
 use lib.ListN.{length, getD, take, drop, take-append-drop}
-use lib.Dec.{eqb, ltb}
+use lib.Dec.{leb, eqb}
 use lib.Seq.{drop-cons}
-use borrow.Author.Tests.{leb-true, le-leb, ltb-true, lt-ltb, eqb-true}
+use borrow.Author.Tests.{leb-true, le-leb, eqb-true}
 use Rattle.buffers.specs.Number.{numberOf, placesOf}
 use Rattle.buffers.proofs.Numbers.{number-below, number-places, places-permutation, places-number}
 use Rattle.state.specs.declared.control.Flags.{Flags}
 use Rattle.state.specs.declared.state.State.{State}
 use Rattle.state.specs.Number.{readingNumber, kindNumber, stageNumber, phaseNumber, drawnNumber}
 use Rattle.state.specs.Layout.{stateLength}
-use Rattle.state.specs.Image.{bitOf, flagsOf, marksOf, image}
-use Rattle.state.specs.Unpack.{wordAt, bitAt, marksIn, setupIn, flagsIn, readerIn, senderIn, unpacked}
+use Rattle.state.specs.Image.{bitOf, flagsOf, outputsCode, inputsCode, image}
+use Rattle.state.specs.Unpack.{wordAt, setupIn, flagsIn, readerIn, senderIn, unpacked}
 use Rattle.state.specs.Sound.{Sound}
-use Rattle.state.specs.Well.{all, setupTests, lineTests, caseTests, roleTests, setTests, diagnosisTests, unusedTests, imageTests, wellImage}
+use Rattle.state.specs.Well.{all, lengthTests, lengthsTests, countTests, lineTests, codeTests, imageTests, wellImage}
 use Rattle.state.proofs.Numbers.{reading-back, reading-counted, reading-le, kind-back, kind-counted, kind-le, stage-back, stage-counted, stage-le, phase-back, phase-counted, phase-le, drawn-back, drawn-counted, drawn-le}
-use Rattle.state.proofs.Asking.{tests-ranged, ranged-tests}
-use Rattle.state.proofs.Tests.{all-at, within-true, within-holds, none-or-true, none-or-holds, set-counts-true, set-counts-holds, beq-true, beq-holds}
+use Rattle.state.proofs.Asking.{tests-ranged, lengths-hold}
+use Rattle.state.proofs.Tests.{all-at, all-behind, within-true, within-holds, none-or-true, none-or-holds, set-counts-true, set-counts-holds}
 use Rattle.state.proofs.LineCounts.{reading-before, reading-numbered, stage-before, stage-numbered, part-true, part-holds}
-use Rattle.state.proofs.Bits.{bit-le, Marked, marked, sum-marks}
+use Rattle.state.proofs.Bits.{bit-le, bit-in, mark-coded, marked, sum-marks}
+use Rattle.state.proofs.SetCodes.{outputs-back, outputs-coded, outputs-below, inputs-back, inputs-coded, inputs-below}
 
 -- the image has its length
 pub image-length : (s : State) → length (image s) ≡ stateLength
@@ -57,29 +58,11 @@ flags-back f =
       «parameters_good» = b .bit₇ i;
     }
 
--- the octet of marks has the state's marks
-abbrev MarksOf : State → Type 0
-MarksOf s =
-    Marked (marksOf s)
-    (s .outputs .set .fresh)
-    (s .outputs .zeros)
-    (s .inputs .fresh)
-    (s .parameters .set .fresh)
-    (s .configuration .set .fresh)
-    (s .swapped)
-    (s .control .noted)
-    false
-
--- the marks come back from their octet
-marks-back : (s : State) → MarksOf s
-marks-back s = marked (marksOf s) _ _ _ _ _ _ _ false (omega arith)
-
 -- a sound state comes back from its image, whatever lies behind it
 pub round : (s : State) → Sound s → (r : List ℕ) → unpacked (image s ++ r) ≡ s
 unfolding image unpacked
 round s h r =
     let l = image s ++ r in
-    let b = marks-back s in
     let c = s .control in
     let reader = s .incoming .reader in
     let sender = s .reply .sender in
@@ -95,24 +78,28 @@ round s h r =
             watchdog = record { reload = mod-add-div (c .watchdog .reload) 256 i; remaining = mod-add-div (c .watchdog .remaining) 256 i };
             flags = flags-back (c .flags) i;
             events = record { word = mod-add-div (c .events .word) 256 i };
-            noted = b .bit₆ i;
+            noted = bit-in (c .noted) (bitOf (c .noted)) refl i;
             diagnosis = c .diagnosis;
           };
-      outputs = record { set = record { place = places-number (s .outputs .set .place) (h .outputs) i; fresh = b .bit₀ i }; zeros = b .bit₁ i };
-      inputs = record { place = places-number (s .inputs .place) (h .inputs) i; fresh = b .bit₂ i };
+      outputs = outputs-back (s .outputs) (h .outputs) i;
+      inputs = inputs-back (s .inputs) (h .inputs) i;
       parameters =
           record {
-            set = record { place = places-number (s .parameters .set .place) (h .parameters) i; fresh = b .bit₃ i };
+            set = record { place = places-number (s .parameters .set .place) (h .parameters) i; fresh = sym (h .parameter-counts .fresh) i };
             shown = s .parameters .shown;
             waiting = s .parameters .waiting;
           };
       configuration =
           record {
-            set = record { place = places-number (s .configuration .set .place) (h .configuration) i; fresh = b .bit₄ i };
+            set =
+                record {
+                  place = places-number (s .configuration .set .place) (h .configuration) i;
+                  fresh = sym (h .configuration-counts .fresh) i;
+                };
             shown = s .configuration .shown;
             waiting = s .configuration .waiting;
           };
-      swapped = b .bit₅ i;
+      swapped = bit-in (s .swapped) (bitOf (s .swapped)) refl i;
       incoming =
           record {
             reader = readerIn l (reading-back (reader .phase) i) (kind-back (reader .kind) i);
@@ -132,77 +119,58 @@ round s h r =
 pub image-injective : (s t : State) → Sound s → Sound t → image s ≡ image t → s ≡ t
 image-injective s t hs ht e = sym (round s hs []) ∙ ap (λ (l : List ℕ). unpacked (l ++ [])) e ∙ round t ht []
 
--- the marks leave bit 7 free
-marks-below : (s : State) → marksOf s < 128
-marks-below s =
-    let b₀ = bit-le (s .outputs .set .fresh) in
-    let b₁ = bit-le (s .outputs .zeros) in
-    let b₂ = bit-le (s .inputs .fresh) in
-    let b₃ = bit-le (s .parameters .set .fresh) in
-    let b₄ = bit-le (s .configuration .set .fresh) in
-    let b₅ = bit-le (s .swapped) in
-    let b₆ = bit-le (s .control .noted) in
-    omega arith
+-- the number of roles passes
+roles-pass : (l : List ℕ) → leb (numberOf l) 5 ≡ true
+roles-pass l = let n = number-below l in le-leb (numberOf l) 5 (omega arith)
+
+-- a mark passes
+mark-passes : (b : Bool) → leb (bitOf b) 1 ≡ true
+mark-passes b = le-leb (bitOf b) 1 (bit-le b)
 
 -- the image of a sound state, whatever lies behind it
 module _ (s : State) (h : Sound s) (r : List ℕ) where
-  -- the address and the lengths pass
-  setup-well : all (setupTests (setupIn (image s ++ r) 0)) ≡ true
+  -- the lengths pass
+  lengths-well : all (lengthsTests (image s ++ r)) ≡ true
   unfolding image
-  setup-well = ranged-tests (s .setup) (h .setup)
+  lengths-well = lengths-hold (s .setup) (h .setup)
 
-  -- the cases of the enums pass
-  cases-well : all (caseTests (image s ++ r)) ≡ true
+  -- the codes pass
+  codes-well : all (codeTests (image s ++ r)) ≡ true
   unfolding image
-  cases-well =
+  codes-well =
       λ i.
       all
-      (le-leb (phaseNumber (s .control .phase)) 2 (phase-le (s .control .phase)) i
-      ∷ le-leb (readingNumber (s .incoming .reader .phase)) 12 (reading-le (s .incoming .reader .phase)) i
-      ∷ le-leb (kindNumber (s .incoming .reader .kind)) 3 (kind-le (s .incoming .reader .kind)) i
+      (le-leb (kindNumber (s .reply .sender .kind)) 3 (kind-le (s .reply .sender .kind)) i
       ∷ le-leb (stageNumber (s .reply .sender .stage)) 10 (stage-le (s .reply .sender .stage)) i
-      ∷ le-leb (kindNumber (s .reply .sender .kind)) 3 (kind-le (s .reply .sender .kind)) i
       ∷ le-leb (drawnNumber (s .reply .drawn)) 8 (drawn-le (s .reply .drawn)) i
-      ∷ [])
-
-  -- the marks, the roles and the place pass
-  roles-well : all (roleTests (image s ++ r)) ≡ true
-  unfolding image
-  roles-well =
-      λ i.
-      all
-      (lt-ltb (marksOf s) 128 (marks-below s) i
-      ∷ lt-ltb (numberOf (s .outputs .set .place)) 6 (number-below (s .outputs .set .place)) i
-      ∷ lt-ltb (numberOf (s .inputs .place)) 6 (number-below (s .inputs .place)) i
-      ∷ lt-ltb (numberOf (s .parameters .set .place)) 6 (number-below (s .parameters .set .place)) i
-      ∷ lt-ltb (numberOf (s .configuration .set .place)) 6 (number-below (s .configuration .set .place)) i
       ∷ le-leb (s .reply .place) 2 (h .place) i
+      ∷ le-leb (s .setup .address) 126 (h .setup .address) i
+      ∷ le-leb (phaseNumber (s .control .phase)) 2 (phase-le (s .control .phase)) i
+      ∷ le-leb (outputsCode (s .outputs)) 23 (outputs-below (s .outputs)) i
+      ∷ le-leb (inputsCode (s .inputs)) 11 (inputs-below (s .inputs)) i
+      ∷ roles-pass (s .parameters .set .place) i
+      ∷ roles-pass (s .configuration .set .place) i
+      ∷ le-leb (s .control .diagnosis .«delayed_flags») 7 (h .diagnosis-counts .flags) i
+      ∷ mark-passes (s .control .noted) i
+      ∷ mark-passes (s .swapped) i
+      ∷ true
+      ∷ le-leb (kindNumber (s .incoming .reader .kind)) 3 (kind-le (s .incoming .reader .kind)) i
+      ∷ le-leb (readingNumber (s .incoming .reader .phase)) 12 (reading-le (s .incoming .reader .phase)) i
       ∷ [])
 
-  -- the sets that are shown and that wait pass
-  sets-well : all (setTests (image s ++ r)) ≡ true
+  -- the counts of diagnosis and of the sets pass
+  counts-well : all (countTests (image s ++ r)) ≡ true
   unfolding image
-  sets-well =
-      let p = s .parameters in
-      let c = s .configuration in
-      λ i.
-      all
-      (set-counts-holds 7 (s .setup .«parameter_len») p (h .parameter-counts) i
-      ∷ beq-holds (bitAt (marksOf s) 8) (not (eqb (p .waiting) 0)) (marks-back s .bit₃ ∙ h .parameter-counts .fresh) i
-      ∷ set-counts-holds 1 (s .setup .«configuration_len») c (h .configuration-counts) i
-      ∷ beq-holds (bitAt (marksOf s) 16) (not (eqb (c .waiting) 0)) (marks-back s .bit₄ ∙ h .configuration-counts .fresh) i
-      ∷ [])
-
-  -- diagnosis passes
-  diagnosis-well : all (diagnosisTests (image s ++ r)) ≡ true
-  unfolding image
-  diagnosis-well =
+  counts-well =
       let d = s .control .diagnosis in
       λ i.
       all
       (within-holds 6 (d .count) (s .setup .«diagnosis_len») (h .diagnosis-counts .count) i
       ∷ none-or-holds 6 (d .«delayed_count») (s .setup .«diagnosis_len») (h .diagnosis-counts .delayed) i
-      ∷ le-leb (d .«delayed_flags») 7 (h .diagnosis-counts .flags) i
+      ∷ set-counts-holds 7 (s .setup .«parameter_len») (s .parameters) (h .parameter-counts) i
+      ∷ set-counts-holds 1 (s .setup .«configuration_len») (s .configuration) (h .configuration-counts) i
+      ∷ true
+      ∷ true
       ∷ [])
 
   -- the counts of the telegram and of the reply pass
@@ -222,7 +190,7 @@ module _ (s : State) (h : Sound s) (r : List ℕ) where
   -- it passes the tests
   pub image-well : wellImage (image s ++ r) ≡ true
   unfolding image wellImage
-  image-well = λ i. all (setup-well i ∷ line-well i ∷ cases-well i ∷ roles-well i ∷ sets-well i ∷ diagnosis-well i ∷ true ∷ [])
+  image-well = λ i. all (counts-well i ∷ line-well i ∷ codes-well i ∷ lengths-well i ∷ [])
 
 -- a memory whose first octets are the image of a sound state passes the tests
 pub front-well : (m : List ℕ) (s : State) → Sound s → image s ≡ take stateLength m → wellImage m ≡ true
@@ -230,36 +198,45 @@ front-well m s h e =
     let rest = drop stateLength m in
     subst (λ (l : List ℕ). wellImage l ≡ true) (ap (λ (l : List ℕ). l ++ rest) e ∙ take-append-drop stateLength m) (image-well s h rest)
 
+-- the octets at their limits, from the test of the codes
+code-at : (m : List ℕ) → all (codeTests m) ≡ true → (k : ℕ) → getD (codeTests m) k true ≡ true
+code-at m h k = all-at (codeTests m) k h
+
+-- the lengths, from the test of their word
+pub lengths-in : (m : List ℕ) → all (lengthsTests m) ≡ true → all (lengthTests (setupIn m 0)) ≡ true
+lengths-in m h = all-behind (eqb (getD m 55 0) 0) (lengthTests (setupIn m 0)) (all-behind (eqb (getD m 54 0) 0) (eqb (getD m 55 0) 0 ∷ lengthTests (setupIn m 0)) h)
+
 -- octets that pass the tests hold a sound state
 pub well-sound : (m : List ℕ) → wellImage m ≡ true → Sound (unpacked m)
 unfolding wellImage unpacked
 well-sound m h =
-    let setup = all-at (imageTests m) 0 h in
+    let counts = all-at (imageTests m) 0 h in
     let line = all-at (imageTests m) 1 h in
-    let cases = all-at (imageTests m) 2 h in
-    let roles = all-at (imageTests m) 3 h in
-    let sets = all-at (imageTests m) 4 h in
-    let diagnosis = all-at (imageTests m) 5 h in
-    let phase-in = leb-true (getD m 32 0) 12 (all-at (caseTests m) 1 cases) in
-    let stage-in = leb-true (getD m 44 0) 10 (all-at (caseTests m) 3 cases) in
-    let reading = part-true 9 (getD m 32 0) (getD m 34 0) (getD m 35 0) (reading-numbered (getD m 32 0) phase-in) (all-at (lineTests m) 1 line) in
-    let sending = part-true 7 (getD m 44 0) (getD m 46 0) (getD m 47 0) (stage-numbered (getD m 44 0) stage-in) (all-at (lineTests m) 3 line) in
+    let codes = all-at (imageTests m) 2 h in
+    let reading =
+    part-true 9 (getD m 31 0) (getD m 32 0) (getD m 33 0) (reading-numbered (getD m 31 0) (leb-true (getD m 31 0) 12 (code-at m codes 15)))
+    (all-at (lineTests m) 1 line)
+    in
+    let sending =
+    part-true 7 (getD m 17 0) (getD m 14 0) (getD m 15 0) (stage-numbered (getD m 17 0) (leb-true (getD m 17 0) 10 (code-at m codes 1)))
+    (all-at (lineTests m) 3 line)
+    in
     record {
-      setup = tests-ranged (setupIn m (wordAt m 1)) setup;
-      outputs = places-permutation (getD m 19 0);
-      inputs = places-permutation (getD m 20 0);
-      parameters = places-permutation (getD m 21 0);
-      configuration = places-permutation (getD m 22 0);
-      parameter-counts = set-counts-true 7 (getD m 5 0) _ (all-at (setTests m) 0 sets) (beq-true (bitAt (marksIn m) 8) (not (eqb (getD m 24 0) 0)) (all-at (setTests m) 1 sets));
-      configuration-counts = set-counts-true 1 (getD m 6 0) _ (all-at (setTests m) 2 sets) (beq-true (bitAt (marksIn m) 16) (not (eqb (getD m 26 0) 0)) (all-at (setTests m) 3 sets));
+      setup = tests-ranged (setupIn m (wordAt m 46)) (leb-true (getD m 20 0) 126 (code-at m codes 4)) (lengths-in m (all-at (imageTests m) 3 h));
+      outputs = places-permutation (getD m 22 0 / 4);
+      inputs = places-permutation (getD m 23 0 / 2);
+      parameters = places-permutation (getD m 24 0);
+      configuration = places-permutation (getD m 25 0);
+      parameter-counts = set-counts-true 7 (getD m 50 0) _ (all-at (countTests m) 2 counts) refl;
+      configuration-counts = set-counts-true 1 (getD m 51 0) _ (all-at (countTests m) 3 counts) refl;
       diagnosis-counts = record {
-        count = within-true 6 (getD m 27 0) (getD m 7 0) (all-at (diagnosisTests m) 0 diagnosis);
-        delayed = none-or-true 6 (getD m 28 0) (getD m 7 0) (all-at (diagnosisTests m) 1 diagnosis);
-        flags = leb-true (getD m 29 0) 7 (all-at (diagnosisTests m) 2 diagnosis);
+        count = within-true 6 (getD m 56 0) (getD m 52 0) (all-at (countTests m) 0 counts);
+        delayed = none-or-true 6 (getD m 57 0) (getD m 52 0) (all-at (countTests m) 1 counts);
+        flags = leb-true (getD m 26 0) 7 (code-at m codes 10);
       };
-      reading = record { count = leb-true (getD m 34 0) 246 (all-at (lineTests m) 0 line); read = reading .0; none-yet = reading .1 };
-      sending = record { count = leb-true (getD m 46 0) 246 (all-at (lineTests m) 2 line); sent = sending .0; none-yet = sending .1 };
-      place = leb-true (getD m 53 0) 2 (all-at (roleTests m) 5 roles);
+      reading = record { count = leb-true (getD m 32 0) 246 (all-at (lineTests m) 0 line); read = reading .0; none-yet = reading .1 };
+      sending = record { count = leb-true (getD m 14 0) 246 (all-at (lineTests m) 2 line); sent = sending .0; none-yet = sending .1 };
+      place = leb-true (getD m 19 0) 2 (code-at m codes 3);
     }
 
 -- n octets from i on, one by one
@@ -281,64 +258,61 @@ low-at m i h = omega arith
 high-at : (m : List ℕ) (i : ℕ) → getD m i 0 < 256 → wordAt m i / 256 ≡ getD m (i + 1) 0
 high-at m i h = omega arith
 
+-- a mark
+mark-at : (m : List ℕ) (i : ℕ) → leb (getD m i 0) 1 ≡ true → bitOf (eqb (getD m i 0) 1) ≡ getD m i 0
+mark-at m i e = mark-coded (getD m i 0) (leb-true (getD m i 0) 1 e)
+
 -- the roles of a set of three
-role-at : (m : List ℕ) (i : ℕ) → ltb (getD m i 0) 6 ≡ true → numberOf (placesOf (getD m i 0)) ≡ getD m i 0
-role-at m i e = number-places (getD m i 0) (ltb-true (getD m i 0) 6 e)
+role-at : (m : List ℕ) (i : ℕ) → leb (getD m i 0) 5 ≡ true → numberOf (placesOf (getD m i 0)) ≡ getD m i 0
+role-at m i e = let h = leb-true (getD m i 0) 5 e in number-places (getD m i 0) (omega arith)
 
 -- an octet that is not used
 zero-at : (m : List ℕ) (i : ℕ) → eqb (getD m i 0) 0 ≡ true → 0 ≡ getD m i 0
 zero-at m i e = sym (eqb-true (getD m i 0) 0 e)
 
--- the marks' octet is the sum of its marks where bit 7 is 0
-marks-sum : (m : List ℕ) → marksIn m < 128 → marksOf (unpacked m) ≡ marksIn m
-unfolding unpacked
-marks-sum m h =
-    let x = marksIn m in
-    let e = sum-marks x (omega arith) in
-    let z : bitOf (bitAt x 128) ≡ 0 = ap (λ (n : ℕ). bitOf (eqb (n % 2) 1)) (div-eq-of-lt h) in
-    omega arith
-
 -- the image of the state that they hold, octet by octet
 image-spread : (m : List ℕ) → ((i : ℕ) → getD m i 0 < 256) → wellImage m ≡ true → image (unpacked m) ≡ spread m 0 stateLength
 unfolding image wellImage unpacked
 image-spread m small h =
-    let cases = all-at (imageTests m) 2 h in
-    let roles = all-at (imageTests m) 3 h in
-    let rest = all-at (imageTests m) 6 h in
+    let counts = all-at (imageTests m) 0 h in
+    let codes = code-at m (all-at (imageTests m) 2 h) in
+    let lengths = all-at (imageTests m) 3 h in
+    let none = leb-true (getD m 29 0) 0 (codes 13) in
+    let free : 0 ≡ getD m 29 0 = omega arith in
     λ i.
-    spread m 0 1
-    ++ low-at m 1 (small 1) i
-    ∷ high-at m 1 (small 1) i
-    ∷ spread m 3 6
-    ++ phase-counted (getD m 9 0) (leb-true (getD m 9 0) 2 (all-at (caseTests m) 0 cases)) i
-    ∷ spread m 10 3
-    ++ low-at m 13 (small 13) i
-    ∷ high-at m 13 (small 13) i
-    ∷ low-at m 15 (small 15) i
-    ∷ high-at m 15 (small 15) i
-    ∷ sum-marks (getD m 17 0) (small 17) i
-    ∷ marks-sum m (ltb-true (marksIn m) 128 (all-at (roleTests m) 0 roles)) i
-    ∷ role-at m 19 (all-at (roleTests m) 1 roles) i
-    ∷ role-at m 20 (all-at (roleTests m) 2 roles) i
-    ∷ role-at m 21 (all-at (roleTests m) 3 roles) i
-    ∷ role-at m 22 (all-at (roleTests m) 4 roles) i
-    ∷ spread m 23 7
-    ++ low-at m 30 (small 30) i
-    ∷ high-at m 30 (small 30) i
-    ∷ reading-counted (getD m 32 0) (leb-true (getD m 32 0) 12 (all-at (caseTests m) 1 cases)) i
-    ∷ kind-counted (getD m 33 0) (leb-true (getD m 33 0) 3 (all-at (caseTests m) 2 cases)) i
-    ∷ spread m 34 10
-    ++ stage-counted (getD m 44 0) (leb-true (getD m 44 0) 10 (all-at (caseTests m) 3 cases)) i
-    ∷ kind-counted (getD m 45 0) (leb-true (getD m 45 0) 3 (all-at (caseTests m) 4 cases)) i
-    ∷ spread m 46 6
-    ++ drawn-counted (getD m 52 0) (leb-true (getD m 52 0) 8 (all-at (caseTests m) 5 cases)) i
-    ∷ spread m 53 5
-    ++ zero-at m 58 (all-at (unusedTests m) 0 rest) i
-    ∷ zero-at m 59 (all-at (unusedTests m) 1 rest) i
-    ∷ zero-at m 60 (all-at (unusedTests m) 2 rest) i
-    ∷ zero-at m 61 (all-at (unusedTests m) 3 rest) i
-    ∷ zero-at m 62 (all-at (unusedTests m) 4 rest) i
-    ∷ zero-at m 63 (all-at (unusedTests m) 5 rest) i
+    spread m 0 3
+    ++ sum-marks (getD m 3 0) (small 3) i
+    ∷ low-at m 4 (small 4) i
+    ∷ high-at m 4 (small 4) i
+    ∷ spread m 6 10
+    ++ kind-counted (getD m 16 0) (leb-true (getD m 16 0) 3 (codes 0)) i
+    ∷ stage-counted (getD m 17 0) (leb-true (getD m 17 0) 10 (codes 1)) i
+    ∷ drawn-counted (getD m 18 0) (leb-true (getD m 18 0) 8 (codes 2)) i
+    ∷ spread m 19 2
+    ++ phase-counted (getD m 21 0) (leb-true (getD m 21 0) 2 (codes 5)) i
+    ∷ outputs-coded (getD m 22 0) (leb-true (getD m 22 0) 23 (codes 6)) i
+    ∷ inputs-coded (getD m 23 0) (leb-true (getD m 23 0) 11 (codes 7)) i
+    ∷ role-at m 24 (codes 8) i
+    ∷ role-at m 25 (codes 9) i
+    ∷ getD m 26 0
+    ∷ mark-at m 27 (codes 11) i
+    ∷ mark-at m 28 (codes 12) i
+    ∷ free i
+    ∷ kind-counted (getD m 30 0) (leb-true (getD m 30 0) 3 (codes 14)) i
+    ∷ reading-counted (getD m 31 0) (leb-true (getD m 31 0) 12 (codes 15)) i
+    ∷ spread m 32 10
+    ++ low-at m 42 (small 42) i
+    ∷ high-at m 42 (small 42) i
+    ∷ low-at m 44 (small 44) i
+    ∷ high-at m 44 (small 44) i
+    ∷ low-at m 46 (small 46) i
+    ∷ high-at m 46 (small 46) i
+    ∷ spread m 48 6
+    ++ zero-at m 54 (all-at (lengthsTests m) 0 lengths) i
+    ∷ zero-at m 55 (all-at (lengthsTests m) 1 lengths) i
+    ∷ spread m 56 6
+    ++ zero-at m 62 (all-at (countTests m) 4 counts) i
+    ∷ zero-at m 63 (all-at (countTests m) 5 counts) i
     ∷ []
 
 -- octets that pass the tests are the image of the state that they hold

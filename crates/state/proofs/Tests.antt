@@ -3,7 +3,7 @@ use Prim.Native.Nat.{ℕ, zero, suc}
 use native.Mathlib.Omega.{arith}
 use mathlib.Core.Path.{_≡_, refl, sym, ap, _∙_}
 use mathlib.Core.Logic.{inl, inr, ⊎-elim}
-use mathlib.Core.Bool.{Bool, true, false, cond, _&&_, _||_, Bool·beq, not, false≢true}
+use mathlib.Core.Bool.{Bool, true, false, cond, _&&_, _||_, not, false≢true}
 use mathlib.Core.List.{List, [], _∷_}
 use lib.Dec.{leb, eqb}
 use lib.ListN.{getD}
@@ -24,6 +24,10 @@ from-rest : (a : Bool) (l : List Bool) → allFrom a l ≡ true → all l ≡ tr
 from-rest a [] h = refl
 from-rest true (b ∷ l) h = h
 from-rest false (b ∷ l) h = absurd (let e : false ≡ true = from-first false l h in let z : _≡_ {A = ℕ} 0 1 = cc in omega arith)
+
+-- the others
+pub all-behind : (a : Bool) (l : List Bool) → all (a ∷ l) ≡ true → all l ≡ true
+all-behind a l h = from-rest a l h
 
 -- each of tests that all hold
 pub all-at : (l : List Bool) (i : ℕ) → all l ≡ true → getD l i true ≡ true
@@ -124,18 +128,3 @@ module _ (lo shown waiting hi : ℕ) where
 
   pub set-counts-in : (shown ≡ 0 → ⊥) → within lo shown hi ≡ true → noneOr lo waiting hi ≡ setCounts lo shown waiting hi
   set-counts-in n e = rw (ne-eqb shown 0 n, e)
-
--- marks that the test finds the same are the same
-pub beq-true : (a b : Bool) → Bool·beq a b ≡ true → a ≡ b
-beq-true true true h = refl
-beq-true false false h = refl
-beq-true true false h = absurd (let z : _≡_ {A = ℕ} 0 1 = cc in omega arith)
-beq-true false true h = absurd (let z : _≡_ {A = ℕ} 0 1 = cc in omega arith)
-
--- and back
-pub beq-holds : (a b : Bool) → a ≡ b → Bool·beq a b ≡ true
-beq-holds a b e = ap (λ (x : Bool). Bool·beq x b) e ∙ go b
-  where
-    go : (x : Bool) → Bool·beq x x ≡ true
-    go true = refl
-    go false = refl

@@ -1,23 +1,31 @@
 -- A part of the state packed alone: the memory then holds the state with that part changed.
-use Prim.Native.Nat.{ℕ, suc, _<_}
+use Prim.Native.Nat.{ℕ, suc, _/_, _%_, _≤_, _<_}
 use native.Mathlib.Omega.{arith}
-use mathlib.Core.Path.{_≡_, ap}
+use mathlib.Core.Path.{_≡_, sym, ap, _∙_}
+use mathlib.Core.Bool.{Bool}
 use mathlib.Core.List.{List, [], _∷_}
 use lib.ListN.{length, set}
+use Rattle.buffers.specs.declared.events.Events.{Events}
+use Rattle.buffers.specs.declared.triple.Triple.{Triple}
+use Rattle.buffers.specs.Number.{numberOf}
 use Rattle.telegram.specs.declared.sender.Sender.{Sender}
+use Rattle.state.specs.declared.control.Control.{Control}
 use Rattle.state.specs.declared.state.Incoming.{Incoming}
+use Rattle.state.specs.declared.state.Outputs.{Outputs}
+use Rattle.state.specs.declared.state.Reply.{Reply}
+use Rattle.state.specs.declared.state.Sets.{Sets}
 use Rattle.state.specs.declared.state.State.{State}
-use Rattle.state.specs.Image.{image}
+use Rattle.state.specs.Image.{bitOf, flagsOf, outputsCode, inputsCode, image}
 use Rattle.state.specs.Layout.{stateLength}
-use Rattle.state.specs.Memory.{kept, Holds}
-use Rattle.state.specs.Number.{readingNumber, kindNumber, stageNumber}
-use Rattle.state.specs.With.{withIncoming, withData, withSender}
-use Rattle.state.proofs.Damage.{fronted-same}
+use Rattle.state.specs.Memory.{kept, Changes}
+use Rattle.state.specs.Number.{readingNumber, kindNumber, stageNumber, phaseNumber, drawnNumber}
+use Rattle.state.proofs.Front.{kept-kept}
+use Rattle.state.specs.With.{withStanding, withEventWord, withTicks, withOutputs, withInputs, withParameters, withConfiguration, withSwapped, withIncoming, withData, withSender, withOutline}
 
 -- ---- the octets lie in the memory
 
-pub in-front : {m : List ℕ} {s : State} → Holds m s → (i : ℕ) → i < stateLength → i < length m
-in-front h i lt = let w = h .long in omega arith
+pub in-front : (m : List ℕ) → stateLength ≤ length m → (i : ℕ) → i < stateLength → i < length m
+in-front m long i lt = omega arith
 
 -- ---- octets written one after the other
 
@@ -25,59 +33,72 @@ abbrev pub wrote : List ℕ → ℕ → List ℕ → List ℕ
 wrote m i [] = m
 wrote m i (x ∷ xs) = wrote (set m i x) (suc i) xs
 
-module _ (m : List ℕ) (s : State) (h : Holds m s) where
-  -- octets 32 to 43
-  pub incoming-saved : (i : Incoming)
-      → wrote m 32
-      (readingNumber (i .reader .phase)
-      ∷ kindNumber (i .reader .kind)
-      ∷ i .reader .count
-      ∷ i .reader .at
-      ∷ i .reader .da
-      ∷ i .reader .sa
-      ∷ i .reader .fc
-      ∷ i .reader .dsap
-      ∷ i .reader .ssap
-      ∷ i .reader .sum
-      ∷ i .first
-      ∷ i .second
-      ∷ [])
-      ≡ kept (withIncoming s i) m
-  unfolding image
-  incoming-saved i =
-      ap
-      (λ (l : List ℕ).
-      wrote l 32
-      (readingNumber (i .reader .phase)
-      ∷ kindNumber (i .reader .kind)
-      ∷ i .reader .count
-      ∷ i .reader .at
-      ∷ i .reader .da
-      ∷ i .reader .sa
-      ∷ i .reader .fc
-      ∷ i .reader .dsap
-      ∷ i .reader .ssap
-      ∷ i .reader .sum
-      ∷ i .first
-      ∷ i .second
-      ∷ []))
-      (fronted-same m s h)
+-- one part after another
+pub then : (m n l : List ℕ) (f g : State → State) → Changes m n f → Changes n l g → Changes m l (λ s. g (f s))
+then m n l f g a b =
+    λ s e.
+    let c : n ≡ kept (f s) m = a s e in
+    let d : n ≡ kept (f s) n = c ∙ sym (kept-kept (f s) (f s) m) ∙ ap (kept (f s)) (sym c) in
+    b (f s) d ∙ ap (kept (g (f s))) c ∙ kept-kept (g (f s)) (f s) m
 
-  -- octets 35 and 41 to 43
-  pub data-saved : (at sum first second : ℕ)
-      → set (set (set (set m 35 at) 41 sum) 42 first) 43 second ≡ kept (withData s at sum first second) m
+-- a memory with the state s in front
+module _ (m : List ℕ) (s : State) (front : m ≡ kept s m) where
+  -- octets 30 to 41
+  pub incoming-saved : (i : Incoming) → wrote m 30 (kindNumber (i .reader .kind) ∷ readingNumber (i .reader .phase) ∷ i .reader .count ∷ i .reader .at ∷ i .reader .da ∷ i .reader .sa ∷ i .reader .fc ∷ i .reader .dsap ∷ i .reader .ssap ∷ i .reader .sum ∷ i .first ∷ i .second ∷ []) ≡ kept (withIncoming s i) m
   unfolding image
-  data-saved at sum first second = ap (λ (l : List ℕ). set (set (set (set l 35 at) 41 sum) 42 first) 43 second) (fronted-same m s h)
+  incoming-saved i = ap (λ (l : List ℕ). wrote l 30 (kindNumber (i .reader .kind) ∷ readingNumber (i .reader .phase) ∷ i .reader .count ∷ i .reader .at ∷ i .reader .da ∷ i .reader .sa ∷ i .reader .fc ∷ i .reader .dsap ∷ i .reader .ssap ∷ i .reader .sum ∷ i .first ∷ i .second ∷ [])) front
 
-  -- octets 44 to 51
-  pub sender-saved : (x : Sender)
-      → wrote m 44
-      (stageNumber (x .stage) ∷ kindNumber (x .kind) ∷ x .count ∷ x .at ∷ x .da ∷ x .sa ∷ x .fc ∷ x .sum ∷ [])
-      ≡ kept (withSender s x) m
+  -- octets 33 and 39 to 41
+  pub data-saved : (at sum first second : ℕ) → wrote (wrote m 33 (at ∷ [])) 39 (sum ∷ first ∷ second ∷ []) ≡ kept (withData s at sum first second) m
   unfolding image
-  sender-saved x =
-      ap
-      (λ (l : List ℕ).
-      wrote l 44
-      (stageNumber (x .stage) ∷ kindNumber (x .kind) ∷ x .count ∷ x .at ∷ x .da ∷ x .sa ∷ x .fc ∷ x .sum ∷ []))
-      (fronted-same m s h)
+  data-saved at sum first second = ap (λ (l : List ℕ). wrote (wrote l 33 (at ∷ [])) 39 (sum ∷ first ∷ second ∷ [])) front
+
+  -- octets 10 to 17
+  pub sender-saved : (x : Sender) → wrote (wrote m 16 (kindNumber (x .kind) ∷ stageNumber (x .stage) ∷ [])) 10 (x .da ∷ x .sa ∷ x .fc ∷ x .sum ∷ x .count ∷ x .at ∷ []) ≡ kept (withSender s x) m
+  unfolding image
+  sender-saved x = ap (λ (l : List ℕ). wrote (wrote l 16 (kindNumber (x .kind) ∷ stageNumber (x .stage) ∷ [])) 10 (x .da ∷ x .sa ∷ x .fc ∷ x .sum ∷ x .count ∷ x .at ∷ [])) front
+
+  -- octets 6 to 9, 18 and 19
+  pub outline-saved : (r : Reply) → wrote (wrote m 18 (drawnNumber (r .drawn) ∷ r .place ∷ [])) 6 (r .header .status1 ∷ r .header .status2 ∷ r .header .status3 ∷ r .header .master ∷ []) ≡ kept (withOutline s r) m
+  unfolding image
+  outline-saved r = ap (λ (l : List ℕ). wrote (wrote l 18 (drawnNumber (r .drawn) ∷ r .place ∷ [])) 6 (r .header .status1 ∷ r .header .status2 ∷ r .header .status3 ∷ r .header .master ∷ [])) front
+
+  -- octets 4 and 5
+  pub events-saved : (e : Events) → wrote m 4 (e .word % 256 ∷ e .word / 256 ∷ []) ≡ kept (withEventWord s e) m
+  unfolding image
+  events-saved e = ap (λ (l : List ℕ). wrote l 4 (e .word % 256 ∷ e .word / 256 ∷ [])) front
+
+  -- octets 42 and 43
+  pub ticks-saved : (n : ℕ) → wrote m 42 (n % 256 ∷ n / 256 ∷ []) ≡ kept (withTicks s n) m
+  unfolding image
+  ticks-saved n = ap (λ (l : List ℕ). wrote l 42 (n % 256 ∷ n / 256 ∷ [])) front
+
+  -- octets 0 to 3, 21, 26, 27, 44, 45, 56 and 57
+  pub standing-saved : (c : Control) → wrote (wrote (wrote (wrote (wrote m 21 (phaseNumber (c .phase) ∷ [])) 44 (c .watchdog .reload % 256 ∷ c .watchdog .reload / 256 ∷ [])) 0 (c .owner ∷ c .group ∷ c .stored ∷ flagsOf (c .flags) ∷ [])) 26 (c .diagnosis .«delayed_flags» ∷ bitOf (c .noted) ∷ [])) 56 (c .diagnosis .count ∷ c .diagnosis .«delayed_count» ∷ []) ≡ kept (withStanding s c) m
+  unfolding image
+  standing-saved c = ap (λ (l : List ℕ). wrote (wrote (wrote (wrote (wrote l 21 (phaseNumber (c .phase) ∷ [])) 44 (c .watchdog .reload % 256 ∷ c .watchdog .reload / 256 ∷ [])) 0 (c .owner ∷ c .group ∷ c .stored ∷ flagsOf (c .flags) ∷ [])) 26 (c .diagnosis .«delayed_flags» ∷ bitOf (c .noted) ∷ [])) 56 (c .diagnosis .count ∷ c .diagnosis .«delayed_count» ∷ [])) front
+
+  -- octet 22
+  pub outputs-saved : (o : Outputs) → wrote m 22 (outputsCode o ∷ []) ≡ kept (withOutputs s o) m
+  unfolding image
+  outputs-saved o = ap (λ (l : List ℕ). wrote l 22 (outputsCode o ∷ [])) front
+
+  -- octet 23
+  pub inputs-saved : (t : Triple) → wrote m 23 (inputsCode t ∷ []) ≡ kept (withInputs s t) m
+  unfolding image
+  inputs-saved t = ap (λ (l : List ℕ). wrote l 23 (inputsCode t ∷ [])) front
+
+  -- octets 24, 58 and 59
+  pub parameters-saved : (x : Sets) → wrote (wrote m 24 (numberOf (x .set .place) ∷ [])) 58 (x .shown ∷ x .waiting ∷ []) ≡ kept (withParameters s x) m
+  unfolding image
+  parameters-saved x = ap (λ (l : List ℕ). wrote (wrote l 24 (numberOf (x .set .place) ∷ [])) 58 (x .shown ∷ x .waiting ∷ [])) front
+
+  -- octets 25, 60 and 61
+  pub configuration-saved : (x : Sets) → wrote (wrote m 25 (numberOf (x .set .place) ∷ [])) 60 (x .shown ∷ x .waiting ∷ []) ≡ kept (withConfiguration s x) m
+  unfolding image
+  configuration-saved x = ap (λ (l : List ℕ). wrote (wrote l 25 (numberOf (x .set .place) ∷ [])) 60 (x .shown ∷ x .waiting ∷ [])) front
+
+  -- octet 28
+  pub swapped-saved : (b : Bool) → wrote m 28 (bitOf b ∷ []) ≡ kept (withSwapped s b) m
+  unfolding image
+  swapped-saved b = ap (λ (l : List ℕ). wrote l 28 (bitOf b ∷ [])) front

@@ -2,8 +2,10 @@
 use Prim.Native.Nat.{ℕ, _+_, _*_, _/_, _%_}
 use mathlib.Core.Bool.{Bool, true, false}
 use mathlib.Core.List.{List, [], _∷_}
+use Rattle.buffers.specs.declared.triple.Triple.{Triple}
 use Rattle.buffers.specs.Number.{numberOf}
 use Rattle.state.specs.declared.control.Flags.{Flags}
+use Rattle.state.specs.declared.state.Outputs.{Outputs}
 use Rattle.state.specs.declared.state.State.{State}
 use Rattle.state.specs.Number.{readingNumber, kindNumber, stageNumber, phaseNumber, drawnNumber}
 
@@ -24,58 +26,49 @@ flagsOf f =
     + 64 * bitOf (f .«diag_flag»)
     + 128 * bitOf (f .«parameters_good»)
 
--- the other marks of the state in one octet, bit 0 first; bit 7 is 0
-abbrev pub marksOf : State → ℕ
-marksOf s =
-    bitOf (s .outputs .set .fresh)
-    + 2 * bitOf (s .outputs .zeros)
-    + 4 * bitOf (s .inputs .fresh)
-    + 8 * bitOf (s .parameters .set .fresh)
-    + 16 * bitOf (s .configuration .set .fresh)
-    + 32 * bitOf (s .swapped)
-    + 64 * bitOf (s .control .noted)
+-- the output set in one octet: its roles, whether they are zeros by the station, whether they are new
+abbrev pub outputsCode : Outputs → ℕ
+outputsCode o = 4 * numberOf (o .set .place) + 2 * bitOf (o .zeros) + bitOf (o .set .fresh)
 
--- the octets 58 to 63
-abbrev pub unused : List ℕ
-unused = 0 ∷ 0 ∷ 0 ∷ 0 ∷ 0 ∷ 0 ∷ []
+-- the input set in one octet: its roles, whether next is new
+abbrev pub inputsCode : Triple → ℕ
+inputsCode t = 2 * numberOf (t .place) + bitOf (t .fresh)
 
--- the image, octet by octet from 0 on
+-- the image, octet by octet from 0 on; the octets 29, 54, 55, 62 and 63 are not used
 unfoldable pub image : State → List ℕ
 image s =
-    s .setup .address
-    ∷ s .setup .ident % 256
-    ∷ s .setup .ident / 256
-    ∷ s .setup .«output_len»
-    ∷ s .setup .«input_len»
-    ∷ s .setup .«parameter_len»
-    ∷ s .setup .«configuration_len»
-    ∷ s .setup .«diagnosis_len»
-    ∷ s .setup .«get_cfg_len»
-    ∷ phaseNumber (s .control .phase)
-    ∷ s .control .owner
+    s .control .owner
     ∷ s .control .group
     ∷ s .control .stored
-    ∷ s .control .watchdog .remaining % 256
-    ∷ s .control .watchdog .remaining / 256
-    ∷ s .control .watchdog .reload % 256
-    ∷ s .control .watchdog .reload / 256
     ∷ flagsOf (s .control .flags)
-    ∷ marksOf s
-    ∷ numberOf (s .outputs .set .place)
-    ∷ numberOf (s .inputs .place)
-    ∷ numberOf (s .parameters .set .place)
-    ∷ numberOf (s .configuration .set .place)
-    ∷ s .parameters .shown
-    ∷ s .parameters .waiting
-    ∷ s .configuration .shown
-    ∷ s .configuration .waiting
-    ∷ s .control .diagnosis .count
-    ∷ s .control .diagnosis .«delayed_count»
-    ∷ s .control .diagnosis .«delayed_flags»
     ∷ s .control .events .word % 256
     ∷ s .control .events .word / 256
-    ∷ readingNumber (s .incoming .reader .phase)
+    ∷ s .reply .header .status1
+    ∷ s .reply .header .status2
+    ∷ s .reply .header .status3
+    ∷ s .reply .header .master
+    ∷ s .reply .sender .da
+    ∷ s .reply .sender .sa
+    ∷ s .reply .sender .fc
+    ∷ s .reply .sender .sum
+    ∷ s .reply .sender .count
+    ∷ s .reply .sender .at
+    ∷ kindNumber (s .reply .sender .kind)
+    ∷ stageNumber (s .reply .sender .stage)
+    ∷ drawnNumber (s .reply .drawn)
+    ∷ s .reply .place
+    ∷ s .setup .address
+    ∷ phaseNumber (s .control .phase)
+    ∷ outputsCode (s .outputs)
+    ∷ inputsCode (s .inputs)
+    ∷ numberOf (s .parameters .set .place)
+    ∷ numberOf (s .configuration .set .place)
+    ∷ s .control .diagnosis .«delayed_flags»
+    ∷ bitOf (s .control .noted)
+    ∷ bitOf (s .swapped)
+    ∷ 0
     ∷ kindNumber (s .incoming .reader .kind)
+    ∷ readingNumber (s .incoming .reader .phase)
     ∷ s .incoming .reader .count
     ∷ s .incoming .reader .at
     ∷ s .incoming .reader .da
@@ -86,18 +79,26 @@ image s =
     ∷ s .incoming .reader .sum
     ∷ s .incoming .first
     ∷ s .incoming .second
-    ∷ stageNumber (s .reply .sender .stage)
-    ∷ kindNumber (s .reply .sender .kind)
-    ∷ s .reply .sender .count
-    ∷ s .reply .sender .at
-    ∷ s .reply .sender .da
-    ∷ s .reply .sender .sa
-    ∷ s .reply .sender .fc
-    ∷ s .reply .sender .sum
-    ∷ drawnNumber (s .reply .drawn)
-    ∷ s .reply .place
-    ∷ s .reply .header .status1
-    ∷ s .reply .header .status2
-    ∷ s .reply .header .status3
-    ∷ s .reply .header .master
-    ∷ unused
+    ∷ s .control .watchdog .remaining % 256
+    ∷ s .control .watchdog .remaining / 256
+    ∷ s .control .watchdog .reload % 256
+    ∷ s .control .watchdog .reload / 256
+    ∷ s .setup .ident % 256
+    ∷ s .setup .ident / 256
+    ∷ s .setup .«output_len»
+    ∷ s .setup .«input_len»
+    ∷ s .setup .«parameter_len»
+    ∷ s .setup .«configuration_len»
+    ∷ s .setup .«diagnosis_len»
+    ∷ s .setup .«get_cfg_len»
+    ∷ 0
+    ∷ 0
+    ∷ s .control .diagnosis .count
+    ∷ s .control .diagnosis .«delayed_count»
+    ∷ s .parameters .shown
+    ∷ s .parameters .waiting
+    ∷ s .configuration .shown
+    ∷ s .configuration .waiting
+    ∷ 0
+    ∷ 0
+    ∷ []

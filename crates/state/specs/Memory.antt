@@ -27,3 +27,7 @@ pub record Holds (m : List ℕ) (s : State) : Type 0 where
   pub sound : Sound s
   pub front : take stateLength m ≡ image s
   pub room : endOf (s .setup) ≤ length m
+
+-- a memory m becomes n: whatever state stood in front, that state changed so stands there now, and nothing else changes
+abbrev pub Changes : List ℕ → List ℕ → (State → State) → Type 0
+Changes m n change = (s : State) → m ≡ kept s m → n ≡ kept (change s) m

@@ -1,6 +1,6 @@
 -- The state that the first octets of a memory hold.
 use Prim.Native.Nat.{ℕ, _+_, _*_, _/_, _%_}
-use mathlib.Core.Bool.{Bool}
+use mathlib.Core.Bool.{Bool, not}
 use mathlib.Core.List.{List}
 use lib.Dec.{eqb}
 use lib.ListN.{getD}
@@ -15,6 +15,7 @@ use Rattle.state.specs.declared.setup.Setup.{Setup}
 use Rattle.state.specs.declared.control.Flags.{Flags}
 use Rattle.state.specs.declared.control.Diagnosis.{Diagnosis}
 use Rattle.state.specs.declared.control.Control.{Control}
+use Rattle.state.specs.declared.state.Outputs.{Outputs}
 use Rattle.state.specs.declared.state.Sets.{Sets}
 use Rattle.state.specs.declared.state.Incoming.{Incoming}
 use Rattle.state.specs.declared.state.Header.{Header}
@@ -34,22 +35,18 @@ odd x = eqb (x % 2) 1
 abbrev pub bitAt : ℕ → ℕ → Bool
 bitAt x worth = odd (x / worth)
 
--- the octet of marks
-abbrev pub marksIn : List ℕ → ℕ
-marksIn l = getD l 18 0
-
--- octets 0 to 8, the ident number handed in
+-- octet 20 and the lengths from 48 on, the ident number handed in
 abbrev pub setupIn : List ℕ → ℕ → Setup
 setupIn l ident =
     record {
-      address = getD l 0 0;
+      address = getD l 20 0;
       ident = ident;
-      «output_len» = getD l 3 0;
-      «input_len» = getD l 4 0;
-      «parameter_len» = getD l 5 0;
-      «configuration_len» = getD l 6 0;
-      «diagnosis_len» = getD l 7 0;
-      «get_cfg_len» = getD l 8 0;
+      «output_len» = getD l 48 0;
+      «input_len» = getD l 49 0;
+      «parameter_len» = getD l 50 0;
+      «configuration_len» = getD l 51 0;
+      «diagnosis_len» = getD l 52 0;
+      «get_cfg_len» = getD l 53 0;
     }
 
 -- the flags of an octet
@@ -66,79 +63,88 @@ flagsIn x =
       «parameters_good» = bitAt x 128;
     }
 
--- octets 27 to 29
+-- octets 56, 57 and 26
 abbrev pub diagnosisIn : List ℕ → Diagnosis
-diagnosisIn l = record { count = getD l 27 0; «delayed_count» = getD l 28 0; «delayed_flags» = getD l 29 0 }
+diagnosisIn l = record { count = getD l 56 0; «delayed_count» = getD l 57 0; «delayed_flags» = getD l 26 0 }
 
--- octets 9 to 17 and 30, 31; diagnosis and one of the marks
+-- octets 0 to 5, 21, 27 and 42 to 45; diagnosis
 abbrev pub controlIn : List ℕ → Control
 controlIn l =
     record {
-      phase = phaseNumbered (getD l 9 0);
-      owner = getD l 10 0;
-      group = getD l 11 0;
-      stored = getD l 12 0;
-      watchdog = record { reload = wordAt l 15; remaining = wordAt l 13 };
-      flags = flagsIn (getD l 17 0);
-      events = record { word = wordAt l 30 };
-      noted = bitAt (marksIn l) 64;
+      phase = phaseNumbered (getD l 21 0);
+      owner = getD l 0 0;
+      group = getD l 1 0;
+      stored = getD l 2 0;
+      watchdog = record { reload = wordAt l 44; remaining = wordAt l 42 };
+      flags = flagsIn (getD l 3 0);
+      events = record { word = wordAt l 4 };
+      noted = eqb (getD l 27 0) 1;
       diagnosis = diagnosisIn l;
     }
 
--- the two counts from octet i on, beside a set of three
-abbrev pub setsIn : List ℕ → ℕ → Triple → Sets
-setsIn l i set = record { set = set; shown = getD l i 0; waiting = getD l (i + 1) 0 }
+-- the output set of an octet
+abbrev pub outputsIn : ℕ → Outputs
+outputsIn x = record { set = numbered (x / 4) (odd x); zeros = bitAt x 2 }
 
--- octets 34 to 41, the phase and the kind handed in
+-- the input set of an octet
+abbrev pub inputsIn : ℕ → Triple
+inputsIn x = numbered (x / 2) (odd x)
+
+-- received sets: their roles at octet k, the two counts from octet i on; one waits exactly if its count is not 0
+abbrev pub setsIn : List ℕ → ℕ → ℕ → Sets
+setsIn l k i =
+    record { set = numbered (getD l k 0) (not (eqb (getD l (i + 1) 0) 0)); shown = getD l i 0; waiting = getD l (i + 1) 0 }
+
+-- octets 32 to 39, the phase and the kind handed in
 abbrev pub readerIn : List ℕ → Phase → Kind → Reader
 readerIn l phase kind =
     record {
       phase = phase;
       kind = kind;
-      count = getD l 34 0;
-      at = getD l 35 0;
-      da = getD l 36 0;
-      sa = getD l 37 0;
-      fc = getD l 38 0;
-      dsap = getD l 39 0;
-      ssap = getD l 40 0;
-      sum = getD l 41 0;
+      count = getD l 32 0;
+      at = getD l 33 0;
+      da = getD l 34 0;
+      sa = getD l 35 0;
+      fc = getD l 36 0;
+      dsap = getD l 37 0;
+      ssap = getD l 38 0;
+      sum = getD l 39 0;
     }
 
--- octets 32 to 43
+-- octets 30 to 41
 abbrev pub incomingIn : List ℕ → Incoming
 incomingIn l =
     record {
-      reader = readerIn l (readingNumbered (getD l 32 0)) (kindNumbered (getD l 33 0));
-      first = getD l 42 0;
-      second = getD l 43 0;
+      reader = readerIn l (readingNumbered (getD l 31 0)) (kindNumbered (getD l 30 0));
+      first = getD l 40 0;
+      second = getD l 41 0;
     }
 
--- octets 46 to 51, the stage and the kind handed in
+-- octets 10 to 15, the stage and the kind handed in
 abbrev pub senderIn : List ℕ → Stage → Kind → Sender
 senderIn l stage kind =
     record {
       stage = stage;
       kind = kind;
-      count = getD l 46 0;
-      at = getD l 47 0;
-      da = getD l 48 0;
-      sa = getD l 49 0;
-      fc = getD l 50 0;
-      sum = getD l 51 0;
+      count = getD l 14 0;
+      at = getD l 15 0;
+      da = getD l 10 0;
+      sa = getD l 11 0;
+      fc = getD l 12 0;
+      sum = getD l 13 0;
     }
 
--- octets 54 to 57
+-- octets 6 to 9
 abbrev pub headerIn : List ℕ → Header
-headerIn l = record { status1 = getD l 54 0; status2 = getD l 55 0; status3 = getD l 56 0; master = getD l 57 0 }
+headerIn l = record { status1 = getD l 6 0; status2 = getD l 7 0; status3 = getD l 8 0; master = getD l 9 0 }
 
--- octets 44 to 57
+-- octets 6 to 19
 abbrev pub replyIn : List ℕ → Reply
 replyIn l =
     record {
-      drawn = drawnNumbered (getD l 52 0);
-      sender = senderIn l (stageNumbered (getD l 44 0)) (kindNumbered (getD l 45 0));
-      place = getD l 53 0;
+      drawn = drawnNumbered (getD l 18 0);
+      sender = senderIn l (stageNumbered (getD l 17 0)) (kindNumbered (getD l 16 0));
+      place = getD l 19 0;
       header = headerIn l;
     }
 
@@ -146,13 +152,13 @@ replyIn l =
 unfoldable pub unpacked : List ℕ → State
 unpacked l =
     record {
-      setup = setupIn l (wordAt l 1);
+      setup = setupIn l (wordAt l 46);
       control = controlIn l;
-      outputs = record { set = numbered (getD l 19 0) (odd (marksIn l)); zeros = bitAt (marksIn l) 2 };
-      inputs = numbered (getD l 20 0) (bitAt (marksIn l) 4);
-      parameters = setsIn l 23 (numbered (getD l 21 0) (bitAt (marksIn l) 8));
-      configuration = setsIn l 25 (numbered (getD l 22 0) (bitAt (marksIn l) 16));
-      swapped = bitAt (marksIn l) 32;
+      outputs = outputsIn (getD l 22 0);
+      inputs = inputsIn (getD l 23 0);
+      parameters = setsIn l 24 58;
+      configuration = setsIn l 25 60;
+      swapped = eqb (getD l 28 0) 1;
       incoming = incomingIn l;
       reply = replyIn l;
     }

@@ -1,11 +1,12 @@
 -- Which octets are the image of a sound state: tests of the octets alone.
-use Prim.Native.Nat.{ℕ}
-use mathlib.Core.Bool.{Bool, true, cond, not, _&&_, _||_, Bool·beq}
+use Prim.Native.Nat.{ℕ, suc}
+use mathlib.Core.Bool.{Bool, true, cond, _&&_, _||_}
 use mathlib.Core.List.{List, [], _∷_}
-use lib.Dec.{leb, ltb, eqb}
+use lib.Dec.{leb, eqb}
 use lib.ListN.{getD}
 use Rattle.state.specs.declared.setup.Setup.{Setup}
-use Rattle.state.specs.Unpack.{marksIn, bitAt, setupIn}
+use Rattle.state.specs.Layout.{shortLength}
+use Rattle.state.specs.Unpack.{setupIn}
 
 -- a and each of l
 abbrev pub allFrom : Bool → List Bool → Bool
@@ -44,80 +45,64 @@ lengthTests s =
     ∷ within 1 (s .«get_cfg_len») 244
     ∷ []
 
--- the address (0 to 126) and the lengths of a setup
-abbrev pub setupTests : Setup → List Bool
-setupTests s = leb (s .address) 126 ∷ lengthTests s
+-- the word of the lengths, octets 48 to 55: six lengths, and two octets that are not used
+abbrev pub lengthsTests : List ℕ → List Bool
+lengthsTests m = eqb (getD m 54 0) 0 ∷ eqb (getD m 55 0) 0 ∷ lengthTests (setupIn m 0)
 
--- the counts of the telegram that is read and of the reply
-abbrev pub lineTests : List ℕ → List Bool
-lineTests m =
-    leb (getD m 34 0) 246
-    ∷ partDone 9 (getD m 32 0) (getD m 34 0) (getD m 35 0)
-    ∷ leb (getD m 46 0) 246
-    ∷ partDone 7 (getD m 44 0) (getD m 46 0) (getD m 47 0)
+-- the same with short lengths, of which every sum is known to fit
+abbrev pub shortTests : List ℕ → List Bool
+shortTests m =
+    eqb (getD m 54 0) 0
+    ∷ eqb (getD m 55 0) 0
+    ∷ within 1 (getD m 48 0) shortLength
+    ∷ within 1 (getD m 49 0) shortLength
+    ∷ within 7 (getD m 50 0) shortLength
+    ∷ within 1 (getD m 51 0) shortLength
+    ∷ within 6 (getD m 52 0) shortLength
+    ∷ within 1 (getD m 53 0) shortLength
     ∷ []
 
--- the cases of the enums
-abbrev pub caseTests : List ℕ → List Bool
-caseTests m =
-    leb (getD m 9 0) 2
-    ∷ leb (getD m 32 0) 12
-    ∷ leb (getD m 33 0) 3
-    ∷ leb (getD m 44 0) 10
-    ∷ leb (getD m 45 0) 3
-    ∷ leb (getD m 52 0) 8
-    ∷ []
-
--- the marks, the roles of the four sets of three, and the place that a reply leaves from
-abbrev pub roleTests : List ℕ → List Bool
-roleTests m =
-    ltb (marksIn m) 128
-    ∷ ltb (getD m 19 0) 6
-    ∷ ltb (getD m 20 0) 6
-    ∷ ltb (getD m 21 0) 6
-    ∷ ltb (getD m 22 0) 6
-    ∷ leb (getD m 53 0) 2
-    ∷ []
-
--- the counts of the sets that are shown and that wait, and whether one waits
+-- the counts of a delayed diagnosis and of the sets that are shown and that wait, octets 57 to 61; two octets are not used
 abbrev pub setTests : List ℕ → List Bool
 setTests m =
-    setCounts 7 (getD m 23 0) (getD m 24 0) (getD m 5 0)
-    ∷ Bool·beq (bitAt (marksIn m) 8) (not (eqb (getD m 24 0) 0))
-    ∷ setCounts 1 (getD m 25 0) (getD m 26 0) (getD m 6 0)
-    ∷ Bool·beq (bitAt (marksIn m) 16) (not (eqb (getD m 26 0) 0))
-    ∷ []
-
--- diagnosis, its count and the delayed one
-abbrev pub diagnosisTests : List ℕ → List Bool
-diagnosisTests m =
-    within 6 (getD m 27 0) (getD m 7 0)
-    ∷ noneOr 6 (getD m 28 0) (getD m 7 0)
-    ∷ leb (getD m 29 0) 7
-    ∷ []
-
--- the octets that are not used
-abbrev pub unusedTests : List ℕ → List Bool
-unusedTests m =
-    eqb (getD m 58 0) 0
-    ∷ eqb (getD m 59 0) 0
-    ∷ eqb (getD m 60 0) 0
-    ∷ eqb (getD m 61 0) 0
+    noneOr 6 (getD m 57 0) (getD m 52 0)
+    ∷ setCounts 7 (getD m 58 0) (getD m 59 0) (getD m 50 0)
+    ∷ setCounts 1 (getD m 60 0) (getD m 61 0) (getD m 51 0)
     ∷ eqb (getD m 62 0) 0
     ∷ eqb (getD m 63 0) 0
     ∷ []
 
+-- the word of the counts, octets 56 to 63: diagnosis, and these
+abbrev pub countTests : List ℕ → List Bool
+countTests m = within 6 (getD m 56 0) (getD m 52 0) ∷ setTests m
+
+-- the counts of the telegram that is read and of the reply
+abbrev pub lineTests : List ℕ → List Bool
+lineTests m =
+    leb (getD m 32 0) 246
+    ∷ partDone 9 (getD m 31 0) (getD m 32 0) (getD m 33 0)
+    ∷ leb (getD m 14 0) 246
+    ∷ partDone 7 (getD m 17 0) (getD m 14 0) (getD m 15 0)
+    ∷ []
+
+-- the most that the codes may be, octets 16 to 31: of the reply its kind, stage, what was drawn and the place; the address, the
+-- phase, the output set, the input set; the parameter and the configuration set, the flags of a delayed diagnosis, the note of a
+-- clear, which diagnosis buffer is the controller's, an octet that is not used, the kind and the phase of the telegram that is read
+abbrev pub codeLimits : List ℕ
+codeLimits = 3 ∷ 10 ∷ 8 ∷ 2 ∷ 126 ∷ 2 ∷ 23 ∷ 11 ∷ 5 ∷ 5 ∷ 7 ∷ 1 ∷ 1 ∷ 0 ∷ 3 ∷ 12 ∷ []
+
+-- the octets from i on, each against its limit
+abbrev pub limitTests : List ℕ → ℕ → List ℕ → List Bool
+limitTests m i [] = []
+limitTests m i (limit ∷ limits) = leb (getD m i 0) limit ∷ limitTests m (suc i) limits
+
+-- the codes
+abbrev pub codeTests : List ℕ → List Bool
+codeTests m = limitTests m 16 codeLimits
+
 -- all of them
 abbrev pub imageTests : List ℕ → List Bool
-imageTests m =
-    all (setupTests (setupIn m 0))
-    ∷ all (lineTests m)
-    ∷ all (caseTests m)
-    ∷ all (roleTests m)
-    ∷ all (setTests m)
-    ∷ all (diagnosisTests m)
-    ∷ all (unusedTests m)
-    ∷ []
+imageTests m = all (countTests m) ∷ all (lineTests m) ∷ all (codeTests m) ∷ all (lengthsTests m) ∷ []
 
 -- the octets are the image of a sound state
 unfoldable pub wellImage : List ℕ → Bool

@@ -5,37 +5,39 @@ use crate::number::kind_number;
 use crate::number::phase_number;
 use crate::number::reading_number;
 use crate::number::stage_number;
+use crate::state::Outputs;
 use crate::state::State;
+use buffers::triple::Triple;
 ghost use mathlib.Core.Path.{_≡_};
 ghost use mathlib.Core.List.{_++_};
 ghost use Prim.Native.Nat.{_≤_, _/_, _%_};
 ghost use lib.ListN.{length, drop};
 ghost use Rattle.state.specs.Layout.{stateLength};
-ghost use Rattle.state.specs.Image.{bitOf, flagsOf, marksOf, image};
+ghost use Rattle.state.specs.Image.{bitOf, flagsOf, outputsCode, inputsCode, image};
 
 // A mark as a number.
-fn bit(b: bool) -> u8
+pub fn bit(b: bool) -> u8
     ensures { λ r. ⌜ (r ≡ bitOf b) × (r ≤ 1) ⌝ }
 {
     if b { 1 } else { 0 }
 }
 
 // The low octet of a word.
-fn low(word: u16) -> u8
+pub fn low(word: u16) -> u8
     ensures { λ r. ⌜ r ≡ word % 256 ⌝ }
 {
     (word % 256) as u8
 }
 
 // The high octet of a word.
-fn high(word: u16) -> u8
+pub fn high(word: u16) -> u8
     ensures { λ r. ⌜ r ≡ word / 256 ⌝ }
 {
     (word / 256) as u8
 }
 
 // The flags in one octet.
-fn flags(f: Flags) -> u8
+pub fn flags(f: Flags) -> u8
     ensures { λ r. ⌜ r ≡ flagsOf f ⌝ }
 {
     bit(f.prm_fault)
@@ -48,20 +50,21 @@ fn flags(f: Flags) -> u8
         + 128 * bit(f.parameters_good)
 }
 
-// The other marks of the state in one octet.
-fn marks(s: State) -> u8
-    ensures { λ r. ⌜ r ≡ marksOf s ⌝ }
+// The output set in one octet: its roles, whether they are zeros by the station, and whether they are new.
+pub fn outputs_code(o: Outputs) -> u8
+    ensures { λ r. ⌜ r ≡ outputsCode o ⌝ }
 {
-    bit(s.outputs.set.fresh)
-        + 2 * bit(s.outputs.zeros)
-        + 4 * bit(s.inputs.fresh)
-        + 8 * bit(s.parameters.set.fresh)
-        + 16 * bit(s.configuration.set.fresh)
-        + 32 * bit(s.swapped)
-        + 64 * bit(s.control.noted)
+    4 * o.set.number() + 2 * bit(o.zeros) + bit(o.set.fresh)
 }
 
-// The octets in their order; the last six are not used.
+// The input set in one octet: its roles, and whether next is new.
+pub fn inputs_code(t: Triple) -> u8
+    ensures { λ r. ⌜ r ≡ inputsCode t ⌝ }
+{
+    2 * t.number() + bit(t.fresh)
+}
+
+// The octets in their order.
 pub fn octets(s: State) -> [u8; 64]
     ensures { λ r. ⌜ r ≡ image s ⌝ }
 {
@@ -77,40 +80,38 @@ pub fn octets(s: State) -> [u8; 64]
     let stage = sender.stage;
     let sending_kind = sender.kind;
     [
-        s.setup.address,
-        low(s.setup.ident),
-        high(s.setup.ident),
-        s.setup.output_len,
-        s.setup.input_len,
-        s.setup.parameter_len,
-        s.setup.configuration_len,
-        s.setup.diagnosis_len,
-        s.setup.get_cfg_len,
-        phase_number(phase),
         control.owner,
         control.group,
         control.stored,
-        low(control.watchdog.remaining),
-        high(control.watchdog.remaining),
-        low(control.watchdog.reload),
-        high(control.watchdog.reload),
         flags(control.flags),
-        marks(s),
-        s.outputs.set.number(),
-        s.inputs.number(),
-        s.parameters.set.number(),
-        s.configuration.set.number(),
-        s.parameters.shown,
-        s.parameters.waiting,
-        s.configuration.shown,
-        s.configuration.waiting,
-        control.diagnosis.count,
-        control.diagnosis.delayed_count,
-        control.diagnosis.delayed_flags,
         low(control.events.word),
         high(control.events.word),
-        reading_number(reading),
+        reply.header.status1,
+        reply.header.status2,
+        reply.header.status3,
+        reply.header.master,
+        sender.da,
+        sender.sa,
+        sender.fc,
+        sender.sum,
+        sender.count,
+        sender.at,
+        kind_number(sending_kind),
+        stage_number(stage),
+        drawn_number(drawn),
+        reply.place,
+        s.setup.address,
+        phase_number(phase),
+        outputs_code(s.outputs),
+        inputs_code(s.inputs),
+        s.parameters.set.number(),
+        s.configuration.set.number(),
+        control.diagnosis.delayed_flags,
+        bit(control.noted),
+        bit(s.swapped),
+        0,
         kind_number(reading_kind),
+        reading_number(reading),
         reader.count,
         reader.at,
         reader.da,
@@ -121,24 +122,26 @@ pub fn octets(s: State) -> [u8; 64]
         reader.sum,
         incoming.first,
         incoming.second,
-        stage_number(stage),
-        kind_number(sending_kind),
-        sender.count,
-        sender.at,
-        sender.da,
-        sender.sa,
-        sender.fc,
-        sender.sum,
-        drawn_number(drawn),
-        reply.place,
-        reply.header.status1,
-        reply.header.status2,
-        reply.header.status3,
-        reply.header.master,
+        low(control.watchdog.remaining),
+        high(control.watchdog.remaining),
+        low(control.watchdog.reload),
+        high(control.watchdog.reload),
+        low(s.setup.ident),
+        high(s.setup.ident),
+        s.setup.output_len,
+        s.setup.input_len,
+        s.setup.parameter_len,
+        s.setup.configuration_len,
+        s.setup.diagnosis_len,
+        s.setup.get_cfg_len,
         0,
         0,
-        0,
-        0,
+        control.diagnosis.count,
+        control.diagnosis.delayed_count,
+        s.parameters.shown,
+        s.parameters.waiting,
+        s.configuration.shown,
+        s.configuration.waiting,
         0,
         0,
     ]

@@ -7,6 +7,9 @@ ghost use Rattle.state.specs.Layout.{roundedUp, placeAt, outputsAt, inpu
 // How many octets hold the state.
 pub const STATE_LENGTH: usize = 64;
 
+// Where the buffers end at most if all lengths are at most 96.
+pub const SHORT_END: usize = 1504;
+
 // How many output buffers there are,
 pub const OUTPUT_BUFFERS: u8 = 3;
 

@@ -49,14 +49,14 @@ fn setup_in(mem: &[u8], ident: u16) -> Setup
     ensures { λ r. ⌜ r ≡ setupIn (now (mem .entry)) ident ⌝ }
 {
     Setup {
-        address: mem[0],
+        address: mem[20],
         ident,
-        output_len: mem[3],
-        input_len: mem[4],
-        parameter_len: mem[5],
-        configuration_len: mem[6],
-        diagnosis_len: mem[7],
-        get_cfg_len: mem[8],
+        output_len: mem[48],
+        input_len: mem[49],
+        parameter_len: mem[50],
+        configuration_len: mem[51],
+        diagnosis_len: mem[52],
+        get_cfg_len: mem[53],
     }
 }
 
@@ -65,7 +65,7 @@ pub fn setup(mem: &[u8]) -> Setup
     requires { ⌜ stateLength ≤ length (now mem) ⌝ }
     ensures { λ r. ⌜ r ≡ unpacked (now (mem .entry)) .setup ⌝ }
 {
-    setup_in(mem, word_at(mem, 1))
+    setup_in(mem, word_at(mem, 46))
 }
 
 // The flags of an octet.
@@ -90,9 +90,9 @@ pub fn diagnosis(mem: &[u8]) -> Diagnosis
     ensures { λ r. ⌜ r ≡ unpacked (now (mem .entry)) .control .diagnosis ⌝ }
 {
     Diagnosis {
-        count: mem[27],
-        delayed_count: mem[28],
-        delayed_flags: mem[29],
+        count: mem[56],
+        delayed_count: mem[57],
+        delayed_flags: mem[26],
     }
 }
 
@@ -101,7 +101,7 @@ pub fn events(mem: &[u8]) -> Events
     requires { ⌜ stateLength ≤ length (now mem) ⌝ }
     ensures { λ r. ⌜ r ≡ unpacked (now (mem .entry)) .control .events ⌝ }
 {
-    let word = word_at(mem, 30);
+    let word = word_at(mem, 4);
     Events { word }
 }
 
@@ -110,7 +110,7 @@ pub fn noted(mem: &[u8]) -> bool
     requires { ⌜ stateLength ≤ length (now mem) ⌝ }
     ensures { λ r. ⌜ r ≡ unpacked (now (mem .entry)) .control .noted ⌝ }
 {
-    mem[18] / 64 % 2 == 1
+    mem[27] == 1
 }
 
 // The control part.
@@ -118,30 +118,31 @@ pub fn control(mem: &[u8]) -> Control
     requires { ⌜ stateLength ≤ length (now mem) ⌝ }
     ensures { λ r. ⌜ r ≡ unpacked (now (mem .entry)) .control ⌝ }
 {
-    let remaining = word_at(mem, 13);
-    let reload = word_at(mem, 15);
+    let remaining = word_at(mem, 42);
+    let reload = word_at(mem, 44);
     Control {
-        phase: phase_numbered(mem[9]),
-        owner: mem[10],
-        group: mem[11],
-        stored: mem[12],
+        phase: phase_numbered(mem[21]),
+        owner: mem[0],
+        group: mem[1],
+        stored: mem[2],
         watchdog: Watchdog { reload, remaining },
-        flags: flags_in(mem[17]),
+        flags: flags_in(mem[3]),
         events: events(mem),
         noted: noted(mem),
         diagnosis: diagnosis(mem),
     }
 }
 
-// Received sets, with their counts from i on.
-fn sets_in(mem: &[u8], i: usize, set: Triple) -> Sets
-    requires { ⌜ i + 1 < length (now mem) ⌝ }
-    ensures { λ r. ⌜ r ≡ setsIn (now (mem .entry)) i set ⌝ }
+// Received sets, with their roles at k and their counts from i on.
+fn sets_in(mem: &[u8], k: usize, i: usize) -> Sets
+    requires { ⌜ (k < length (now mem)) × (i + 1 < length (now mem)) ⌝ }
+    ensures { λ r. ⌜ r ≡ setsIn (now (mem .entry)) k i ⌝ }
 {
+    let waiting = mem[i + 1];
     Sets {
-        set,
+        set: Triple::numbered(mem[k], waiting != 0),
         shown: mem[i],
-        waiting: mem[i + 1],
+        waiting,
     }
 }
 
@@ -150,10 +151,11 @@ pub fn outputs(mem: &[u8]) -> Outputs
     requires { ⌜ stateLength ≤ length (now mem) ⌝ }
     ensures { λ r. ⌜ r ≡ unpacked (now (mem .entry)) .outputs ⌝ }
 {
-    let marks = mem[18];
+    let code = mem[22];
+    let set = Triple::numbered(code / 4, code % 2 == 1);
     Outputs {
-        set: Triple::numbered(mem[19], marks % 2 == 1),
-        zeros: marks / 2 % 2 == 1,
+        set,
+        zeros: code / 2 % 2 == 1,
     }
 }
 
@@ -162,7 +164,8 @@ pub fn inputs(mem: &[u8]) -> Triple
     requires { ⌜ stateLength ≤ length (now mem) ⌝ }
     ensures { λ r. ⌜ r ≡ unpacked (now (mem .entry)) .inputs ⌝ }
 {
-    Triple::numbered(mem[20], mem[18] / 4 % 2 == 1)
+    let code = mem[23];
+    Triple::numbered(code / 2, code % 2 == 1)
 }
 
 // The parameters received.
@@ -170,7 +173,7 @@ pub fn parameters(mem: &[u8]) -> Sets
     requires { ⌜ stateLength ≤ length (now mem) ⌝ }
     ensures { λ r. ⌜ r ≡ unpacked (now (mem .entry)) .parameters ⌝ }
 {
-    sets_in(mem, 23, Triple::numbered(mem[21], mem[18] / 8 % 2 == 1))
+    sets_in(mem, 24, 58)
 }
 
 // The configuration received.
@@ -178,7 +181,7 @@ pub fn configuration(mem: &[u8]) -> Sets
     requires { ⌜ stateLength ≤ length (now mem) ⌝ }
     ensures { λ r. ⌜ r ≡ unpacked (now (mem .entry)) .configuration ⌝ }
 {
-    sets_in(mem, 25, Triple::numbered(mem[22], mem[18] / 16 % 2 == 1))
+    sets_in(mem, 25, 60)
 }
 
 // Whether the controller's diagnosis buffer is the second.
@@ -186,7 +189,7 @@ pub fn swapped(mem: &[u8]) -> bool
     requires { ⌜ stateLength ≤ length (now mem) ⌝ }
     ensures { λ r. ⌜ r ≡ unpacked (now (mem .entry)) .swapped ⌝ }
 {
-    mem[18] / 32 % 2 == 1
+    mem[28] == 1
 }
 
 // The reader at a phase.
@@ -197,14 +200,14 @@ fn reader_in(mem: &[u8], phase: reader::Phase, kind: Kind) -> Reader
     Reader {
         phase,
         kind,
-        count: mem[34],
-        at: mem[35],
-        da: mem[36],
-        sa: mem[37],
-        fc: mem[38],
-        dsap: mem[39],
-        ssap: mem[40],
-        sum: mem[41],
+        count: mem[32],
+        at: mem[33],
+        da: mem[34],
+        sa: mem[35],
+        fc: mem[36],
+        dsap: mem[37],
+        ssap: mem[38],
+        sum: mem[39],
     }
 }
 
@@ -214,9 +217,9 @@ pub fn incoming(mem: &[u8]) -> Incoming
     ensures { λ r. ⌜ r ≡ unpacked (now (mem .entry)) .incoming ⌝ }
 {
     Incoming {
-        reader: reader_in(mem, reading_numbered(mem[32]), kind_numbered(mem[33])),
-        first: mem[42],
-        second: mem[43],
+        reader: reader_in(mem, reading_numbered(mem[31]), kind_numbered(mem[30])),
+        first: mem[40],
+        second: mem[41],
     }
 }
 
@@ -228,12 +231,12 @@ fn sender_in(mem: &[u8], stage: Stage, kind: Kind) -> Sender
     Sender {
         stage,
         kind,
-        count: mem[46],
-        at: mem[47],
-        da: mem[48],
-        sa: mem[49],
-        fc: mem[50],
-        sum: mem[51],
+        count: mem[14],
+        at: mem[15],
+        da: mem[10],
+        sa: mem[11],
+        fc: mem[12],
+        sum: mem[13],
     }
 }
 
@@ -243,10 +246,10 @@ fn header_in(mem: &[u8]) -> Header
     ensures { λ r. ⌜ r ≡ headerIn (now (mem .entry)) ⌝ }
 {
     Header {
-        status1: mem[54],
-        status2: mem[55],
-        status3: mem[56],
-        master: mem[57],
+        status1: mem[6],
+        status2: mem[7],
+        status3: mem[8],
+        master: mem[9],
     }
 }
 
@@ -256,9 +259,9 @@ pub fn reply(mem: &[u8]) -> Reply
     ensures { λ r. ⌜ r ≡ unpacked (now (mem .entry)) .reply ⌝ }
 {
     Reply {
-        drawn: drawn_numbered(mem[52]),
-        sender: sender_in(mem, stage_numbered(mem[44]), kind_numbered(mem[45])),
-        place: mem[53],
+        drawn: drawn_numbered(mem[18]),
+        sender: sender_in(mem, stage_numbered(mem[17]), kind_numbered(mem[16])),
+        place: mem[19],
         header: header_in(mem),
     }
 }

@@ -1,60 +1,192 @@
-// A part of the state packed alone: its octets are written, and no other.
+// A part of the state packed alone: its octets are written, and no other. Whatever state stands in front of the memory, afterwards it
+// is that state with the part changed.
+use crate::control::Control;
+use crate::image::bit;
+use crate::image::flags;
+use crate::image::high;
+use crate::image::inputs_code;
+use crate::image::low;
+use crate::image::outputs_code;
+use crate::number::drawn_number;
 use crate::number::kind_number;
+use crate::number::phase_number;
 use crate::number::reading_number;
 use crate::number::stage_number;
 use crate::state::Incoming;
+use crate::state::Outputs;
+use crate::state::Reply;
+use crate::state::Sets;
+use buffers::events::Events;
+use buffers::triple::Triple;
 use telegram::sender::Sender;
-ghost use mathlib.Core.Path.{_≡_};
-ghost use Rattle.state.specs.Memory.{kept, Holds};
-ghost use Rattle.state.specs.Unpack.{unpacked};
-ghost use Rattle.state.specs.With.{withIncoming, withData, withSender};
+ghost use Prim.Native.Nat.{_≤_};
+ghost use lib.ListN.{length};
+ghost use Rattle.state.specs.Layout.{stateLength};
+ghost use Rattle.state.specs.Memory.{Changes};
+ghost use Rattle.state.specs.With.{withControl, withStanding, withEventWord, withTicks, withOutputs, withInputs, withParameters, withConfiguration, withSwapped, withIncoming, withData, withSender, withOutline, withReply};
 
-// The telegram that is coming: octets 32 to 43.
+// The telegram that is coming: octets 30 to 41.
 pub fn save_incoming(i: Incoming, mem: &mut [u8])
-    requires { ⌜ Holds (now mem) (unpacked (now mem)) ⌝ }
-    ensures { λ _. ⌜ now (mem .exit) ≡ kept (withIncoming (unpacked (now (mem .entry))) i) (now (mem .entry)) ⌝ }
+    requires { ⌜ stateLength ≤ length (now mem) ⌝ }
+    ensures { λ _. ⌜ Changes (now (mem .entry)) (now (mem .exit)) (λ s. withIncoming s i) ⌝ }
 {
     let reader = i.reader;
     let phase = reader.phase;
     let kind = reader.kind;
-    mem[32] = reading_number(phase);
-    mem[33] = kind_number(kind);
-    mem[34] = reader.count;
-    mem[35] = reader.at;
-    mem[36] = reader.da;
-    mem[37] = reader.sa;
-    mem[38] = reader.fc;
-    mem[39] = reader.dsap;
-    mem[40] = reader.ssap;
-    mem[41] = reader.sum;
-    mem[42] = i.first;
-    mem[43] = i.second;
+    mem[30] = kind_number(kind);
+    mem[31] = reading_number(phase);
+    mem[32] = reader.count;
+    mem[33] = reader.at;
+    mem[34] = reader.da;
+    mem[35] = reader.sa;
+    mem[36] = reader.fc;
+    mem[37] = reader.dsap;
+    mem[38] = reader.ssap;
+    mem[39] = reader.sum;
+    mem[40] = i.first;
+    mem[41] = i.second;
 }
 
 // What a data octet changes of it: how many were read, the checksum and the first two.
 pub fn save_data(at: u8, sum: u8, first: u8, second: u8, mem: &mut [u8])
-    requires { ⌜ Holds (now mem) (unpacked (now mem)) ⌝ }
-    ensures { λ _. ⌜ now (mem .exit) ≡ kept (withData (unpacked (now (mem .entry))) at sum first second) (now (mem .entry)) ⌝ }
+    requires { ⌜ stateLength ≤ length (now mem) ⌝ }
+    ensures { λ _. ⌜ Changes (now (mem .entry)) (now (mem .exit)) (λ s. withData s at sum first second) ⌝ }
 {
-    mem[35] = at;
-    mem[41] = sum;
-    mem[42] = first;
-    mem[43] = second;
+    mem[33] = at;
+    mem[39] = sum;
+    mem[40] = first;
+    mem[41] = second;
 }
 
-// The sender of the reply: octets 44 to 51.
+// The sender of the reply: octets 10 to 17.
 pub fn save_sender(sender: Sender, mem: &mut [u8])
-    requires { ⌜ Holds (now mem) (unpacked (now mem)) ⌝ }
-    ensures { λ _. ⌜ now (mem .exit) ≡ kept (withSender (unpacked (now (mem .entry))) sender) (now (mem .entry)) ⌝ }
+    requires { ⌜ stateLength ≤ length (now mem) ⌝ }
+    ensures { λ _. ⌜ Changes (now (mem .entry)) (now (mem .exit)) (λ s. withSender s sender) ⌝ }
 {
     let stage = sender.stage;
     let kind = sender.kind;
-    mem[44] = stage_number(stage);
-    mem[45] = kind_number(kind);
-    mem[46] = sender.count;
-    mem[47] = sender.at;
-    mem[48] = sender.da;
-    mem[49] = sender.sa;
-    mem[50] = sender.fc;
-    mem[51] = sender.sum;
+    mem[16] = kind_number(kind);
+    mem[17] = stage_number(stage);
+    mem[10] = sender.da;
+    mem[11] = sender.sa;
+    mem[12] = sender.fc;
+    mem[13] = sender.sum;
+    mem[14] = sender.count;
+    mem[15] = sender.at;
+}
+
+// The reply but for its sender: octets 6 to 9, 18 and 19.
+fn save_outline(reply: Reply, mem: &mut [u8])
+    requires { ⌜ stateLength ≤ length (now mem) ⌝ }
+    ensures { λ _. ⌜ Changes (now (mem .entry)) (now (mem .exit)) (λ s. withOutline s reply) ⌝ }
+{
+    let drawn = reply.drawn;
+    mem[18] = drawn_number(drawn);
+    mem[19] = reply.place;
+    mem[6] = reply.header.status1;
+    mem[7] = reply.header.status2;
+    mem[8] = reply.header.status3;
+    mem[9] = reply.header.master;
+}
+
+// The reply: octets 6 to 19.
+pub fn save_reply(reply: Reply, mem: &mut [u8])
+    requires { ⌜ stateLength ≤ length (now mem) ⌝ }
+    ensures { λ _. ⌜ Changes (now (mem .entry)) (now (mem .exit)) (λ s. withReply s reply) ⌝ }
+{
+    save_outline(reply, mem);
+    save_sender(reply.sender, mem);
+}
+
+// The events: octets 4 and 5.
+pub fn save_events(events: Events, mem: &mut [u8])
+    requires { ⌜ stateLength ≤ length (now mem) ⌝ }
+    ensures { λ _. ⌜ Changes (now (mem .entry)) (now (mem .exit)) (λ s. withEventWord s events) ⌝ }
+{
+    mem[4] = low(events.word);
+    mem[5] = high(events.word);
+}
+
+// The ticks that remain of the watchdog: octets 42 and 43.
+pub fn save_ticks(ticks: u16, mem: &mut [u8])
+    requires { ⌜ stateLength ≤ length (now mem) ⌝ }
+    ensures { λ _. ⌜ Changes (now (mem .entry)) (now (mem .exit)) (λ s. withTicks s ticks) ⌝ }
+{
+    mem[42] = low(ticks);
+    mem[43] = high(ticks);
+}
+
+// The control part but for the events and the ticks that remain: octets 0 to 3, 21, 26, 27, 44, 45, 56 and 57.
+fn save_standing(control: Control, mem: &mut [u8])
+    requires { ⌜ stateLength ≤ length (now mem) ⌝ }
+    ensures { λ _. ⌜ Changes (now (mem .entry)) (now (mem .exit)) (λ s. withStanding s control) ⌝ }
+{
+    let phase = control.phase;
+    let packed = flags(control.flags);
+    let noted = bit(control.noted);
+    mem[21] = phase_number(phase);
+    mem[44] = low(control.watchdog.reload);
+    mem[45] = high(control.watchdog.reload);
+    mem[0] = control.owner;
+    mem[1] = control.group;
+    mem[2] = control.stored;
+    mem[3] = packed;
+    mem[26] = control.diagnosis.delayed_flags;
+    mem[27] = noted;
+    mem[56] = control.diagnosis.count;
+    mem[57] = control.diagnosis.delayed_count;
+}
+
+// The control part: octets 0 to 5, 21, 26, 27, 42 to 45, 56 and 57.
+pub fn save_control(control: Control, mem: &mut [u8])
+    requires { ⌜ stateLength ≤ length (now mem) ⌝ }
+    ensures { λ _. ⌜ Changes (now (mem .entry)) (now (mem .exit)) (λ s. withControl s control) ⌝ }
+{
+    save_standing(control, mem);
+    save_events(control.events, mem);
+    save_ticks(control.watchdog.remaining, mem);
+}
+
+// The output set: octet 22.
+pub fn save_outputs(outputs: Outputs, mem: &mut [u8])
+    requires { ⌜ stateLength ≤ length (now mem) ⌝ }
+    ensures { λ _. ⌜ Changes (now (mem .entry)) (now (mem .exit)) (λ s. withOutputs s outputs) ⌝ }
+{
+    mem[22] = outputs_code(outputs);
+}
+
+// The input set: octet 23.
+pub fn save_inputs(inputs: Triple, mem: &mut [u8])
+    requires { ⌜ stateLength ≤ length (now mem) ⌝ }
+    ensures { λ _. ⌜ Changes (now (mem .entry)) (now (mem .exit)) (λ s. withInputs s inputs) ⌝ }
+{
+    mem[23] = inputs_code(inputs);
+}
+
+// The parameters received: octets 24, 58 and 59.
+pub fn save_parameters(parameters: Sets, mem: &mut [u8])
+    requires { ⌜ stateLength ≤ length (now mem) ⌝ }
+    ensures { λ _. ⌜ Changes (now (mem .entry)) (now (mem .exit)) (λ s. withParameters s parameters) ⌝ }
+{
+    mem[24] = parameters.set.number();
+    mem[58] = parameters.shown;
+    mem[59] = parameters.waiting;
+}
+
+// The configuration received: octets 25, 60 and 61.
+pub fn save_configuration(configuration: Sets, mem: &mut [u8])
+    requires { ⌜ stateLength ≤ length (now mem) ⌝ }
+    ensures { λ _. ⌜ Changes (now (mem .entry)) (now (mem .exit)) (λ s. withConfiguration s configuration) ⌝ }
+{
+    mem[25] = configuration.set.number();
+    mem[60] = configuration.shown;
+    mem[61] = configuration.waiting;
+}
+
+// Which diagnosis buffer is the controller's: octet 28.
+pub fn save_swapped(swapped: bool, mem: &mut [u8])
+    requires { ⌜ stateLength ≤ length (now mem) ⌝ }
+    ensures { λ _. ⌜ Changes (now (mem .entry)) (now (mem .exit)) (λ s. withSwapped s swapped) ⌝ }
+{
+    mem[28] = bit(swapped);
 }

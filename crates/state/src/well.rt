@@ -1,11 +1,19 @@
-// Whether the octets are the image of a sound state. Each test that fails ends the check: nearly always all of them hold,
-// and then a test costs a comparison and a branch that is not taken.
+// Whether the octets of the state part are the image of a sound state. What is nearly always so is tested by words: short lengths, and
+// no set open and no diagnosis delayed. Each test that fails ends the check. The tests of single octets come before those by words:
+// of a word that is loaded already the compiler would take the octets by shifts, in the usual case too.
+use ranges::checks;
 ghost use mathlib.Core.Path.{_≡_};
 ghost use Prim.Native.Nat.{_≤_};
 ghost use lib.ListN.{length};
 ghost use Rattle.state.specs.Layout.{stateLength};
-ghost use Rattle.state.specs.Unpack.{setupIn};
-ghost use Rattle.state.specs.Well.{all, noneOr, setCounts, partDone, setupTests, lineTests, caseTests, roleTests, setTests, diagnosisTests, unusedTests, wellImage};
+ghost use Rattle.state.specs.Well.{all, within, noneOr, setCounts, partDone, lengthsTests, shortTests, setTests, countTests, lineTests, codeTests};
+
+// lo to hi.
+fn within(lo: u8, x: u8, hi: u8) -> bool
+    ensures { λ r. ⌜ r ≡ within lo x hi ⌝ }
+{
+    (lo <= x) & (x <= hi)
+}
 
 // 0 for none, or lo to hi.
 fn none_or(lo: u8, x: u8, hi: u8) -> bool
@@ -14,7 +22,7 @@ fn none_or(lo: u8, x: u8, hi: u8) -> bool
     if x == 0 {
         return true;
     }
-    (lo <= x) & (x <= hi)
+    within(lo, x, hi)
 }
 
 // The counts of a set that is shown and of one that waits behind it.
@@ -24,7 +32,7 @@ fn set_counts(lo: u8, shown: u8, waiting: u8, hi: u8) -> bool
     if shown == 0 {
         return waiting == 0;
     }
-    if !((lo <= shown) & (shown <= hi)) {
+    if !within(lo, shown, hi) {
         return false;
     }
     none_or(lo, waiting, hi)
@@ -40,182 +48,92 @@ fn part_done(first: u8, phase: u8, count: u8, done: u8) -> bool
     (first <= phase) & (done <= count)
 }
 
-// The address and the lengths.
-fn well_setup(mem: &[u8]) -> bool
-    requires { ⌜ stateLength ≤ length (now mem) ⌝ }
-    ensures { λ r. ⌜ r ≡ all (setupTests (setupIn (now (mem .entry)) 0)) ⌝ }
-{
-    if !(mem[0] <= 126) {
-        return false;
-    }
-    if !((1 <= mem[3]) & (mem[3] <= 244)) {
-        return false;
-    }
-    if !((1 <= mem[4]) & (mem[4] <= 244)) {
-        return false;
-    }
-    if !((7 <= mem[5]) & (mem[5] <= 244)) {
-        return false;
-    }
-    if !((1 <= mem[6]) & (mem[6] <= 244)) {
-        return false;
-    }
-    if !((6 <= mem[7]) & (mem[7] <= 244)) {
-        return false;
-    }
-    if !((1 <= mem[8]) & (mem[8] <= 244)) {
-        return false;
-    }
-    true
-}
-
 // The counts of the telegram that is read and of the reply.
-fn well_line(mem: &[u8]) -> bool
+pub fn well_line(mem: &[u8]) -> bool
     requires { ⌜ stateLength ≤ length (now mem) ⌝ }
     ensures { λ r. ⌜ r ≡ all (lineTests (now (mem .entry))) ⌝ }
 {
-    if !(mem[34] <= 246) {
+    if !(mem[32] <= 246) {
         return false;
     }
-    if !part_done(9, mem[32], mem[34], mem[35]) {
+    if !part_done(9, mem[31], mem[32], mem[33]) {
         return false;
     }
-    if !(mem[46] <= 246) {
+    if !(mem[14] <= 246) {
         return false;
     }
-    if !part_done(7, mem[44], mem[46], mem[47]) {
-        return false;
-    }
-    true
+    part_done(7, mem[17], mem[14], mem[15])
 }
 
-// The cases of the enums.
-fn well_cases(mem: &[u8]) -> bool
-    requires { ⌜ stateLength ≤ length (now mem) ⌝ }
-    ensures { λ r. ⌜ r ≡ all (caseTests (now (mem .entry))) ⌝ }
-{
-    if !(mem[9] <= 2) {
-        return false;
-    }
-    if !(mem[32] <= 12) {
-        return false;
-    }
-    if !(mem[33] <= 3) {
-        return false;
-    }
-    if !(mem[44] <= 10) {
-        return false;
-    }
-    if !(mem[45] <= 3) {
-        return false;
-    }
-    if !(mem[52] <= 8) {
-        return false;
-    }
-    true
-}
-
-// The marks, the roles of the four sets of three, and the place that a reply leaves from.
-fn well_roles(mem: &[u8]) -> bool
-    requires { ⌜ stateLength ≤ length (now mem) ⌝ }
-    ensures { λ r. ⌜ r ≡ all (roleTests (now (mem .entry))) ⌝ }
-{
-    if !(mem[18] < 128) {
-        return false;
-    }
-    if !(mem[19] < 6) {
-        return false;
-    }
-    if !(mem[20] < 6) {
-        return false;
-    }
-    if !(mem[21] < 6) {
-        return false;
-    }
-    if !(mem[22] < 6) {
-        return false;
-    }
-    if !(mem[53] <= 2) {
-        return false;
-    }
-    true
-}
-
-// The counts of the sets that are shown and that wait, and whether one waits.
+// The counts of a delayed diagnosis and of the sets, one by one.
 fn well_sets(mem: &[u8]) -> bool
     requires { ⌜ stateLength ≤ length (now mem) ⌝ }
     ensures { λ r. ⌜ r ≡ all (setTests (now (mem .entry))) ⌝ }
 {
-    if !set_counts(7, mem[23], mem[24], mem[5]) {
+    if !none_or(6, mem[57], mem[52]) {
         return false;
     }
-    if !((mem[18] / 8 % 2 == 1) == (mem[24] != 0)) {
+    if !set_counts(7, mem[58], mem[59], mem[50]) {
         return false;
     }
-    if !set_counts(1, mem[25], mem[26], mem[6]) {
+    if !set_counts(1, mem[60], mem[61], mem[51]) {
         return false;
     }
-    if !((mem[18] / 16 % 2 == 1) == (mem[26] != 0)) {
-        return false;
-    }
-    true
+    (mem[62] == 0) & (mem[63] == 0)
 }
 
-// Diagnosis, its count and the delayed one.
-fn well_diagnosis(mem: &[u8]) -> bool
+// The counts of diagnosis and of the sets.
+pub fn well_counts(mem: &[u8]) -> bool
     requires { ⌜ stateLength ≤ length (now mem) ⌝ }
-    ensures { λ r. ⌜ r ≡ all (diagnosisTests (now (mem .entry))) ⌝ }
+    ensures { λ r. ⌜ r ≡ all (countTests (now (mem .entry))) ⌝ }
 {
-    if !((6 <= mem[27]) & (mem[27] <= mem[7])) {
+    if !within(6, mem[56], mem[52]) {
         return false;
     }
-    if !none_or(6, mem[28], mem[7]) {
-        return false;
+    if checks::nothing_behind(mem, 56) {
+        return true;
     }
-    if !(mem[29] <= 7) {
-        return false;
-    }
-    true
+    well_sets(mem)
 }
 
-// The octets that are not used.
-fn well_unused(mem: &[u8]) -> bool
+// The codes: octets 16 to 31, each of them below 128.
+pub fn well_codes(mem: &[u8]) -> bool
     requires { ⌜ stateLength ≤ length (now mem) ⌝ }
-    ensures { λ r. ⌜ r ≡ all (unusedTests (now (mem .entry))) ⌝ }
+    ensures { λ r. ⌜ r ≡ all (codeTests (now (mem .entry))) ⌝ }
 {
-    (mem[58] == 0)
-        & (mem[59] == 0)
-        & (mem[60] == 0)
-        & (mem[61] == 0)
-        & (mem[62] == 0)
-        & (mem[63] == 0)
+    checks::two_words_within(mem, 16, 0x0b17_027e_0208_0a03, 0x0c03_0001_0107_0505)
 }
 
-// Whether the first octets are the image of a sound state.
-pub fn well(mem: &[u8]) -> bool
+// The lengths, where all of them are short.
+pub fn short_lengths(mem: &[u8]) -> bool
     requires { ⌜ stateLength ≤ length (now mem) ⌝ }
-    ensures { λ r. ⌜ r ≡ wellImage (now (mem .entry)) ⌝ }
+    ensures { λ r. ⌜ r ≡ all (shortTests (now (mem .entry))) ⌝ }
 {
-    if !well_setup(mem) {
+    checks::word_between(mem, 48, 0x0000_0106_0107_0101, 0x0000_6060_6060_6060)
+}
+
+// The lengths, one by one.
+pub fn well_lengths(mem: &[u8]) -> bool
+    requires { ⌜ stateLength ≤ length (now mem) ⌝ }
+    ensures { λ r. ⌜ r ≡ all (lengthsTests (now (mem .entry))) ⌝ }
+{
+    if !((mem[54] == 0) & (mem[55] == 0)) {
         return false;
     }
-    if !well_line(mem) {
+    if !within(1, mem[48], 244) {
         return false;
     }
-    if !well_cases(mem) {
+    if !within(1, mem[49], 244) {
         return false;
     }
-    if !well_roles(mem) {
+    if !within(7, mem[50], 244) {
         return false;
     }
-    if !well_sets(mem) {
+    if !within(1, mem[51], 244) {
         return false;
     }
-    if !well_diagnosis(mem) {
+    if !within(6, mem[52], 244) {
         return false;
     }
-    if !well_unused(mem) {
-        return false;
-    }
-    true
+    within(1, mem[53], 244)
 }

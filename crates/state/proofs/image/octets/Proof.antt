@@ -6,14 +6,50 @@ use borrow.Author.Needs.{needs}
 use Rattle.state.proofs.image.octets.Statement.{statement}
 use Rattle.state.proofs.image.octets.Tie as tie
 
+flags-requires : tie.Need-flags-requires
+flags-requires c κs = search needs
+
 low-requires : tie.Need-low-requires
 low-requires c κs = search needs
 
 high-requires : tie.Need-high-requires
 high-requires c κs = search needs
 
+kind-number-requires : tie.Need-kind-number-requires
+kind-number-requires c κs = search needs
+
+stage-number-requires : tie.Need-stage-number-requires
+stage-number-requires c κs = search needs
+
+drawn-number-requires : tie.Need-drawn-number-requires
+drawn-number-requires c κs = search needs
+
 phase-number-requires : tie.Need-phase-number-requires
 phase-number-requires c κs = search needs
+
+outputs-code-requires : tie.Need-outputs-code-requires
+outputs-code-requires c κs = search needs
+
+inputs-code-requires : tie.Need-inputs-code-requires
+inputs-code-requires c κs = search needs
+
+number-requires : tie.Need-number-requires
+number-requires c κs = search needs
+
+number-requires-2 : tie.Need-number-requires-2
+number-requires-2 c κs = search needs
+
+bit-requires : tie.Need-bit-requires
+bit-requires c κs = search needs
+
+bit-requires-2 : tie.Need-bit-requires-2
+bit-requires-2 c κs = search needs
+
+kind-number-requires-2 : tie.Need-kind-number-requires-2
+kind-number-requires-2 c κs = search needs
+
+reading-number-requires : tie.Need-reading-number-requires
+reading-number-requires c κs = search needs
 
 low-requires-2 : tie.Need-low-requires-2
 low-requires-2 c κs = search needs
@@ -27,44 +63,11 @@ low-requires-3 c κs = search needs
 high-requires-3 : tie.Need-high-requires-3
 high-requires-3 c κs = search needs
 
-flags-requires : tie.Need-flags-requires
-flags-requires c κs = search needs
-
-marks-requires : tie.Need-marks-requires
-marks-requires c κs = search needs
-
-number-requires : tie.Need-number-requires
-number-requires c κs = search needs
-
-number-requires-2 : tie.Need-number-requires-2
-number-requires-2 c κs = search needs
-
-number-requires-3 : tie.Need-number-requires-3
-number-requires-3 c κs = search needs
-
-number-requires-4 : tie.Need-number-requires-4
-number-requires-4 c κs = search needs
-
 low-requires-4 : tie.Need-low-requires-4
 low-requires-4 c κs = search needs
 
 high-requires-4 : tie.Need-high-requires-4
 high-requires-4 c κs = search needs
-
-reading-number-requires : tie.Need-reading-number-requires
-reading-number-requires c κs = search needs
-
-kind-number-requires : tie.Need-kind-number-requires
-kind-number-requires c κs = search needs
-
-stage-number-requires : tie.Need-stage-number-requires
-stage-number-requires c κs = search needs
-
-kind-number-requires-2 : tie.Need-kind-number-requires-2
-kind-number-requires-2 c κs = search needs
-
-drawn-number-requires : tie.Need-drawn-number-requires
-drawn-number-requires c κs = search needs
 
 returns : tie.Need-returns
 unfolding image
@@ -88,58 +91,61 @@ returns c =
     let c17 = c16 .before in
     let c18 = c17 .before in
     let c19 = c18 .before in
-    let same = part (image (c19 .before .before .before .before .before .before .args .s)) in
+    let c20 = c19 .before in
+    let same = part (image (c20 .before .before .before .before .before .before .args .s)) in
     λ i.
-    same 0 1
-    ++ c19 .low .ensures i
+    same 0 3
+    ++ c20 .flags .ensures i
+    ∷ c19 .low .ensures i
     ∷ c18 .high .ensures i
-    ∷ same 3 6
-    ++ c17 .phase-number .ensures i
-    ∷ same 10 3
-    ++ c16 .low2 .ensures i
-    ∷ c15 .high2 .ensures i
-    ∷ c14 .low3 .ensures i
-    ∷ c13 .high3 .ensures i
-    ∷ c12 .flags .ensures i
-    ∷ c11 .marks .ensures i
-    ∷ c10 .number .ensures i
-    ∷ c9 .number2 .ensures i
-    ∷ c8 .number3 .ensures i
-    ∷ c7 .number4 .ensures i
-    ∷ same 23 7
-    ++ c6 .low4 .ensures i
-    ∷ c5 .high4 .ensures i
-    ∷ c4 .reading-number .ensures i
-    ∷ c3 .kind-number .ensures i
-    ∷ same 34 10
-    ++ c2 .stage-number .ensures i
-    ∷ c1 .kind-number2 .ensures i
-    ∷ same 46 6
-    ++ c .drawn-number .ensures i
-    ∷ same 53 11
+    ∷ same 6 10
+    ++ c17 .kind-number .ensures i
+    ∷ c16 .stage-number .ensures i
+    ∷ c15 .drawn-number .ensures i
+    ∷ same 19 2
+    ++ c14 .phase-number .ensures i
+    ∷ c13 .outputs-code .ensures i
+    ∷ c12 .inputs-code .ensures i
+    ∷ c11 .number .ensures i
+    ∷ c10 .number2 .ensures i
+    ∷ same 26 1
+    ++ c9 .bit .ensures .0 i
+    ∷ c8 .bit2 .ensures .0 i
+    ∷ same 29 1
+    ++ c7 .kind-number2 .ensures i
+    ∷ c6 .reading-number .ensures i
+    ∷ same 32 10
+    ++ c5 .low2 .ensures i
+    ∷ c4 .high2 .ensures i
+    ∷ c3 .low3 .ensures i
+    ∷ c2 .high3 .ensures i
+    ∷ c1 .low4 .ensures i
+    ∷ c .high4 .ensures i
+    ∷ same 48 16
 
 pub octets-spec : {M : Type 1} → statement M
 octets-spec =
     tie.close
     (tie.spec
+    flags-requires
     low-requires
     high-requires
+    kind-number-requires
+    stage-number-requires
+    drawn-number-requires
     phase-number-requires
+    outputs-code-requires
+    inputs-code-requires
+    number-requires
+    number-requires-2
+    bit-requires
+    bit-requires-2
+    kind-number-requires-2
+    reading-number-requires
     low-requires-2
     high-requires-2
     low-requires-3
     high-requires-3
-    flags-requires
-    marks-requires
-    number-requires
-    number-requires-2
-    number-requires-3
-    number-requires-4
     low-requires-4
     high-requires-4
-    reading-number-requires
-    kind-number-requires
-    stage-number-requires
-    kind-number-requires-2
-    drawn-number-requires
     returns)

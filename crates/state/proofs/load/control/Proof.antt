@@ -44,7 +44,7 @@ diagnosis-requires c κs = search needs
 
 returns : tie.Need-returns
 unfolding unpacked
-returns c = let m = now (c .before .before .before .before .before .before .before .before .before .before .before .before .before .args .mem) in λ i. record { phase = c .before .before .before .before .before .before .before .before .phase-numbered .ensures i; owner = getD m 10 0; group = getD m 11 0; stored = getD m 12 0; watchdog = record { reload = c .before .before .before .before .before .before .before .before .before .before .word-at2 .ensures i; remaining = c .before .before .before .before .before .before .before .before .before .before .before .word-at .ensures i }; flags = c .before .before .before .flags-in .ensures i; events = c .before .before .events .ensures i; noted = c .before .noted .ensures i; diagnosis = c .diagnosis .ensures i }
+returns c = let m = now (c .before .before .before .before .before .before .before .before .before .before .before .before .before .args .mem) in λ i. record { phase = c .before .before .before .before .before .before .before .before .phase-numbered .ensures i; owner = getD m 0 0; group = getD m 1 0; stored = getD m 2 0; watchdog = record { reload = c .before .before .before .before .before .before .before .before .before .before .word-at2 .ensures i; remaining = c .before .before .before .before .before .before .before .before .before .before .before .word-at .ensures i }; flags = c .before .before .before .flags-in .ensures i; events = c .before .before .events .ensures i; noted = c .before .noted .ensures i; diagnosis = c .diagnosis .ensures i }
 
 pub control-spec : {M : Type 1} → statement M
 control-spec =

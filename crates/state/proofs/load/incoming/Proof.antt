@@ -34,7 +34,7 @@ returns c =
     let m = now (c .before .before .before .before .before .before .before .before .args .mem) in
     let r = c .before .before in
     let e = r .reader-in .ensures ∙ (λ j. readerIn m (r .before .before .before .reading-numbered .ensures j) (r .before .kind-numbered .ensures j)) in
-    λ i. record { reader = e i; first = getD m 42 0; second = getD m 43 0 }
+    λ i. record { reader = e i; first = getD m 40 0; second = getD m 41 0 }
 
 pub incoming-spec : {M : Type 1} → statement M
 incoming-spec =

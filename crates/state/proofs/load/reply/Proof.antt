@@ -40,7 +40,7 @@ returns c =
     let m = now (c .before .before .before .before .before .before .before .before .before .before .args .mem) in
     let s = c .before .before in
     let e = s .sender-in .ensures ∙ (λ j. senderIn m (s .before .before .before .stage-numbered .ensures j) (s .before .kind-numbered .ensures j)) in
-    λ i. record { drawn = c .before .before .before .before .before .before .before .drawn-numbered .ensures i; sender = e i; place = getD m 53 0; header = c .header-in .ensures i }
+    λ i. record { drawn = c .before .before .before .before .before .before .before .drawn-numbered .ensures i; sender = e i; place = getD m 19 0; header = c .header-in .ensures i }
 
 pub reply-spec : {M : Type 1} → statement M
 reply-spec =

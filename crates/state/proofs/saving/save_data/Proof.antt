@@ -2,7 +2,6 @@
 use native.Mathlib.Omega.{arith}
 use lib.ListN.{length-set}
 use denote.Ref.{now}
-use Rattle.state.specs.Unpack.{unpacked}
 use Rattle.state.proofs.Written.{in-front, data-saved}
 use borrow.Author.Needs.{needs}
 use Rattle.state.proofs.saving.save_data.Statement.{statement}
@@ -12,19 +11,19 @@ slice-write-mem : tie.Need-slice-write-mem
 slice-write-mem c = search needs
 
 slice-write-mem-2 : tie.Need-slice-write-mem-2
-slice-write-mem-2 c = simp length-set (in-front (c .pre) 41 (omega arith))
+slice-write-mem-2 c = simp length-set (in-front (now (c .args .mem)) (c .pre) 39 (omega arith))
 
 slice-write-mem-3 : tie.Need-slice-write-mem-3
-slice-write-mem-3 c = simp length-set (in-front (c .pre) 42 (omega arith))
+slice-write-mem-3 c = simp length-set (in-front (now (c .args .mem)) (c .pre) 40 (omega arith))
 
 slice-write-mem-4 : tie.Need-slice-write-mem-4
-slice-write-mem-4 c = simp length-set (in-front (c .pre) 43 (omega arith))
+slice-write-mem-4 c = simp length-set (in-front (now (c .args .mem)) (c .pre) 41 (omega arith))
 
 same-length : tie.Need-same-length
 same-length c = simp length-set
 
 returns : tie.Need-returns
-returns c = data-saved (now (c .args .mem)) (unpacked (now (c .args .mem))) (c .pre) _ _ _ _
+returns c = λ s e. data-saved (now (c .args .mem)) s e _ _ _ _
 
 pub save-data-spec : {M : Type 1} → statement M
 save-data-spec =

@@ -1,0 +1,33 @@
+// Octets of a memory held to limits below 128, by words.
+use crate::word;
+ghost use mathlib.Core.Path.{_≡_};
+ghost use mathlib.Core.Bool.{_&&_};
+ghost use mathlib.Core.List.{_++_};
+ghost use Prim.Native.Nat.{_+_, _≤_};
+ghost use lib.ListN.{length, replicate};
+ghost use Rattle.octets.specs.Part.{part};
+ghost use Rattle.ranges.specs.Octets.{octets, atMost, lows};
+
+// Whether each of the sixteen octets from a place on is at most its limit. Both words are tested by one comparison.
+pub fn two_words_within(mem: &[u8], at: usize, first: u64, second: u64) -> bool
+    requires { ⌜ at + 16 ≤ length (now mem) ⌝ }
+    ensures { λ r. ⌜ r ≡ atMost (part (now (mem .entry)) at 16) (lows (octets 8 first) ++ lows (octets 8 second)) ⌝ }
+{
+    (word::above(word::word(mem, at), first) | word::above(word::word(mem, at + 8), second)) == 0
+}
+
+// Whether each of the eight octets from a place on is from its least to its most.
+pub fn word_between(mem: &[u8], at: usize, least: u64, most: u64) -> bool
+    requires { ⌜ at + 8 ≤ length (now mem) ⌝ }
+    ensures { λ r. ⌜ r ≡ (atMost (part (now (mem .entry)) at 8) (lows (octets 8 most)) && atMost (lows (octets 8 least)) (part (now (mem .entry)) at 8)) ⌝ }
+{
+    word::outside(word::word(mem, at), least, most) == 0
+}
+
+// Whether the seven octets behind a place are 0.
+pub fn nothing_behind(mem: &[u8], at: usize) -> bool
+    requires { ⌜ at + 8 ≤ length (now mem) ⌝ }
+    ensures { λ r. ⌜ r ≡ atMost (part (now (mem .entry)) (at + 1) 7) (replicate 7 0) ⌝ }
+{
+    word::word(mem, at) < 256
+}

@@ -1,0 +1,64 @@
+// Eight octets in a word, the lowest first, held octet by octet to limits below 128.
+ghost use mathlib.Core.Path.{_≡_};
+ghost use mathlib.Core.Bool.{_&&_};
+ghost use mathlib.Core.List.{_∷_, []};
+ghost use Prim.Native.Nat.{_+_, _≤_};
+ghost use lib.Dec.{eqb};
+ghost use lib.ListN.{length};
+ghost use Rattle.octets.specs.Part.{part};
+ghost use Rattle.ranges.specs.Octets.{number, octets, atMost, lows};
+
+// The word with these octets. Written with | and << in one expression the compiler makes one load of it.
+fn join(a: u8, b: u8, c: u8, d: u8, e: u8, f: u8, g: u8, h: u8) -> u64
+    ensures { λ r. ⌜ r ≡ number (a ∷ b ∷ c ∷ d ∷ e ∷ f ∷ g ∷ h ∷ []) ⌝ }
+{
+    (a as u64)
+        | (b as u64) << 8
+        | (c as u64) << 16
+        | (d as u64) << 24
+        | (e as u64) << 32
+        | (f as u64) << 40
+        | (g as u64) << 48
+        | (h as u64) << 56
+}
+
+// The eight octets of the memory from a place on.
+pub fn word(mem: &[u8], at: usize) -> u64
+    requires { ⌜ at + 8 ≤ length (now mem) ⌝ }
+    ensures { λ r. ⌜ r ≡ number (part (now (mem .entry)) at 8) ⌝ }
+{
+    join(
+        mem[at],
+        mem[at + 1],
+        mem[at + 2],
+        mem[at + 3],
+        mem[at + 4],
+        mem[at + 5],
+        mem[at + 6],
+        mem[at + 7],
+    )
+}
+
+// The low seven bits of every octet.
+const LOW: u64 = 0x7f7f_7f7f_7f7f_7f7f;
+
+// Bit 7 of every octet.
+const TOP: u64 = 0x8080_8080_8080_8080;
+
+// 0 exactly if each octet of x is at most its limit, an octet of the word of limits below 128. An octet from 128 on shows
+// its own bit 7, so it does not matter what its sum carries into the next one.
+pub fn above(x: u64, limits: u64) -> u64
+    ensures { λ r. ⌜ eqb r 0 ≡ atMost (octets 8 x) (lows (octets 8 limits)) ⌝ }
+{
+    let sum = std::num::wrapping_add_u64(x, !limits & LOW);
+    (x | sum) & TOP
+}
+
+// 0 exactly if each octet of x is from its least to its most, both below 128. Where no octet is above its most, none of the
+// differences 127 + least - octet takes from the next one, and it has bit 7 set exactly if the octet is below its least.
+pub fn outside(x: u64, least: u64, most: u64) -> u64
+    ensures { λ r. ⌜ eqb r 0 ≡ (atMost (octets 8 x) (lows (octets 8 most)) && atMost (lows (octets 8 least)) (octets 8 x)) ⌝ }
+{
+    let below = std::num::wrapping_sub_u64(LOW + (least & LOW), x);
+    above(x, most) | below & TOP
+}

@@ -1,0 +1,87 @@
+-- `state::saving::save_standing` meets its contract.
+use native.Mathlib.Omega.{arith}
+use mathlib.Core.Path.{_∙_}
+use mathlib.Core.List.{[], _∷_}
+use lib.ListN.{length-set}
+use denote.Ref.{now}
+use Rattle.state.proofs.Written.{in-front, wrote, standing-saved}
+use borrow.Author.Needs.{needs}
+use Rattle.state.proofs.saving.save_standing.Statement.{statement}
+use Rattle.state.proofs.saving.save_standing.Tie as tie
+
+flags-requires : tie.Need-flags-requires
+flags-requires c κs = search needs
+
+bit-requires : tie.Need-bit-requires
+bit-requires c κs = search needs
+
+phase-number-requires : tie.Need-phase-number-requires
+phase-number-requires c κs = search needs
+
+slice-write-mem : tie.Need-slice-write-mem
+slice-write-mem c = search needs
+
+low-requires : tie.Need-low-requires
+low-requires c κs = search needs
+
+slice-write-mem-2 : tie.Need-slice-write-mem-2
+slice-write-mem-2 c = simp length-set (in-front (now (c .before .before .before .before .before .args .mem)) (c .before .before .before .before .before .pre) 44 (omega arith))
+
+high-requires : tie.Need-high-requires
+high-requires c κs = search needs
+
+slice-write-mem-3 : tie.Need-slice-write-mem-3
+slice-write-mem-3 c = simp length-set (in-front (now (c .before .before .before .before .before .before .args .mem)) (c .before .before .before .before .before .before .pre) 45 (omega arith))
+
+slice-write-mem-4 : tie.Need-slice-write-mem-4
+slice-write-mem-4 c = simp length-set (in-front (now (c .before .before .before .before .before .before .args .mem)) (c .before .before .before .before .before .before .pre) 0 (omega arith))
+
+slice-write-mem-5 : tie.Need-slice-write-mem-5
+slice-write-mem-5 c = simp length-set (in-front (now (c .before .before .before .before .before .before .args .mem)) (c .before .before .before .before .before .before .pre) 1 (omega arith))
+
+slice-write-mem-6 : tie.Need-slice-write-mem-6
+slice-write-mem-6 c = simp length-set (in-front (now (c .before .before .before .before .before .before .args .mem)) (c .before .before .before .before .before .before .pre) 2 (omega arith))
+
+slice-write-mem-7 : tie.Need-slice-write-mem-7
+slice-write-mem-7 c = simp length-set (in-front (now (c .before .before .before .before .before .before .args .mem)) (c .before .before .before .before .before .before .pre) 3 (omega arith))
+
+slice-write-mem-8 : tie.Need-slice-write-mem-8
+slice-write-mem-8 c = simp length-set (in-front (now (c .before .before .before .before .before .before .args .mem)) (c .before .before .before .before .before .before .pre) 26 (omega arith))
+
+slice-write-mem-9 : tie.Need-slice-write-mem-9
+slice-write-mem-9 c = simp length-set (in-front (now (c .before .before .before .before .before .before .args .mem)) (c .before .before .before .before .before .before .pre) 27 (omega arith))
+
+slice-write-mem-10 : tie.Need-slice-write-mem-10
+slice-write-mem-10 c = simp length-set (in-front (now (c .before .before .before .before .before .before .args .mem)) (c .before .before .before .before .before .before .pre) 56 (omega arith))
+
+slice-write-mem-11 : tie.Need-slice-write-mem-11
+slice-write-mem-11 c = simp length-set (in-front (now (c .before .before .before .before .before .before .args .mem)) (c .before .before .before .before .before .before .pre) 57 (omega arith))
+
+same-length : tie.Need-same-length
+same-length c = simp length-set
+
+returns : tie.Need-returns
+returns c = let m = now (c .before .before .before .before .before .before .args .mem) in let i = c .before .before .before .before .before .before .args .control in λ s e. (λ j. wrote (wrote (wrote (wrote (wrote m 21 (c .before .before .phase-number .ensures j ∷ [])) 44 (c .before .low .ensures j ∷ c .high .ensures j ∷ [])) 0 (i .owner ∷ i .group ∷ i .stored ∷ c .before .before .before .before .flags .ensures j ∷ [])) 26 (i .diagnosis .«delayed_flags» ∷ c .before .before .before .bit .ensures .0 j ∷ [])) 56 (i .diagnosis .count ∷ i .diagnosis .«delayed_count» ∷ [])) ∙ standing-saved m s e i
+
+pub save-standing-spec : {M : Type 1} → statement M
+save-standing-spec =
+    tie.close
+    (tie.spec
+    flags-requires
+    bit-requires
+    phase-number-requires
+    slice-write-mem
+    low-requires
+    slice-write-mem-2
+    high-requires
+    slice-write-mem-3
+    slice-write-mem-4
+    slice-write-mem-5
+    slice-write-mem-6
+    slice-write-mem-7
+    slice-write-mem-8
+    slice-write-mem-9
+    slice-write-mem-10
+    slice-write-mem-11
+    same-length
+    returns)
