@@ -41,7 +41,7 @@ pub fn clear_noted(busy: bool, control: Control) -> Outcome
 }
 
 // In WAIT_CFG or DATA_EXCH with the watchdog on.
-fn counts(control: Control) -> bool
+pub fn counts(control: Control) -> bool
     ensures { λ b. ⌜ b ≡ counts control ⌝ }
 {
     let phase = control.phase;

@@ -208,7 +208,7 @@ pub fn chk_cfg(setup: Setup, control: Control, opened: bool, r: Request) -> Outc
 }
 
 // From the owner in DATA_EXCH.
-fn exchanges(control: Control, r: Request) -> bool
+pub fn exchanges(control: Control, r: Request) -> bool
     ensures { λ b. ⌜ b ≡ exchanges control r ⌝ }
 {
     let master = master_of(r);

@@ -7,6 +7,8 @@ pub mod SetCodes
 pub mod LineCounts
 pub mod Round
 pub mod Places
+pub mod ByWords
+pub mod ShortLengths
 pub mod Codes
 pub mod Asking
 pub mod Front

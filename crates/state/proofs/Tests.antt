@@ -3,10 +3,10 @@ use Prim.Native.Nat.{ℕ, zero, suc}
 use native.Mathlib.Omega.{arith}
 use mathlib.Core.Path.{_≡_, refl, sym, ap, _∙_}
 use mathlib.Core.Logic.{inl, inr, ⊎-elim}
-use mathlib.Core.Bool.{Bool, true, false, cond, _&&_, _||_, not, false≢true}
-use mathlib.Core.List.{List, [], _∷_}
+use mathlib.Core.Bool.{Bool, true, false, cond, _&&_, _||_, not, false≢true, and-assoc, and-comm}
+use mathlib.Core.List.{List, [], _∷_, _++_}
 use lib.Dec.{leb, eqb}
-use lib.ListN.{getD}
+use lib.ListN.{getD, take, drop}
 use borrow.Author.Tests.{leb-true, le-leb, eqb-true, eqb-false, eq-eqb, ne-eqb, not-false}
 use Rattle.state.specs.declared.state.Sets.{Sets}
 use Rattle.state.specs.Sound.{Within, NoneOr, SetsCounted}
@@ -19,21 +19,17 @@ from-first a [] h = h
 from-first true (b ∷ l) h = refl
 from-first false (b ∷ l) h = from-first false l h
 
--- and the others
-from-rest : (a : Bool) (l : List Bool) → allFrom a l ≡ true → all l ≡ true
-from-rest a [] h = refl
-from-rest true (b ∷ l) h = h
-from-rest false (b ∷ l) h = absurd (let e : false ≡ true = from-first false l h in let z : _≡_ {A = ℕ} 0 1 = cc in omega arith)
-
--- the others
+-- and the others hold too
 pub all-behind : (a : Bool) (l : List Bool) → all (a ∷ l) ≡ true → all l ≡ true
-all-behind a l h = from-rest a l h
+all-behind a [] h = refl
+all-behind true (b ∷ l) h = h
+all-behind false (b ∷ l) h = absurd (let e : false ≡ true = from-first false l h in let z : _≡_ {A = ℕ} 0 1 = cc in omega arith)
 
 -- each of tests that all hold
 pub all-at : (l : List Bool) (i : ℕ) → all l ≡ true → getD l i true ≡ true
 all-at [] i h = refl
 all-at (a ∷ l) zero h = from-first a l h
-all-at (a ∷ l) (suc i) h = all-at l i (from-rest a l h)
+all-at (a ∷ l) (suc i) h = all-at l i (all-behind a l h)
 
 -- one test that fails is enough
 false-from : (l : List Bool) → allFrom false l ≡ false
@@ -51,18 +47,37 @@ all-fails [] i h = absurd (false≢true (sym h))
 all-fails (a ∷ l) zero h = sym (ap (λ (t : Bool). allFrom t l) h ∙ false-from l)
 all-fails (a ∷ l) (suc i) h = sym (fails-from a l i h)
 
--- and where none fails they hold
+-- the first of the tests, and the others
+pub from-and : (a : Bool) (l : List Bool) → allFrom a l ≡ (a && all l)
+from-and true [] = refl
+from-and true (b ∷ l) = refl
+from-and false [] = refl
+from-and false (b ∷ l) = from-and false l
+
+-- none of them fails
 abbrev pub Passed : List Bool → Type 0
 Passed [] = Unit
 Passed (a ∷ l) = (not a ≡ false) × Passed l
 
-passed-from : (a : Bool) (l : List Bool) → a ≡ true → Passed l → allFrom a l ≡ true
-passed-from a [] e h = e
-passed-from a (b ∷ l) e h = passed-from (a && b) l (λ i. e i && not-false b (h .0) i) (h .1)
+-- where the first n hold the others decide
+pub others-decide : (n : ℕ) (l : List Bool) → Passed (take n l) → all (drop n l) ≡ all l
+others-decide zero l h = refl
+others-decide (suc n) [] h = refl
+others-decide (suc n) (a ∷ l) h =
+    others-decide n l (h .1) ∙ sym (from-and a l ∙ ap (λ (t : Bool). t && all l) (not-false a (h .0)))
 
-pub all-hold : (l : List Bool) → Passed l → true ≡ all l
-all-hold [] h = refl
-all-hold (a ∷ l) h = sym (passed-from a l (not-false a (h .0)) (h .1))
+-- two lists of tests in one
+all-append : (l r : List Bool) → all (l ++ r) ≡ (all l && all r)
+all-append [] r = refl
+all-append (a ∷ l) r =
+    from-and a (l ++ r)
+    ∙ ap (λ (t : Bool). a && t) (all-append l r)
+    ∙ sym (and-assoc a (all l) (all r))
+    ∙ ap (λ (t : Bool). t && all r) (sym (from-and a l))
+
+-- in either order
+pub all-swap : (l r : List Bool) → all (l ++ r) ≡ all (r ++ l)
+all-swap l r = all-append l r ∙ and-comm (all l) (all r) ∙ sym (all-append r l)
 
 -- the range of a test that holds
 pub within-true : (lo x hi : ℕ) → within lo x hi ≡ true → Within lo x hi

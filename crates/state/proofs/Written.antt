@@ -33,20 +33,58 @@ abbrev pub wrote : List ℕ → ℕ → List ℕ → List ℕ
 wrote m i [] = m
 wrote m i (x ∷ xs) = wrote (set m i x) (suc i) xs
 
--- one part after another
+-- ---- one part after another
+
+-- what was packed stands in front
+pub again : (m n : List ℕ) (t : State) → n ≡ kept t m → n ≡ kept t n
+again m n t e = e ∙ sym (kept-kept t t m) ∙ ap (kept t) (sym e)
+
+-- the last state counts
+pub onto : (m n l : List ℕ) (t u : State) → n ≡ kept t m → l ≡ kept u n → l ≡ kept u m
+onto m n l t u e f = f ∙ ap (kept u) e ∙ kept-kept u t m
+
 pub then : (m n l : List ℕ) (f g : State → State) → Changes m n f → Changes n l g → Changes m l (λ s. g (f s))
-then m n l f g a b =
-    λ s e.
-    let c : n ≡ kept (f s) m = a s e in
-    let d : n ≡ kept (f s) n = c ∙ sym (kept-kept (f s) (f s) m) ∙ ap (kept (f s)) (sym c) in
-    b (f s) d ∙ ap (kept (g (f s))) c ∙ kept-kept (g (f s)) (f s) m
+then m n l f g a b = λ s e. onto m n l (f s) (g (f s)) (a s e) (b (f s) (again m n (f s) (a s e)))
+
+-- ---- the octets of a part
+
+-- a word, low octet first
+abbrev wordOctets : ℕ → List ℕ
+wordOctets n = n % 256 ∷ n / 256 ∷ []
+
+-- the telegram that is coming
+abbrev incomingOctets : Incoming → List ℕ
+incomingOctets i =
+    kindNumber (i .reader .kind)
+    ∷ readingNumber (i .reader .phase)
+    ∷ i .reader .count
+    ∷ i .reader .at
+    ∷ i .reader .da
+    ∷ i .reader .sa
+    ∷ i .reader .fc
+    ∷ i .reader .dsap
+    ∷ i .reader .ssap
+    ∷ i .reader .sum
+    ∷ i .first
+    ∷ i .second
+    ∷ []
+
+-- the sender but for its kind and stage
+abbrev senderOctets : Sender → List ℕ
+senderOctets x = x .da ∷ x .sa ∷ x .fc ∷ x .sum ∷ x .count ∷ x .at ∷ []
+
+-- the diagnosis header of a reply
+abbrev headerOctets : Reply → List ℕ
+headerOctets r = r .header .status1 ∷ r .header .status2 ∷ r .header .status3 ∷ r .header .master ∷ []
+
+-- ---- the parts
 
 -- a memory with the state s in front
 module _ (m : List ℕ) (s : State) (front : m ≡ kept s m) where
   -- octets 30 to 41
-  pub incoming-saved : (i : Incoming) → wrote m 30 (kindNumber (i .reader .kind) ∷ readingNumber (i .reader .phase) ∷ i .reader .count ∷ i .reader .at ∷ i .reader .da ∷ i .reader .sa ∷ i .reader .fc ∷ i .reader .dsap ∷ i .reader .ssap ∷ i .reader .sum ∷ i .first ∷ i .second ∷ []) ≡ kept (withIncoming s i) m
+  pub incoming-saved : (i : Incoming) → wrote m 30 (incomingOctets i) ≡ kept (withIncoming s i) m
   unfolding image
-  incoming-saved i = ap (λ (l : List ℕ). wrote l 30 (kindNumber (i .reader .kind) ∷ readingNumber (i .reader .phase) ∷ i .reader .count ∷ i .reader .at ∷ i .reader .da ∷ i .reader .sa ∷ i .reader .fc ∷ i .reader .dsap ∷ i .reader .ssap ∷ i .reader .sum ∷ i .first ∷ i .second ∷ [])) front
+  incoming-saved i = ap (λ (l : List ℕ). wrote l 30 (incomingOctets i)) front
 
   -- octets 33 and 39 to 41
   pub data-saved : (at sum first second : ℕ) → wrote (wrote m 33 (at ∷ [])) 39 (sum ∷ first ∷ second ∷ []) ≡ kept (withData s at sum first second) m
@@ -54,29 +92,29 @@ module _ (m : List ℕ) (s : State) (front : m ≡ kept s m) where
   data-saved at sum first second = ap (λ (l : List ℕ). wrote (wrote l 33 (at ∷ [])) 39 (sum ∷ first ∷ second ∷ [])) front
 
   -- octets 10 to 17
-  pub sender-saved : (x : Sender) → wrote (wrote m 16 (kindNumber (x .kind) ∷ stageNumber (x .stage) ∷ [])) 10 (x .da ∷ x .sa ∷ x .fc ∷ x .sum ∷ x .count ∷ x .at ∷ []) ≡ kept (withSender s x) m
+  pub sender-saved : (x : Sender) → wrote (wrote m 16 (kindNumber (x .kind) ∷ stageNumber (x .stage) ∷ [])) 10 (senderOctets x) ≡ kept (withSender s x) m
   unfolding image
-  sender-saved x = ap (λ (l : List ℕ). wrote (wrote l 16 (kindNumber (x .kind) ∷ stageNumber (x .stage) ∷ [])) 10 (x .da ∷ x .sa ∷ x .fc ∷ x .sum ∷ x .count ∷ x .at ∷ [])) front
+  sender-saved x = ap (λ (l : List ℕ). wrote (wrote l 16 (kindNumber (x .kind) ∷ stageNumber (x .stage) ∷ [])) 10 (senderOctets x)) front
 
   -- octets 6 to 9, 18 and 19
-  pub outline-saved : (r : Reply) → wrote (wrote m 18 (drawnNumber (r .drawn) ∷ r .place ∷ [])) 6 (r .header .status1 ∷ r .header .status2 ∷ r .header .status3 ∷ r .header .master ∷ []) ≡ kept (withOutline s r) m
+  pub outline-saved : (r : Reply) → wrote (wrote m 18 (drawnNumber (r .drawn) ∷ r .place ∷ [])) 6 (headerOctets r) ≡ kept (withOutline s r) m
   unfolding image
-  outline-saved r = ap (λ (l : List ℕ). wrote (wrote l 18 (drawnNumber (r .drawn) ∷ r .place ∷ [])) 6 (r .header .status1 ∷ r .header .status2 ∷ r .header .status3 ∷ r .header .master ∷ [])) front
+  outline-saved r = ap (λ (l : List ℕ). wrote (wrote l 18 (drawnNumber (r .drawn) ∷ r .place ∷ [])) 6 (headerOctets r)) front
 
   -- octets 4 and 5
-  pub events-saved : (e : Events) → wrote m 4 (e .word % 256 ∷ e .word / 256 ∷ []) ≡ kept (withEventWord s e) m
+  pub events-saved : (e : Events) → wrote m 4 (wordOctets (e .word)) ≡ kept (withEventWord s e) m
   unfolding image
-  events-saved e = ap (λ (l : List ℕ). wrote l 4 (e .word % 256 ∷ e .word / 256 ∷ [])) front
+  events-saved e = ap (λ (l : List ℕ). wrote l 4 (wordOctets (e .word))) front
 
   -- octets 42 and 43
-  pub ticks-saved : (n : ℕ) → wrote m 42 (n % 256 ∷ n / 256 ∷ []) ≡ kept (withTicks s n) m
+  pub ticks-saved : (n : ℕ) → wrote m 42 (wordOctets n) ≡ kept (withTicks s n) m
   unfolding image
-  ticks-saved n = ap (λ (l : List ℕ). wrote l 42 (n % 256 ∷ n / 256 ∷ [])) front
+  ticks-saved n = ap (λ (l : List ℕ). wrote l 42 (wordOctets n)) front
 
   -- octets 0 to 3, 21, 26, 27, 44, 45, 56 and 57
-  pub standing-saved : (c : Control) → wrote (wrote (wrote (wrote (wrote m 21 (phaseNumber (c .phase) ∷ [])) 44 (c .watchdog .reload % 256 ∷ c .watchdog .reload / 256 ∷ [])) 0 (c .owner ∷ c .group ∷ c .stored ∷ flagsOf (c .flags) ∷ [])) 26 (c .diagnosis .«delayed_flags» ∷ bitOf (c .noted) ∷ [])) 56 (c .diagnosis .count ∷ c .diagnosis .«delayed_count» ∷ []) ≡ kept (withStanding s c) m
+  pub standing-saved : (c : Control) → wrote (wrote (wrote (wrote (wrote m 21 (phaseNumber (c .phase) ∷ [])) 44 (wordOctets (c .watchdog .reload))) 0 (c .owner ∷ c .group ∷ c .stored ∷ flagsOf (c .flags) ∷ [])) 26 (c .diagnosis .«delayed_flags» ∷ bitOf (c .noted) ∷ [])) 56 (c .diagnosis .count ∷ c .diagnosis .«delayed_count» ∷ []) ≡ kept (withStanding s c) m
   unfolding image
-  standing-saved c = ap (λ (l : List ℕ). wrote (wrote (wrote (wrote (wrote l 21 (phaseNumber (c .phase) ∷ [])) 44 (c .watchdog .reload % 256 ∷ c .watchdog .reload / 256 ∷ [])) 0 (c .owner ∷ c .group ∷ c .stored ∷ flagsOf (c .flags) ∷ [])) 26 (c .diagnosis .«delayed_flags» ∷ bitOf (c .noted) ∷ [])) 56 (c .diagnosis .count ∷ c .diagnosis .«delayed_count» ∷ [])) front
+  standing-saved c = ap (λ (l : List ℕ). wrote (wrote (wrote (wrote (wrote l 21 (phaseNumber (c .phase) ∷ [])) 44 (wordOctets (c .watchdog .reload))) 0 (c .owner ∷ c .group ∷ c .stored ∷ flagsOf (c .flags) ∷ [])) 26 (c .diagnosis .«delayed_flags» ∷ bitOf (c .noted) ∷ [])) 56 (c .diagnosis .count ∷ c .diagnosis .«delayed_count» ∷ [])) front
 
   -- octet 22
   pub outputs-saved : (o : Outputs) → wrote m 22 (outputsCode o ∷ []) ≡ kept (withOutputs s o) m

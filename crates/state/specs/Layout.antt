@@ -102,11 +102,3 @@ pub record BuffersEnd : Type 0 where
   pub all-96 : endOf (allLengths 96) ≡ 1504
   pub all-97 : endOf (allLengths 97) ≡ 1624
   pub all-244 : endOf (allLengths 244) ≡ 3784
-
--- lengths that are short: with all of them so short the buffers end where all-96 says, so in every memory that the station is lent
-abbrev pub shortLength : ℕ
-shortLength = 96
-
--- where they end at most
-abbrev pub shortEnd : ℕ
-shortEnd = 1504

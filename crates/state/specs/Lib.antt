@@ -4,6 +4,7 @@ pub mod Unpack
 pub mod With
 pub mod Sound
 pub mod Well
+pub mod Short
 pub mod Layout
 pub mod Answer
 pub mod Start

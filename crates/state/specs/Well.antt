@@ -5,7 +5,6 @@ use mathlib.Core.List.{List, [], _∷_}
 use lib.Dec.{leb, eqb}
 use lib.ListN.{getD}
 use Rattle.state.specs.declared.setup.Setup.{Setup}
-use Rattle.state.specs.Layout.{shortLength}
 use Rattle.state.specs.Unpack.{setupIn}
 
 -- a and each of l
@@ -48,19 +47,6 @@ lengthTests s =
 -- the word of the lengths, octets 48 to 55: six lengths, and two octets that are not used
 abbrev pub lengthsTests : List ℕ → List Bool
 lengthsTests m = eqb (getD m 54 0) 0 ∷ eqb (getD m 55 0) 0 ∷ lengthTests (setupIn m 0)
-
--- the same with short lengths, of which every sum is known to fit
-abbrev pub shortTests : List ℕ → List Bool
-shortTests m =
-    eqb (getD m 54 0) 0
-    ∷ eqb (getD m 55 0) 0
-    ∷ within 1 (getD m 48 0) shortLength
-    ∷ within 1 (getD m 49 0) shortLength
-    ∷ within 7 (getD m 50 0) shortLength
-    ∷ within 1 (getD m 51 0) shortLength
-    ∷ within 6 (getD m 52 0) shortLength
-    ∷ within 1 (getD m 53 0) shortLength
-    ∷ []
 
 -- the counts of a delayed diagnosis and of the sets that are shown and that wait, octets 57 to 61; two octets are not used
 abbrev pub setTests : List ℕ → List Bool

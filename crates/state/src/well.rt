@@ -6,7 +6,8 @@ ghost use mathlib.Core.Path.{_≡_};
 ghost use Prim.Native.Nat.{_≤_};
 ghost use lib.ListN.{length};
 ghost use Rattle.state.specs.Layout.{stateLength};
-ghost use Rattle.state.specs.Well.{all, within, noneOr, setCounts, partDone, lengthsTests, shortTests, setTests, countTests, lineTests, codeTests};
+ghost use Rattle.state.specs.Short.{shortTests};
+ghost use Rattle.state.specs.Well.{all, within, noneOr, setCounts, partDone, lengthsTests, setTests, countTests, lineTests, codeTests};
 
 // lo to hi.
 fn within(lo: u8, x: u8, hi: u8) -> bool

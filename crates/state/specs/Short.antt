@@ -1,0 +1,28 @@
+-- Short lengths: what the damage check looks at first. No promise above it mentions them.
+use Prim.Native.Nat.{ℕ}
+use mathlib.Core.Bool.{Bool}
+use mathlib.Core.List.{List, [], _∷_}
+use lib.Dec.{eqb}
+use lib.ListN.{getD}
+use Rattle.state.specs.Well.{within}
+
+-- the longest of them: "All six lengths 96 end at 1,504 and fit in 1,536"
+abbrev pub shortLength : ℕ
+shortLength = 96
+
+-- where the buffers of short lengths end at most
+abbrev pub shortEnd : ℕ
+shortEnd = 1504
+
+-- the word of the lengths where all of them are short
+abbrev pub shortTests : List ℕ → List Bool
+shortTests m =
+    eqb (getD m 54 0) 0
+    ∷ eqb (getD m 55 0) 0
+    ∷ within 1 (getD m 48 0) shortLength
+    ∷ within 1 (getD m 49 0) shortLength
+    ∷ within 7 (getD m 50 0) shortLength
+    ∷ within 1 (getD m 51 0) shortLength
+    ∷ within 6 (getD m 52 0) shortLength
+    ∷ within 1 (getD m 53 0) shortLength
+    ∷ []
