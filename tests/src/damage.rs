@@ -1,12 +1,13 @@
 //! Memories that somebody damaged, and lengths that are not the memory's. The second implementation has no memory, so
 //! these checks hold the C library to document 01 alone: an image that is no state's is refused with 5 by every call
-//! but Start and stays as it is; one that is a state's is never refused with 5 again, whatever is called. Of the counts
-//! on the line and of the sets, which images are a state's is said by docs/memory.md and held to exactly. In all
-//! cases no octet outside the lent memory is touched and every answer is one that the call can have.
+//! but Start and stays as it is; one that is a state's is never refused with 5, whatever is called. Which images are
+//! a state's is said by docs/memory.md (image.rs), and every image here is held to it. In all cases no octet outside
+//! the lent memory is touched and every answer is one that the call can have.
 
 use crate::call::{Call, StartValues};
 use crate::card::{call_library, first_change, is_possible, only_looks, Card, Memory, STATE};
 use crate::draft::{self, Draft};
+use crate::image::{is_state, LENGTHS};
 use crate::outcome::{Outcome, Tally};
 use crate::random::Random;
 
@@ -20,10 +21,16 @@ const WALK_EVERY: usize = 8;
 /// Lengths are tried from 0 to here, beyond the longest memory.
 const LONGEST_LENGTH: usize = 4112;
 
-/// Where the marks, the phase of reading and the stage of sending lie in the state part: docs/memory.md.
-const MARKS: usize = 18;
-const READING: usize = 32;
-const SENDING: usize = 44;
+/// Octets of the state part that are tried at their limits: docs/memory.md. Phase, count and how many are done, of the
+/// telegram that is read and of the reply; the counts that are shown and that wait, of parameters and of configuration;
+/// the counts of diagnosis and of a delayed one.
+const LINES: [[usize; 3]; 2] = [[31, 32, 33], [17, 14, 15]];
+const SETS: [[usize; 2]; 2] = [[58, 59], [60, 61]];
+const DIAGNOSIS: [usize; 2] = [56, 57];
+
+/// Lengths at their limits, at the longest that needs no sum (96) and beside them.
+const LENGTHS_TRIED: [u8; 16] = [0, 1, 5, 6, 7, 32, 88, 95, 96, 97, 128, 200, 243, 244, 245, 255];
+const LENGTHS_TRIALS: usize = 400;
 
 /// Every pair of these values.
 fn pairs(values: &[u8]) -> Vec<(u8, u8)> {
@@ -151,58 +158,54 @@ impl Trial<'_> {
         Ok(())
     }
 
-    /// Counts at their limits and one past them, as docs/memory.md has them. Refused are exactly those that break the rules.
+    /// Counts at their limits and one past them.
     pub fn try_counts(&mut self) -> Result<(), String> {
-        self.try_line_counts(READING, 9, 12)?;
-        self.try_line_counts(SENDING, 7, 10)?;
-        self.try_set_counts(23, 0x08, 7, self.values.parameters as u8)?;
-        self.try_set_counts(25, 0x10, 1, self.values.configuration as u8)
-    }
-
-    /// Of the telegram that is read or of the reply: its phase, how many data octets it has and how many are done.
-    fn try_line_counts(&mut self, at: usize, first_of_data: u8, last: u8) -> Result<(), String> {
-        for phase in 0..=last {
-            for (count, done) in pairs(&[0, 1, 2, 245, 246, 247, 255]) {
-                let whole = count <= 246 && done <= count;
-                let keeps = whole && (done == 0 || phase >= first_of_data);
-                let octets = [(at, phase), (at + 2, count), (at + 3, done)];
-                self.judge_counts(&octets, keeps)?;
+        for [phase, count, done] in LINES {
+            for value in 0..=13 {
+                for (first, second) in pairs(&[0, 1, 2, 245, 246, 247, 255]) {
+                    self.try_octets(&[(phase, value), (count, first), (done, second)])?;
+                }
             }
         }
-        Ok(())
-    }
-
-    /// Of a set that is shown and of one that waits behind it.
-    fn try_set_counts(&mut self, at: usize, mark: u8, least: u8, length: u8) -> Result<(), String> {
-        let in_range = |count: u8| least <= count && count <= length;
-        for (shown, waiting) in pairs(&[0, least - 1, least, length, length + 1]) {
-            let keeps = match shown {
-                0 => waiting == 0,
-                _ => in_range(shown) && (waiting == 0 || in_range(waiting)),
-            };
-            let marks = match waiting {
-                0 => self.card.state()[MARKS] & !mark,
-                _ => self.card.state()[MARKS] | mark,
-            };
-            let octets = [(at, shown), (at + 1, waiting), (MARKS, marks)];
-            self.judge_counts(&octets, keeps)?;
+        let lengths = [self.values.parameters, self.values.configuration];
+        for ([shown, waiting], length) in SETS.into_iter().zip(lengths) {
+            for (first, second) in pairs(&[0, 1, 6, 7, length as u8, length as u8 + 1]) {
+                self.try_octets(&[(shown, first), (waiting, second)])?;
+            }
+        }
+        let length = self.values.diagnosis as u8;
+        for (count, delayed) in pairs(&[0, 5, 6, length, length + 1]) {
+            self.try_octets(&[(DIAGNOSIS[0], count), (DIAGNOSIS[1], delayed)])?;
         }
         Ok(())
     }
 
-    /// The image with these octets is refused exactly if its counts do not keep the rules.
-    fn judge_counts(&mut self, octets: &[(usize, u8)], keeps: bool) -> Result<(), String> {
+    /// Other lengths, with whatever counts the state has.
+    pub fn try_lengths(&mut self) -> Result<(), String> {
+        for trial in 0..LENGTHS_TRIALS {
+            let one = self.random.pick(&LENGTHS_TRIED);
+            let octets: Vec<(usize, u8)> = (LENGTHS..LENGTHS + 6)
+                .map(|at| match trial % 2 {
+                    0 => (at, self.random.pick(&LENGTHS_TRIED)),
+                    _ => (at, one),
+                })
+                .collect();
+            self.try_octets(&octets)?;
+        }
+        Ok(())
+    }
+
+    /// The image with these octets.
+    fn try_octets(&mut self, octets: &[(usize, u8)]) -> Result<(), String> {
         let mut image = self.card.state().to_vec();
         for (at, octet) in octets {
             image[*at] = *octet;
         }
-        let refused = self.judge_image(&image, "image with other counts")?;
-        match (keeps, refused) {
-            (true, false) => self.tally.add(Outcome::CountsTaken),
-            (false, true) => self.tally.add(Outcome::CountsRefused),
-            (true, true) => return Err(format!("with the counts {octets:?} refuses with 5")),
-            (false, false) => return Err(format!("takes the counts {octets:?} for a state's")),
-        }
+        let refused = self.judge_image(&image, "image with other counts or lengths")?;
+        self.tally.add(match refused {
+            true => Outcome::CountsRefused,
+            false => Outcome::CountsTaken,
+        });
         Ok(())
     }
 
@@ -215,7 +218,13 @@ impl Trial<'_> {
 
     /// True if the image is refused. The memory is as before when this is over.
     fn judge(&mut self, memory: &mut Memory) -> Result<bool, String> {
-        if memory.call(&Call::Events) == -5 {
+        let refused = memory.call(&Call::Events) == -5;
+        match (is_state(&memory.contents()[..STATE], memory.length()), refused) {
+            (true, true) => return Err("refuses a state with 5".into()),
+            (false, false) => return Err("takes it for a state".into()),
+            _ => (),
+        }
+        if refused {
             refused_by_all(memory)?;
             return Ok(true);
         }

@@ -8,6 +8,7 @@ mod compare;
 mod damage;
 mod draft;
 mod generator;
+mod image;
 mod ledger;
 mod lists;
 mod outcome;

@@ -25,7 +25,7 @@ pub fn is_open(s: Sets) -> bool
     !(s.shown == 0)
 }
 
-fn on_outputs(deed: OutputsDeed, o: Outputs) -> Outputs
+pub fn on_outputs(deed: OutputsDeed, o: Outputs) -> Outputs
     ensures { λ r. ⌜ r ≡ onOutputs deed o ⌝ }
 {
     match deed {
@@ -51,7 +51,7 @@ fn bring_new(t: Triple) -> Triple
     t
 }
 
-fn on_inputs(deed: OutputsDeed, t: Triple) -> Triple
+pub fn on_inputs(deed: OutputsDeed, t: Triple) -> Triple
     ensures { λ r. ⌜ r ≡ onInputs deed t ⌝ }
 {
     match deed {
@@ -79,7 +79,7 @@ fn received_set(s: Sets, count: u8) -> Sets
     }
 }
 
-fn on_sets(deed: SetDeed, s: Sets, count: u8) -> Sets
+pub fn on_sets(deed: SetDeed, s: Sets, count: u8) -> Sets
     ensures { λ r. ⌜ r ≡ onSets deed s count ⌝ }
 {
     match deed {

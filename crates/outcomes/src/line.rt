@@ -50,6 +50,29 @@ pub fn diagnosis_leaves(s: State) -> bool
     is_diagnosis(drawn) & sender.left()
 }
 
+// The same over the memory.
+pub fn busy_in(mem: &[u8]) -> bool
+    requires { ⌜ stateLength ≤ length (now mem) ⌝ }
+    ensures { λ r. ⌜ r ≡ busy (unpacked (now (mem .entry))) ⌝ }
+{
+    let incoming = load::incoming(mem);
+    let reader = incoming.reader;
+    let reply = load::reply(mem);
+    let sender = reply.sender;
+    is_inside(reader.status()) | sender.left()
+}
+
+// A Slave_Diag reply is unfinished, over the memory.
+pub fn diagnosis_leaves_in(mem: &[u8]) -> bool
+    requires { ⌜ stateLength ≤ length (now mem) ⌝ }
+    ensures { λ r. ⌜ r ≡ diagnosisLeaves (unpacked (now (mem .entry))) ⌝ }
+{
+    let reply = load::reply(mem);
+    let drawn = reply.drawn;
+    let sender = reply.sender;
+    is_diagnosis(drawn) & sender.left()
+}
+
 // Whether a diagnosis is delayed or a clear noted.
 pub fn waits(mem: &[u8]) -> bool
     requires { ⌜ stateLength ≤ length (now mem) ⌝ }

@@ -6,12 +6,16 @@ use outcomes::carry::carry_out;
 use outcomes::carry::settle;
 use outcomes::line::begun;
 use outcomes::line::busy;
+use outcomes::line::busy_in;
 use outcomes::line::waits;
+use outcomes::over::carry_over;
+use rules::line::counts;
 use rules::line::ticked;
 use state::image::save;
 use state::load;
 use state::saving::save_incoming;
 use state::saving::save_sender;
+use state::saving::save_ticks;
 use state::start::no_reply;
 use state::state::Reply;
 use state::state::State;
@@ -20,10 +24,13 @@ use telegram::sender::Sender;
 ghost use mathlib.Core.Path.{_≡_};
 ghost use Rattle.state.specs.Memory.{Holds};
 ghost use Rattle.state.specs.Unpack.{unpacked};
-ghost use Rattle.state.specs.With.{withSender};
+ghost use Rattle.state.specs.Start.{noReply};
+ghost use Rattle.state.specs.With.{withSender, withReply};
 ghost use Rattle.steps.specs.Safe.{Safe};
 ghost use Rattle.steps.specs.Stepped.{Steps, packedAfter};
+ghost use Rattle.steps.specs.Line.{begun};
 ghost use Rattle.steps.specs.Outcome.{settle};
+ghost use Rattle.steps.specs.Reading.{readBy};
 ghost use Rattle.steps.specs.Bus.{paused, sentBy, sendTold, sendLeft, silencedReader, elapsed};
 
 // A gap: the next octet may begin a telegram.
@@ -103,16 +110,54 @@ fn silenced_reader(inside: bool, reader: Reader) -> Reader
     reader
 }
 
-// A Tick: 10 ms.
-pub fn elapse(s: State, mem: &mut [u8]) -> State
+// The next Tick after a clear was noted drops telegram or reply, so that the clear is carried out.
+fn silence(s: State, mem: &mut [u8]) -> State
+    requires { ⌜ Safe s (now mem) ⌝ }
+    ensures { λ t. ⌜ Steps (settle (withReply (readBy s (silencedReader (begun s) (s .incoming .reader))) noReply) (now (mem .entry))) t (now (mem .exit)) ⌝ }
+{
+    let reader = silenced_reader(begun(s), s.incoming.reader);
+    let mut t = read_by(s, reader);
+    t.reply = no_reply();
+    settle(t, mem)
+}
+
+// A Tick: 10 ms. Nearly always the watchdog counts down or is off.
+pub fn elapse(mut s: State, mem: &mut [u8]) -> State
     requires { ⌜ Safe s (now mem) ⌝ }
     ensures { λ t. ⌜ Steps (elapsed s (now (mem .entry))) t (now (mem .exit)) ⌝ }
 {
     if s.control.noted {
-        let reader = silenced_reader(begun(s), s.incoming.reader);
-        let mut t = read_by(s, reader);
-        t.reply = no_reply();
-        return settle(t, mem);
+        return silence(s, mem);
+    }
+    if !counts(s.control) {
+        return s;
+    }
+    let remaining = s.control.watchdog.remaining;
+    if 1 < remaining {
+        s.control.watchdog.remaining = remaining - 1;
+        return s;
     }
     carry_out(s, mem, ticked(busy(s), s.control), 0)
+}
+
+// A Tick over the memory: nearly always only the ticks that remain are packed.
+pub fn tick(mem: &mut [u8])
+    requires { ⌜ Holds (now mem) (unpacked (now mem)) ⌝ }
+    ensures { λ _. ⌜ now (mem .exit) ≡ packedAfter (elapsed (unpacked (now (mem .entry))) (now (mem .entry))) ⌝ }
+{
+    let control = load::control(&mem[..]);
+    if control.noted {
+        let t = silence(load::unpack(&mem[..]), mem);
+        save(t, mem);
+        return;
+    }
+    if !counts(control) {
+        return;
+    }
+    let remaining = control.watchdog.remaining;
+    if 1 < remaining {
+        save_ticks(remaining - 1, mem);
+        return;
+    }
+    carry_over(mem, ticked(busy_in(&mem[..]), control), 0);
 }

@@ -1,10 +1,12 @@
 // The bus's octet over the memory that holds the state: an inner octet reads and writes only the part of the state that it needs.
 // Every step leaves the memory as the step on the unpacked state (`reading`) would leave it, packed again.
+use crate::completing::complete;
 use crate::reading::hear_as;
 use crate::reading::is_ignored;
 use crate::reading::keep_octets;
 use crate::reading::read_on;
 use outcomes::line::is_inside;
+use outcomes::line::waits;
 use state::image::save;
 use state::layout::configuration_at;
 use state::layout::outputs_at;
@@ -12,15 +14,24 @@ use state::layout::parameters_at;
 use state::load;
 use state::saving::save_data;
 use state::saving::save_incoming;
+use state::saving::save_reply;
+use state::start::no_reply;
+use state::state::Incoming;
 use telegram::reader::Reader;
+use telegram::reader::Status;
+ghost use Prim.Native.Nat.{ℕ, _≤_};
 ghost use mathlib.Core.Bool.{true, false};
 ghost use mathlib.Core.Path.{_≡_};
+ghost use lib.ListN.{length};
 ghost use Rattle.telegram.specs.Reading.{takesData};
-ghost use Rattle.state.specs.Memory.{Holds};
+ghost use Rattle.state.specs.Layout.{stateLength};
+ghost use Rattle.state.specs.Memory.{Holds, Changes};
+ghost use Rattle.state.specs.Start.{noReply};
 ghost use Rattle.state.specs.Unpack.{unpacked};
+ghost use Rattle.state.specs.With.{withIncoming, withReply};
 ghost use Rattle.steps.specs.Stepped.{packedAfter};
-ghost use Rattle.steps.specs.Reading.{storedData, heard};
-ghost use Rattle.station.specs.Hearing.{isPlain};
+ghost use Rattle.steps.specs.Reading.{storedData, heardAs, heard};
+ghost use Rattle.station.specs.Hearing.{isPlain, Turns};
 
 // A data octet into the fill buffer of the set that the header names; no other set is read.
 fn store_received(mem: &mut [u8], k: u8, b: u8)
@@ -74,7 +85,30 @@ fn is_plain(reader: Reader, next: Reader) -> bool
     is_inside(reader.status()) & is_inside(next.status()) & !reader.takes_data()
 }
 
-// Any other octet: one that is ignored changes nothing, an inner one only the reader; at the others the whole state is unpacked.
+// A beginning drops an unfinished reply.
+fn begin(mem: &mut [u8], i: Incoming)
+    requires { ⌜ stateLength ≤ length (now mem) ⌝ }
+    ensures { λ _. ⌜ Changes (now (mem .entry)) (now (mem .exit)) (λ s. withReply (withIncoming s i) noReply) ⌝ }
+{
+    save_incoming(i, mem);
+    save_reply(no_reply(), mem);
+}
+
+// Octets that begin, end or break off a telegram, where nothing waits for that; next: the reader after the octet.
+fn turn(status: Status, mem: &mut [u8], old: Incoming, next: Reader)
+    requires { ⌜ Turns (now mem) old status next ⌝ }
+    ensures { λ _. ⌜ ((b : ℕ) → now (mem .exit) ≡ packedAfter (heardAs status (unpacked (now (mem .entry))) (now (mem .entry)) next b)) ⌝ }
+{
+    match status {
+        Status::Fresh => {}
+        Status::Inside => begin(mem, read_on(old, next)),
+        Status::Complete => complete(mem, read_on(old, next)),
+        Status::Broken => save_incoming(read_on(old, Reader::off()), mem),
+    }
+}
+
+// Any other octet: one that is ignored changes nothing, an inner one only the reader. Nearly always nothing waits for the others; else
+// the whole state is unpacked.
 fn hear_other(mem: &mut [u8], b: u8, bad: bool)
     requires { ⌜ Holds (now mem) (unpacked (now mem)) ⌝ }
     ensures { λ _. ⌜ now (mem .exit) ≡ packedAfter (heard (unpacked (now (mem .entry))) (now (mem .entry)) b bad) ⌝ }
@@ -89,8 +123,12 @@ fn hear_other(mem: &mut [u8], b: u8, bad: bool)
         save_incoming(read_on(old, next), mem);
         return;
     }
-    let t = hear_as(next.status(), load::unpack(&mem[..]), mem, next, b);
-    save(t, mem);
+    if waits(&mem[..]) | reader.takes_data() {
+        let t = hear_as(next.status(), load::unpack(&mem[..]), mem, next, b);
+        save(t, mem);
+        return;
+    }
+    turn(next.status(), mem, old, next);
 }
 
 // The bus's octet over the memory. Most octets are data.

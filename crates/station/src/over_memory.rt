@@ -1,10 +1,9 @@
-// Each call as a step over the memory that holds its state; nothing of the memory is checked here. The calls of every octet read
-// and write only what they need of the state; the others unpack it, make the step and pack it again.
+// Each call as a step over the memory that holds its state; nothing of the memory is checked here. Each reads and writes only what it
+// needs of the state.
 use crate::bus;
 use crate::hearing;
 use crate::user;
 use state::answer::Answer;
-use state::image::save;
 use state::load;
 ghost use Rattle.state.specs.Answer.{Meets};
 ghost use Rattle.state.specs.Memory.{Holds};
@@ -44,8 +43,7 @@ pub fn tick(mem: &mut [u8]) -> Answer
     requires { ⌜ Holds (now mem) (unpacked (now mem)) ⌝ }
     ensures { λ r. ⌜ Meets (stepOver (now (mem .entry)) tick) r (now (mem .exit)) ⌝ }
 {
-    let t = bus::elapse(load::unpack(&mem[..]), mem);
-    save(t, mem);
+    bus::tick(mem);
     Answer::Value(0)
 }
 
@@ -54,9 +52,7 @@ pub fn take(mem: &mut [u8]) -> Answer
     requires { ⌜ Holds (now mem) (unpacked (now mem)) ⌝ }
     ensures { λ r. ⌜ Meets (stepOver (now (mem .entry)) take) r (now (mem .exit)) ⌝ }
 {
-    let step = user::take_outputs(load::unpack(&mem[..]));
-    save(step.state, mem);
-    step.answer
+    user::take_outputs(mem)
 }
 
 // Read an octet of a kind.
@@ -80,8 +76,7 @@ pub fn hand_over(mem: &mut [u8]) -> Answer
     requires { ⌜ Holds (now mem) (unpacked (now mem)) ⌝ }
     ensures { λ r. ⌜ Meets (stepOver (now (mem .entry)) hand-over) r (now (mem .exit)) ⌝ }
 {
-    save(user::hand_over(load::unpack(&mem[..])), mem);
-    Answer::Value(0)
+    user::hand_over(mem)
 }
 
 // New diagnosis, with its count and flags.
@@ -89,9 +84,7 @@ pub fn new_diagnosis(mem: &mut [u8], count: u32, flags: u32) -> Answer
     requires { ⌜ Holds (now mem) (unpacked (now mem)) ⌝ }
     ensures { λ r. ⌜ Meets (stepOver (now (mem .entry)) (new-diagnosis count flags)) r (now (mem .exit)) ⌝ }
 {
-    let step = user::new_diagnosis(load::unpack(&mem[..]), count, flags);
-    save(step.state, mem);
-    step.answer
+    user::new_diagnosis(mem, count, flags)
 }
 
 // Judge parameters: 1 good, 0 bad.
@@ -99,9 +92,7 @@ pub fn judge_parameters(mem: &mut [u8], judgement: u32) -> Answer
     requires { ⌜ Holds (now mem) (unpacked (now mem)) ⌝ }
     ensures { λ r. ⌜ Meets (stepOver (now (mem .entry)) (judge-parameters judgement)) r (now (mem .exit)) ⌝ }
 {
-    let step = user::judge_parameters(load::unpack(&mem[..]), mem, judgement);
-    save(step.state, mem);
-    step.answer
+    user::judge_parameters(mem, judgement)
 }
 
 // Judge configuration: 1 good, 0 bad.
@@ -109,9 +100,7 @@ pub fn judge_configuration(mem: &mut [u8], judgement: u32) -> Answer
     requires { ⌜ Holds (now mem) (unpacked (now mem)) ⌝ }
     ensures { λ r. ⌜ Meets (stepOver (now (mem .entry)) (judge-configuration judgement)) r (now (mem .exit)) ⌝ }
 {
-    let step = user::judge_configuration(load::unpack(&mem[..]), mem, judgement);
-    save(step.state, mem);
-    step.answer
+    user::judge_configuration(mem, judgement)
 }
 
 // The event word.
@@ -129,8 +118,7 @@ pub fn acknowledge(mem: &mut [u8], mask: u16) -> Answer
     requires { ⌜ Holds (now mem) (unpacked (now mem)) ⌝ }
     ensures { λ r. ⌜ Meets (stepOver (now (mem .entry)) (acknowledge mask)) r (now (mem .exit)) ⌝ }
 {
-    save(user::acknowledge(load::unpack(&mem[..]), mask), mem);
-    Answer::Value(0)
+    user::acknowledge(mem, mask)
 }
 
 // The number of an event that is set, or 16.
@@ -148,6 +136,5 @@ pub fn leave(mem: &mut [u8]) -> Answer
     requires { ⌜ Holds (now mem) (unpacked (now mem)) ⌝ }
     ensures { λ r. ⌜ Meets (stepOver (now (mem .entry)) leave) r (now (mem .exit)) ⌝ }
 {
-    save(user::leave(load::unpack(&mem[..]), mem), mem);
-    Answer::Value(0)
+    user::leave(mem)
 }

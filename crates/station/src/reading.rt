@@ -23,9 +23,10 @@ use telegram::Datum;
 use telegram::reader::Reader;
 use telegram::reader::Status;
 ghost use Prim.Native.Nat.{_+_, _≤_};
+ghost use mathlib.Core.Bool.{true, false};
 ghost use mathlib.Core.Path.{_≡_};
 ghost use lib.ListN.{length};
-ghost use Rattle.telegram.specs.Reading.{datumOf};
+ghost use Rattle.telegram.specs.Reading.{takesData, datumOf};
 ghost use Rattle.steps.specs.Safe.{Safe};
 ghost use Rattle.steps.specs.Stepped.{Steps};
 ghost use Rattle.steps.specs.Reading.{storedData, keptOctets, storedAs, readOn, readBy, requestBy, prmAt, prmIn, outcomeOf, answered, completed, beginning, heardAs, isIgnored, heard};
@@ -115,7 +116,7 @@ fn store_inner(mut s: State, mem: &mut [u8], reader: Reader, b: u8) -> State
 }
 
 // The header of the telegram that the reader has read.
-fn request_by(reader: Reader) -> Request
+pub fn request_by(reader: Reader) -> Request
     ensures { λ r. ⌜ r ≡ requestBy reader ⌝ }
 {
     let kind = reader.kind;
@@ -131,7 +132,7 @@ fn request_by(reader: Reader) -> Request
 }
 
 // The octets of Set_Prm from a place on.
-fn prm_at(mem: &[u8], from: usize) -> Prm
+pub fn prm_at(mem: &[u8], from: usize) -> Prm
     requires { ⌜ from + 7 ≤ length (now mem) ⌝ }
     ensures { λ r. ⌜ r ≡ prmAt (now (mem .entry)) from ⌝ }
 {
@@ -245,8 +246,21 @@ pub fn is_ignored(status: Status) -> bool
     }
 }
 
-// The bus's octet.
-pub fn hear(s: State, mem: &mut [u8], b: u8, bad: bool) -> State
+// A data octet, which most octets are.
+fn hear_datum(mut s: State, mem: &mut [u8], b: u8) -> State
+    requires { ⌜ (Safe s (now mem)) × (takesData (s .incoming .reader) ≡ true) ⌝ }
+    ensures { λ t. ⌜ Steps (heard s (now (mem .entry)) b false) t (now (mem .exit)) ⌝ }
+{
+    let old = s.incoming;
+    let reader = old.reader;
+    let k = reader.at;
+    store_data(s, mem, k, b);
+    s.incoming = keep_octets(old, reader.take_data(b), k, b);
+    s
+}
+
+// Any octet, by what the octets are with it.
+fn hear_any(s: State, mem: &mut [u8], b: u8, bad: bool) -> State
     requires { ⌜ Safe s (now mem) ⌝ }
     ensures { λ t. ⌜ Steps (heard s (now (mem .entry)) b bad) t (now (mem .exit)) ⌝ }
 {
@@ -256,4 +270,19 @@ pub fn hear(s: State, mem: &mut [u8], b: u8, bad: bool) -> State
     }
     let next = reader.receive(b, bad);
     hear_as(next.status(), s, mem, next, b)
+}
+
+// The bus's octet. The way of a data octet is so short that the compiler takes it in where the state is lent.
+pub fn hear(s: State, mem: &mut [u8], b: u8, bad: bool) -> State
+    requires { ⌜ Safe s (now mem) ⌝ }
+    ensures { λ t. ⌜ Steps (heard s (now (mem .entry)) b bad) t (now (mem .exit)) ⌝ }
+{
+    if bad {
+        return hear_any(s, mem, b, true);
+    }
+    let reader = s.incoming.reader;
+    if reader.takes_data() {
+        return hear_datum(s, mem, b);
+    }
+    hear_any(s, mem, b, false)
 }

@@ -1,6 +1,7 @@
 // The reply in progress: how it is drawn, and where its data octets are read.
 use rules::diagnosis::header_of;
 use rules::replies::exchange_fc;
+use state::control::Control;
 use state::layout::diagnosis_at;
 use state::layout::get_cfg_at;
 use state::layout::inputs_at;
@@ -17,7 +18,9 @@ use telegram::sender::Sender;
 ghost use Prim.Native.Nat.{_+_, _≤_};
 ghost use mathlib.Core.Path.{_≡_};
 ghost use lib.ListN.{length, getD};
+ghost use Rattle.buffers.specs.Triple.{heldOf};
 ghost use Rattle.octets.specs.Part.{part};
+ghost use Rattle.state.specs.declared.state.State.{State};
 ghost use Rattle.state.specs.Memory.{Holds};
 ghost use Rattle.state.specs.Unpack.{unpacked};
 ghost use Rattle.steps.specs.Replies.{servicing, senderFor, replyFor, ownPlace, userPlace, headerAt, contentAt, replyPoint, isExchange, datumAt, askedFor};
@@ -31,40 +34,45 @@ fn servicing(setup: Setup, master: u8, n: u8) -> Sender
     Sender::telegram(Kind::Sd2, da, sa, 0x08, std::num::wrapping_add_u8(n, 2))
 }
 
-// The sender of each reply to a master.
-fn sender_for(drawn: Drawn, s: State, master: u8) -> Sender
-    ensures { λ r. ⌜ r ≡ senderFor drawn s master ⌝ }
+// The sender of each reply to a master, by the setup and the control part of any state.
+fn sender_for(drawn: Drawn, setup: Setup, control: Control, master: u8) -> Sender
+    ensures { λ r. ⌜ ((s : State) → s .setup ≡ setup → s .control ≡ control → r ≡ senderFor drawn s master) ⌝ }
 {
-    let setup = s.setup;
     match drawn {
         Drawn::Nothing => Sender::empty(),
         Drawn::Acknowledge => Sender::single(),
         Drawn::Status => Sender::telegram(Kind::Sd1, master, setup.address, 0x00, 0),
         Drawn::Rejected => Sender::telegram(Kind::Sd1, master, setup.address, 0x03, 0),
         Drawn::Exchange => {
-            let fc = exchange_fc(s.control);
+            let fc = exchange_fc(control);
             Sender::telegram(Kind::Sd2, master, setup.address, fc, setup.input_len)
         }
         Drawn::Inputs => servicing(setup, master, setup.input_len),
         Drawn::Outputs => servicing(setup, master, setup.output_len),
         Drawn::Configuration => servicing(setup, master, setup.get_cfg_len),
-        Drawn::Diagnosis => servicing(setup, master, s.control.diagnosis.count),
+        Drawn::Diagnosis => servicing(setup, master, control.diagnosis.count),
     }
 }
 
-// A reply as it is drawn: the place of the held outputs and the diagnosis header are fixed here.
-pub fn reply_for(drawn: Drawn, s: State, master: u8) -> Reply
-    ensures { λ r. ⌜ r ≡ replyFor drawn s master ⌝ }
+// A reply as it is drawn, by the parts of any state that it needs: the place of the held outputs and the diagnosis header are fixed here.
+pub fn draw(drawn: Drawn, setup: Setup, control: Control, held: u8, master: u8) -> Reply
+    ensures { λ r. ⌜ ((s : State) → s .setup ≡ setup → s .control ≡ control → heldOf (s .outputs .set .place) ≡ held → r ≡ replyFor drawn s master) ⌝ }
 {
-    let sender = sender_for(drawn, s, master);
-    let place = s.outputs.set.held();
-    let header = header_of(s.control);
+    let sender = sender_for(drawn, setup, control, master);
+    let header = header_of(control);
     Reply {
         drawn,
         sender,
-        place,
+        place: held,
         header,
     }
+}
+
+// The same of the whole state.
+pub fn reply_for(drawn: Drawn, s: State, master: u8) -> Reply
+    ensures { λ r. ⌜ r ≡ replyFor drawn s master ⌝ }
+{
+    draw(drawn, s.setup, s.control, s.outputs.set.held(), master)
 }
 
 // Which of the two diagnosis buffers is the controller's.

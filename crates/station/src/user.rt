@@ -1,10 +1,9 @@
-// The calls of the vat program.
+// The calls of the vat program over the memory that holds the state: each reads and writes the parts that it needs.
 use crate::replies::user_place;
-use outcomes::carry::carry_out;
-use outcomes::carry::diagnosis_changed;
 use outcomes::carry::is_open;
-use outcomes::line::busy;
-use outcomes::line::diagnosis_leaves;
+use outcomes::line::busy_in;
+use outcomes::line::diagnosis_leaves_in;
+use outcomes::over::carry_over;
 use rules::diagnosis::delaying;
 use rules::diagnosis::diagnosed;
 use rules::diagnosis::is_delayed;
@@ -14,50 +13,33 @@ use rules::user::judged_configuration;
 use rules::user::judged_parameters;
 use state::answer::Answer;
 use state::answer::Refusal;
+use state::control::Control;
 use state::layout::configuration_at;
 use state::layout::diagnosis_at;
 use state::layout::inputs_at;
 use state::layout::outputs_at;
 use state::layout::parameters_at;
 use state::load;
+use state::saving::save_control;
+use state::saving::save_events;
+use state::saving::save_inputs;
+use state::saving::save_outputs;
+use state::saving::save_swapped;
 use state::state::Outputs;
-use state::state::State;
-ghost use Prim.Native.Nat.{ℕ};
+ghost use Prim.Native.Nat.{_≤_};
 ghost use mathlib.Core.Bool.{cond};
-ghost use mathlib.Core.List.{List};
 ghost use mathlib.Core.Path.{_≡_};
 ghost use lib.Dec.{leb};
-ghost use Rattle.state.specs.Memory.{Holds};
+ghost use lib.ListN.{length};
+ghost use Rattle.state.specs.declared.state.State.{State};
+ghost use Rattle.state.specs.Answer.{Meets};
+ghost use Rattle.state.specs.Layout.{stateLength};
+ghost use Rattle.state.specs.Memory.{kept, Holds};
 ghost use Rattle.state.specs.Unpack.{unpacked};
-ghost use Rattle.steps.specs.Safe.{Safe};
-ghost use Rattle.steps.specs.Stepped.{Tells, told, refusing};
+ghost use Rattle.steps.specs.Stepped.{Tells};
+ghost use Rattle.steps.specs.Step.{packed};
+ghost use Rattle.steps.specs.Outcome.{diagnosisChanged};
 ghost use Rattle.steps.specs.User.{absent, kindAt, takeOutputs, readOctet, writeOctet, handOver, newDiagnosis, judgeParameters, judgeConfiguration, acknowledgeEvents, leaveMaster};
-
-// What a call answers, and the state after it.
-pub struct UserStep {
-    pub answer: Answer,
-    pub state: State,
-}
-
-// A value and that state.
-fn told(n: u32, state: State) -> UserStep
-    ensures { λ r. ⌜ ((m : List ℕ) → Tells (told n state m) (r .answer) (r .state) m) ⌝ }
-{
-    UserStep {
-        answer: Answer::Value(n),
-        state,
-    }
-}
-
-// A refusal, and the state as it was.
-fn refusing(why: Refusal, state: State) -> UserStep
-    ensures { λ r. ⌜ ((m : List ℕ) → Tells (refusing why state m) (r .answer) (r .state) m) ⌝ }
-{
-    UserStep {
-        answer: Answer::Refused(why),
-        state,
-    }
-}
 
 // New outputs: 1, or 2 where the station published zeros.
 fn new_number(zeros: bool) -> u32
@@ -70,19 +52,21 @@ fn new_number(zeros: bool) -> u32
 }
 
 // Take outputs: 0 nothing new; else its number, and next and held change.
-pub fn take_outputs(mut s: State) -> UserStep
-    ensures { λ r. ⌜ ((m : List ℕ) → Tells (takeOutputs s m) (r .answer) (r .state) m) ⌝ }
+pub fn take_outputs(mem: &mut [u8]) -> Answer
+    requires { ⌜ Holds (now mem) (unpacked (now mem)) ⌝ }
+    ensures { λ r. ⌜ Meets (packed (now (mem .entry)) (takeOutputs (unpacked (now (mem .entry))) (now (mem .entry)))) r (now (mem .exit)) ⌝ }
 {
-    if !s.outputs.set.fresh {
-        return told(0, s);
+    let outputs = load::outputs(&mem[..]);
+    if !outputs.set.fresh {
+        return Answer::Value(0);
     }
-    let zeros = s.outputs.zeros;
-    let outputs = Outputs {
-        set: s.outputs.set.take(),
+    let zeros = outputs.zeros;
+    let taken = Outputs {
+        set: outputs.set.take(),
         zeros,
     };
-    s.outputs = outputs;
-    told(new_number(zeros), s)
+    save_outputs(taken, mem);
+    Answer::Value(new_number(zeros))
 }
 
 // An index is not below a count.
@@ -162,31 +146,46 @@ pub fn write_octet(mem: &mut [u8], kind: u32, index: u32, octet: u8) -> Answer
 }
 
 // Hand over inputs: held and next change, next is new.
-pub fn hand_over(mut s: State) -> State
-    ensures { λ r. ⌜ ((m : List ℕ) → Tells (handOver s m) (Answer.Value 0) r m) ⌝ }
+pub fn hand_over(mem: &mut [u8]) -> Answer
+    requires { ⌜ Holds (now mem) (unpacked (now mem)) ⌝ }
+    ensures { λ r. ⌜ Meets (packed (now (mem .entry)) (handOver (unpacked (now (mem .entry))) (now (mem .entry)))) r (now (mem .exit)) ⌝ }
 {
-    let inputs = s.inputs.hand_over();
-    s.inputs = inputs;
-    s
+    let inputs = load::inputs(&mem[..]);
+    save_inputs(inputs.hand_over(), mem);
+    Answer::Value(0)
+}
+
+// The two diagnosis buffers change, with that control part.
+fn change_diagnosis(mem: &mut [u8], control: Control)
+    requires { ⌜ stateLength ≤ length (now mem) ⌝ }
+    ensures { λ _. ⌜ ((s : State) → unpacked (now (mem .entry)) ≡ s → now (mem .entry) ≡ kept s (now (mem .entry)) → now (mem .exit) ≡ kept (diagnosisChanged s control) (now (mem .entry))) ⌝ }
+{
+    let swapped = load::swapped(&mem[..]);
+    save_control(control, mem);
+    save_swapped(!swapped, mem);
 }
 
 // New diagnosis; while a Slave_Diag reply is unfinished all of it waits.
-pub fn new_diagnosis(mut s: State, count: u32, flags: u32) -> UserStep
-    ensures { λ r. ⌜ ((m : List ℕ) → Tells (newDiagnosis s m count flags) (r .answer) (r .state) m) ⌝ }
+pub fn new_diagnosis(mem: &mut [u8], count: u32, flags: u32) -> Answer
+    requires { ⌜ Holds (now mem) (unpacked (now mem)) ⌝ }
+    ensures { λ r. ⌜ Meets (packed (now (mem .entry)) (newDiagnosis (unpacked (now (mem .entry))) (now (mem .entry)) count flags)) r (now (mem .exit)) ⌝ }
 {
-    if !((6 <= count) & (count <= s.setup.diagnosis_len as u32) & (flags <= 7)) {
-        return refusing(Refusal::Range, s);
+    let setup = load::setup(&mem[..]);
+    let control = load::control(&mem[..]);
+    if !((6 <= count) & (count <= setup.diagnosis_len as u32) & (flags <= 7)) {
+        return Answer::Refused(Refusal::Range);
     }
-    if is_delayed(s.control.diagnosis) {
-        return refusing(Refusal::Delayed, s);
+    if is_delayed(control.diagnosis) {
+        return Answer::Refused(Refusal::Delayed);
     }
     let n = count as u8;
     let f = flags as u8;
-    if diagnosis_leaves(s) {
-        s.control = delaying(s.control, n, f);
-        return told(0, s);
+    if diagnosis_leaves_in(&mem[..]) {
+        save_control(delaying(control, n, f), mem);
+        return Answer::Value(0);
     }
-    told(0, diagnosis_changed(s, diagnosed(s.control, n, f)))
+    change_diagnosis(mem, diagnosed(control, n, f));
+    Answer::Value(0)
 }
 
 // 1 if a newer set waited, else 0.
@@ -200,61 +199,57 @@ fn waited_number(waits: bool) -> u32
 }
 
 // Judge parameters: a set has to be open.
-pub fn judge_parameters(s: State, mem: &mut [u8], judgement: u32) -> UserStep
-    requires { ⌜ Safe s (now mem) ⌝ }
-    ensures { λ r. ⌜ Tells (judgeParameters s (now (mem .entry)) judgement) (r .answer) (r .state) (now (mem .exit)) ⌝ }
+pub fn judge_parameters(mem: &mut [u8], judgement: u32) -> Answer
+    requires { ⌜ Holds (now mem) (unpacked (now mem)) ⌝ }
+    ensures { λ r. ⌜ Meets (packed (now (mem .entry)) (judgeParameters (unpacked (now (mem .entry))) (now (mem .entry)) judgement)) r (now (mem .exit)) ⌝ }
 {
-    if !is_open(s.parameters) {
-        return refusing(Refusal::Judging, s);
+    let parameters = load::parameters(&mem[..]);
+    if !is_open(parameters) {
+        return Answer::Refused(Refusal::Judging);
     }
     if !(judgement <= 1) {
-        return refusing(Refusal::Range, s);
+        return Answer::Refused(Refusal::Range);
     }
-    let waits = s.parameters.set.fresh;
-    let t = carry_out(
-        s,
-        mem,
-        judged_parameters(s.control, waits, judgement == 1),
-        0,
-    );
-    told(waited_number(waits), t)
+    let waits = parameters.set.fresh;
+    let control = load::control(&mem[..]);
+    carry_over(mem, judged_parameters(control, waits, judgement == 1), 0);
+    Answer::Value(waited_number(waits))
 }
 
 // Judge configuration: likewise, and not before good parameters.
-pub fn judge_configuration(s: State, mem: &mut [u8], judgement: u32) -> UserStep
-    requires { ⌜ Safe s (now mem) ⌝ }
-    ensures { λ r. ⌜ Tells (judgeConfiguration s (now (mem .entry)) judgement) (r .answer) (r .state) (now (mem .exit)) ⌝ }
+pub fn judge_configuration(mem: &mut [u8], judgement: u32) -> Answer
+    requires { ⌜ Holds (now mem) (unpacked (now mem)) ⌝ }
+    ensures { λ r. ⌜ Meets (packed (now (mem .entry)) (judgeConfiguration (unpacked (now (mem .entry))) (now (mem .entry)) judgement)) r (now (mem .exit)) ⌝ }
 {
-    if !(is_open(s.configuration) & s.control.flags.parameters_good) {
-        return refusing(Refusal::Judging, s);
+    let configuration = load::configuration(&mem[..]);
+    let control = load::control(&mem[..]);
+    if !(is_open(configuration) & control.flags.parameters_good) {
+        return Answer::Refused(Refusal::Judging);
     }
     if !(judgement <= 1) {
-        return refusing(Refusal::Range, s);
+        return Answer::Refused(Refusal::Range);
     }
-    let waits = s.configuration.set.fresh;
-    let t = carry_out(
-        s,
-        mem,
-        judged_configuration(s.control, waits, judgement == 1),
-        0,
-    );
-    told(waited_number(waits), t)
+    let waits = configuration.set.fresh;
+    carry_over(mem, judged_configuration(control, waits, judgement == 1), 0);
+    Answer::Value(waited_number(waits))
 }
 
 // Acknowledge clears bits, never 10 or 11.
-pub fn acknowledge(mut s: State, mask: u16) -> State
-    ensures { λ r. ⌜ ((m : List ℕ) → Tells (acknowledgeEvents s m mask) (Answer.Value 0) r m) ⌝ }
+pub fn acknowledge(mem: &mut [u8], mask: u16) -> Answer
+    requires { ⌜ Holds (now mem) (unpacked (now mem)) ⌝ }
+    ensures { λ r. ⌜ Meets (packed (now (mem .entry)) (acknowledgeEvents (unpacked (now (mem .entry))) (now (mem .entry)) mask)) r (now (mem .exit)) ⌝ }
 {
-    let mut control = s.control;
-    control.events = control.events.acknowledge(mask);
-    s.control = control;
-    s
+    let events = load::events(&mem[..]);
+    save_events(events.acknowledge(mask), mem);
+    Answer::Value(0)
 }
 
 // Leave master: a clear.
-pub fn leave(s: State, mem: &mut [u8]) -> State
-    requires { ⌜ Safe s (now mem) ⌝ }
-    ensures { λ r. ⌜ Tells (leaveMaster s (now (mem .entry))) (Answer.Value 0) r (now (mem .exit)) ⌝ }
+pub fn leave(mem: &mut [u8]) -> Answer
+    requires { ⌜ Holds (now mem) (unpacked (now mem)) ⌝ }
+    ensures { λ r. ⌜ Meets (packed (now (mem .entry)) (leaveMaster (unpacked (now (mem .entry))) (now (mem .entry)))) r (now (mem .exit)) ⌝ }
 {
-    carry_out(s, mem, clear_on(busy(s), s.control), 0)
+    let control = load::control(&mem[..]);
+    carry_over(mem, clear_on(busy_in(&mem[..]), control), 0);
+    Answer::Value(0)
 }

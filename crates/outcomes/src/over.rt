@@ -1,0 +1,120 @@
+// An outcome of the rules carried out over the memory that holds the state: what the rules keep is neither read nor written.
+use crate::carry::on_inputs;
+use crate::carry::on_outputs;
+use crate::carry::on_sets;
+use buffers::triple::Triple;
+use rules::outcome::Outcome;
+use rules::outcome::OutputsDeed;
+use rules::outcome::SetDeed;
+use state::layout::outputs_at;
+use state::load;
+use state::saving::save_configuration;
+use state::saving::save_control;
+use state::saving::save_inputs;
+use state::saving::save_outputs;
+use state::saving::save_parameters;
+use state::state::Outputs;
+use state::state::Sets;
+ghost use Prim.Native.Nat.{_≤_};
+ghost use mathlib.Core.Path.{_≡_};
+ghost use lib.ListN.{length};
+ghost use Rattle.state.specs.declared.state.State.{State};
+ghost use Rattle.state.specs.Layout.{stateLength};
+ghost use Rattle.state.specs.Memory.{kept, Holds};
+ghost use Rattle.state.specs.Unpack.{unpacked};
+ghost use Rattle.state.specs.With.{withOutputs, withInputs, withParameters, withConfiguration};
+ghost use Rattle.steps.specs.Stepped.{packedAfter};
+ghost use Rattle.steps.specs.Outcome.{onOutputs, onInputs, onSets, onMemory, carried};
+
+// Zeros in the outputs' next buffer.
+fn clear_next(mem: &mut [u8])
+    requires { ⌜ Holds (now mem) (unpacked (now mem)) ⌝ }
+    ensures { λ _. ⌜ now (mem .exit) ≡ onMemory OutputsDeed.Zeros (unpacked (now (mem .entry))) (now (mem .entry)) ⌝ }
+{
+    let setup = load::setup(&mem[..]);
+    let outputs = load::outputs(&mem[..]);
+    let from = outputs_at(setup, outputs.set.next());
+    octets::clear_at(mem, from, setup.output_len as usize);
+}
+
+// The buffers, where the deed asks for it.
+fn carry_buffers(deed: OutputsDeed, mem: &mut [u8])
+    requires { ⌜ Holds (now mem) (unpacked (now mem)) ⌝ }
+    ensures { λ _. ⌜ now (mem .exit) ≡ onMemory deed (unpacked (now (mem .entry))) (now (mem .entry)) ⌝ }
+{
+    match deed {
+        OutputsDeed::Keep => {}
+        OutputsDeed::Publish => {}
+        OutputsDeed::Zeros => clear_next(mem),
+    }
+}
+
+// What becomes of the output set, which was `outputs`.
+fn put_outputs(deed: OutputsDeed, outputs: Outputs, mem: &mut [u8])
+    requires { ⌜ stateLength ≤ length (now mem) ⌝ }
+    ensures { λ _. ⌜ ((s : State) → s .outputs ≡ outputs → now (mem .entry) ≡ kept s (now (mem .entry)) → now (mem .exit) ≡ kept (withOutputs s (onOutputs deed outputs)) (now (mem .entry))) ⌝ }
+{
+    match deed {
+        OutputsDeed::Keep => {}
+        OutputsDeed::Publish => save_outputs(on_outputs(OutputsDeed::Publish, outputs), mem),
+        OutputsDeed::Zeros => save_outputs(on_outputs(OutputsDeed::Zeros, outputs), mem),
+    }
+}
+
+// Of the input set, which was `inputs`.
+fn put_inputs(deed: OutputsDeed, inputs: Triple, mem: &mut [u8])
+    requires { ⌜ stateLength ≤ length (now mem) ⌝ }
+    ensures { λ _. ⌜ ((s : State) → s .inputs ≡ inputs → now (mem .entry) ≡ kept s (now (mem .entry)) → now (mem .exit) ≡ kept (withInputs s (onInputs deed inputs)) (now (mem .entry))) ⌝ }
+{
+    match deed {
+        OutputsDeed::Keep => {}
+        OutputsDeed::Publish => save_inputs(on_inputs(OutputsDeed::Publish, inputs), mem),
+        OutputsDeed::Zeros => {}
+    }
+}
+
+// Of the parameters received, which were `sets`.
+fn put_parameters(deed: SetDeed, sets: Sets, count: u8, mem: &mut [u8])
+    requires { ⌜ stateLength ≤ length (now mem) ⌝ }
+    ensures { λ _. ⌜ ((s : State) → s .parameters ≡ sets → now (mem .entry) ≡ kept s (now (mem .entry)) → now (mem .exit) ≡ kept (withParameters s (onSets deed sets count)) (now (mem .entry))) ⌝ }
+{
+    match deed {
+        SetDeed::Keep => {}
+        SetDeed::Receive => save_parameters(on_sets(SetDeed::Receive, sets, count), mem),
+        SetDeed::Advance => save_parameters(on_sets(SetDeed::Advance, sets, count), mem),
+        SetDeed::Drop => save_parameters(on_sets(SetDeed::Drop, sets, count), mem),
+    }
+}
+
+// Of the configuration received, which was `sets`.
+fn put_configuration(deed: SetDeed, sets: Sets, count: u8, mem: &mut [u8])
+    requires { ⌜ stateLength ≤ length (now mem) ⌝ }
+    ensures { λ _. ⌜ ((s : State) → s .configuration ≡ sets → now (mem .entry) ≡ kept s (now (mem .entry)) → now (mem .exit) ≡ kept (withConfiguration s (onSets deed sets count)) (now (mem .entry))) ⌝ }
+{
+    match deed {
+        SetDeed::Keep => {}
+        SetDeed::Receive => save_configuration(on_sets(SetDeed::Receive, sets, count), mem),
+        SetDeed::Advance => save_configuration(on_sets(SetDeed::Advance, sets, count), mem),
+        SetDeed::Drop => save_configuration(on_sets(SetDeed::Drop, sets, count), mem),
+    }
+}
+
+// An outcome carried out: the buffers first, where the deed asks for it, then each part of the state.
+pub fn carry_over(mem: &mut [u8], o: Outcome, count: u8)
+    requires { ⌜ Holds (now mem) (unpacked (now mem)) ⌝ }
+    ensures { λ _. ⌜ now (mem .exit) ≡ packedAfter (carried (unpacked (now (mem .entry))) (now (mem .entry)) o count) ⌝ }
+{
+    let deed = o.outputs;
+    let on_parameters = o.parameters;
+    let on_configuration = o.configuration;
+    let outputs = load::outputs(&mem[..]);
+    let inputs = load::inputs(&mem[..]);
+    let parameters = load::parameters(&mem[..]);
+    let configuration = load::configuration(&mem[..]);
+    carry_buffers(deed, mem);
+    put_outputs(deed, outputs, mem);
+    put_inputs(deed, inputs, mem);
+    put_parameters(on_parameters, parameters, count, mem);
+    put_configuration(on_configuration, configuration, count, mem);
+    save_control(o.control, mem);
+}

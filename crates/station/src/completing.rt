@@ -1,0 +1,177 @@
+// The last octet of a telegram over the memory that holds the state, where nothing waits for the end of the line's business. An accepted
+// Data_Exchange, which nearly every telegram is, has a way of its own: of the control part only the events and the watchdog change.
+use crate::reading::prm_at;
+use crate::reading::request_by;
+use crate::replies::draw;
+use buffers::events::Events;
+use outcomes::carry::is_open;
+use outcomes::carry::on_inputs;
+use outcomes::carry::on_outputs;
+use outcomes::over::carry_over;
+use rules::diagnosis::header_of;
+use rules::outcome::Outcome;
+use rules::outcome::OutputsDeed;
+use rules::replies::exchange_fc;
+use rules::request::Data;
+use rules::request::OpenSets;
+use rules::request::Prm;
+use rules::request::Request;
+use rules::request::Service;
+use rules::requests::master_of;
+use rules::requests::refilled;
+use rules::requests::service_of;
+use rules::services::exchanges;
+use rules::services::serve;
+use state::control::Control;
+use state::layout::parameters_at;
+use state::load;
+use state::saving::save_events;
+use state::saving::save_incoming;
+use state::saving::save_inputs;
+use state::saving::save_outputs;
+use state::saving::save_reply;
+use state::saving::save_ticks;
+use state::setup::Setup;
+use state::state::Drawn;
+use state::state::Incoming;
+use state::state::Reply;
+use telegram::Kind;
+use telegram::sender::Sender;
+ghost use mathlib.Core.Bool.{true};
+ghost use mathlib.Core.Path.{_≡_};
+ghost use Rattle.buffers.specs.Triple.{heldOf};
+ghost use Rattle.state.specs.declared.state.State.{State};
+ghost use Rattle.state.specs.Memory.{Holds};
+ghost use Rattle.state.specs.Unpack.{unpacked};
+ghost use Rattle.state.specs.With.{withIncoming};
+ghost use Rattle.steps.specs.Stepped.{packedAfter};
+ghost use Rattle.steps.specs.Replies.{replyFor};
+ghost use Rattle.steps.specs.Reading.{requestBy, prmIn, outcomeOf, answered};
+ghost use Rattle.station.specs.Completing.{isDataExchange, accepts};
+
+// The octets of Set_Prm in the parameters' fill buffer.
+fn prm_in(mem: &[u8]) -> Prm
+    requires { ⌜ Holds (now mem) (unpacked (now mem)) ⌝ }
+    ensures { λ r. ⌜ r ≡ prmIn (unpacked (now (mem .entry))) (now (mem .entry)) ⌝ }
+{
+    let setup = load::setup(mem);
+    let parameters = load::parameters(mem);
+    prm_at(mem, parameters_at(setup, parameters.set.fill()))
+}
+
+// What comes of a telegram.
+fn outcome_in(mem: &[u8], r: Request) -> Outcome
+    requires { ⌜ Holds (now mem) (unpacked (now mem)) ⌝ }
+    ensures { λ o. ⌜ o ≡ outcomeOf (unpacked (now (mem .entry))) (now (mem .entry)) r ⌝ }
+{
+    let setup = load::setup(mem);
+    let incoming = load::incoming(mem);
+    let service = service_of(setup, r);
+    let control = refilled(setup, load::control(mem), r);
+    let sets = OpenSets {
+        parameters: is_open(load::parameters(mem)),
+        configuration: is_open(load::configuration(mem)),
+    };
+    let octets = Data {
+        prm: prm_in(mem),
+        first: incoming.first,
+        second: incoming.second,
+    };
+    serve(service, setup, control, sets, r, octets)
+}
+
+// An outcome carried out, the telegram read to its end, and the reply drawn.
+fn answer(mem: &mut [u8], o: Outcome, i: Incoming, r: Request)
+    requires { ⌜ Holds (now mem) (unpacked (now mem)) ⌝ }
+    ensures { λ _. ⌜ now (mem .exit) ≡ packedAfter (answered (withIncoming (unpacked (now (mem .entry))) i) (now (mem .entry)) o r) ⌝ }
+{
+    let drawn = o.drawn;
+    let deed = o.outputs;
+    let setup = load::setup(&mem[..]);
+    let outputs = on_outputs(deed, load::outputs(&mem[..]));
+    let reply = draw(drawn, setup, o.control, outputs.set.held(), master_of(r));
+    carry_over(mem, o, r.count);
+    save_incoming(i, mem);
+    save_reply(reply, mem);
+}
+
+// Whether a service is Data_Exchange.
+fn is_data_exchange(service: Service) -> bool
+    ensures { λ b. ⌜ b ≡ isDataExchange service ⌝ }
+{
+    match service {
+        Service::Nothing => false,
+        Service::Status => false,
+        Service::Reject => false,
+        Service::GlobalControl => false,
+        Service::DataExchange => true,
+        Service::SetPrm => false,
+        Service::ChkCfg => false,
+        Service::SlaveDiag => false,
+        Service::GetCfg => false,
+        Service::ReadInputs => false,
+        Service::ReadOutputs => false,
+    }
+}
+
+// Whether a telegram is a Data_Exchange that is accepted.
+fn is_accepted(mem: &[u8], r: Request) -> bool
+    requires { ⌜ Holds (now mem) (unpacked (now mem)) ⌝ }
+    ensures { λ b. ⌜ b ≡ accepts (unpacked (now (mem .entry))) r ⌝ }
+{
+    let setup = load::setup(mem);
+    let service = service_of(setup, r);
+    is_data_exchange(service) & exchanges(load::control(mem), r) & (r.count == setup.output_len)
+}
+
+// The reply to an accepted Data_Exchange.
+fn exchange_reply(setup: Setup, control: Control, held: u8, master: u8) -> Reply
+    ensures { λ r. ⌜ ((s : State) → s .setup ≡ setup → s .control ≡ control → heldOf (s .outputs .set .place) ≡ held → r ≡ replyFor Drawn.Exchange s master) ⌝ }
+{
+    let sender = Sender::telegram(
+        Kind::Sd2,
+        master,
+        setup.address,
+        exchange_fc(control),
+        setup.input_len,
+    );
+    let header = header_of(control);
+    Reply {
+        drawn: Drawn::Exchange,
+        sender,
+        place: held,
+        header,
+    }
+}
+
+// An accepted Data_Exchange.
+fn accept(mem: &mut [u8], i: Incoming, r: Request)
+    requires { ⌜ (Holds (now mem) (unpacked (now mem))) × (accepts (unpacked (now mem)) r ≡ true) ⌝ }
+    ensures { λ _. ⌜ now (mem .exit) ≡ packedAfter (answered (withIncoming (unpacked (now (mem .entry))) i) (now (mem .entry)) (outcomeOf (unpacked (now (mem .entry))) (now (mem .entry)) r) r) ⌝ }
+{
+    let setup = load::setup(&mem[..]);
+    let control = refilled(setup, load::control(&mem[..]), r);
+    let outputs = on_outputs(OutputsDeed::Publish, load::outputs(&mem[..]));
+    let inputs = on_inputs(OutputsDeed::Publish, load::inputs(&mem[..]));
+    let reply = exchange_reply(setup, control, outputs.set.held(), master_of(r));
+    save_incoming(i, mem);
+    save_events(control.events.raise(Events::OUTPUTS), mem);
+    save_ticks(control.watchdog.remaining, mem);
+    save_outputs(outputs, mem);
+    save_inputs(inputs, mem);
+    save_reply(reply, mem);
+}
+
+// A last octet applies Services; octets are ignored until a gap. i: the telegram, read to its end.
+pub fn complete(mem: &mut [u8], i: Incoming)
+    requires { ⌜ Holds (now mem) (unpacked (now mem)) ⌝ }
+    ensures { λ _. ⌜ now (mem .exit) ≡ packedAfter (answered (withIncoming (unpacked (now (mem .entry))) i) (now (mem .entry)) (outcomeOf (unpacked (now (mem .entry))) (now (mem .entry)) (requestBy (i .reader))) (requestBy (i .reader))) ⌝ }
+{
+    let reader = i.reader;
+    let r = request_by(reader);
+    if is_accepted(&mem[..], r) {
+        accept(mem, i, r);
+        return;
+    }
+    answer(mem, outcome_in(&mem[..], r), i, r);
+}

@@ -1,0 +1,63 @@
+//! Which octets are the state part of a memory that is not damaged: docs/memory.md, octet by octet. The library has to refuse every
+//! other image with 5, and no image that is one.
+
+/// The phase of reading and the stage of sending from which on data octets are counted.
+const READING_DATA: u8 = 9;
+const SENDING_DATA: u8 = 7;
+
+/// The most that the codes may be, octets 16 to 31.
+const CODES: [u8; 16] = [3, 10, 8, 2, 126, 2, 23, 11, 5, 5, 7, 1, 1, 0, 3, 12];
+
+/// Where the lengths begin, and the least of each; they go to 244.
+pub const LENGTHS: usize = 48;
+const LEAST: [u8; 6] = [1, 1, 7, 1, 6, 1];
+
+/// How many buffers there are of each length.
+const BUFFERS: [usize; 6] = [3, 3, 3, 3, 2, 1];
+
+/// Octets that are not used, beside that among the codes.
+const UNUSED: [usize; 4] = [54, 55, 62, 63];
+
+/// Whether the image is a state's whose roles, lengths and counts keep the rules, with buffers that end in the memory.
+pub fn is_state(image: &[u8], memory_length: usize) -> bool {
+    let codes = image[16..32].iter().zip(CODES);
+    codes.into_iter().all(|(octet, most)| *octet <= most)
+        && lengths(image)
+        && end_of_buffers(image) <= memory_length
+        && line_counts(image[31], READING_DATA, image[32], image[33])
+        && line_counts(image[17], SENDING_DATA, image[14], image[15])
+        && (6..=image[52]).contains(&image[56])
+        && none_or(6, image[57], image[52])
+        && set_counts(7, image[58], image[59], image[50])
+        && set_counts(1, image[60], image[61], image[51])
+        && UNUSED.iter().all(|at| image[*at] == 0)
+}
+
+fn lengths(image: &[u8]) -> bool {
+    let mut each = image[LENGTHS..].iter().zip(LEAST);
+    each.all(|(length, least)| (least..=244).contains(length))
+}
+
+fn end_of_buffers(image: &[u8]) -> usize {
+    let each = image[LENGTHS..].iter().zip(BUFFERS);
+    64 + each
+        .map(|(length, count)| usize::from(*length).div_ceil(8) * 8 * count)
+        .sum::<usize>()
+}
+
+/// Of the telegram that is read or of the reply: no data octet is done before the data, and never more than there are.
+fn line_counts(phase: u8, first_of_data: u8, count: u8, done: u8) -> bool {
+    count <= 246 && done <= count && (done == 0 || phase >= first_of_data)
+}
+
+fn none_or(least: u8, count: u8, length: u8) -> bool {
+    count == 0 || (least..=length).contains(&count)
+}
+
+/// Of a set that is shown and of one that waits behind it.
+fn set_counts(least: u8, shown: u8, waiting: u8, length: u8) -> bool {
+    match shown {
+        0 => waiting == 0,
+        _ => (least..=length).contains(&shown) && none_or(least, waiting, length),
+    }
+}
