@@ -199,33 +199,64 @@ fn changed(at: usize, octet: u8) {
 // Counts of the telegram that is read and of the reply, and sets that wait behind none.
 fn counts() {
     // more than 246 data octets to read, more read than there are, some read before the data, all of them
-    changed(34, 247);
-    changed(35, 247);
-    changed(32, 8);
-    changed(32, 9);
+    changed(32, 247);
+    changed(33, 247);
+    changed(31, 8);
+    changed(31, 9);
     // the same of the reply
-    changed(46, 247);
-    changed(47, 247);
-    changed(44, 6);
-    changed(44, 7);
+    changed(14, 247);
+    changed(15, 247);
+    changed(17, 6);
+    changed(17, 7);
     // no parameters shown, no configuration shown, and a set of each waits
-    changed(23, 0);
-    changed(25, 0);
+    changed(58, 0);
+    changed(60, 0);
+}
+
+// As Start leaves it with all six lengths n, in a memory of 1,504 octets and in one of eight fewer.
+fn room(n: u8) {
+    let mut mem = [0u8; 1504];
+    let s = state::start::initial(Setup {
+        address: 126,
+        ident: 0,
+        output_len: n,
+        input_len: n,
+        parameter_len: n,
+        configuration_len: n,
+        diagnosis_len: n,
+        get_cfg_len: n,
+    });
+    save(s, &mut mem);
+    print_well(holds_state(&mem));
+    print_well(holds_state(&mem[..1496]));
 }
 
 fn main() {
     through(most());
     through(least());
-    // the last number of the roles, and one past it
-    changed(19, 5);
-    changed(19, 6);
+    // the last code of the output set, of the input set, and one past each
+    changed(22, 23);
+    changed(22, 24);
+    changed(23, 11);
+    changed(23, 12);
     // an owner is any octet; a length and a count are not
-    changed(10, 200);
-    changed(3, 0);
-    changed(3, 245);
-    changed(27, 5);
-    // an octet that is not used, and one behind the state
+    changed(0, 200);
+    changed(48, 0);
+    changed(48, 245);
+    changed(56, 5);
+    // the octets that are not used, and one behind the state
+    changed(29, 1);
+    changed(54, 1);
+    changed(55, 1);
+    changed(62, 1);
     changed(63, 1);
     changed(64, 1);
     counts();
+    // 96 ends at 1,504; 88 and 7 well before; 97 and 244 behind; 6 is no length of parameters
+    room(96);
+    room(88);
+    room(7);
+    room(97);
+    room(244);
+    room(6);
 }

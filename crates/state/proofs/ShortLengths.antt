@@ -1,4 +1,4 @@
--- Short lengths: the test of their word, and that they are lengths whose buffers end in every memory of a certain length.
+-- Short lengths: the test of their word, and that they are lengths; and where the buffers of short and of any lengths end at most.
 use Prim.Native.Nat.{ℕ, zero, suc, _≤_}
 use native.Mathlib.Omega.{arith}
 use mathlib.Core.Path.{_≡_, refl, sym, ap, _∙_}
@@ -9,8 +9,9 @@ use lib.ListN.{length, getD, take, drop, replicate}
 use borrow.Author.Tests.{le-leb, lt-leb, ne-eqb}
 use Rattle.octets.specs.Part.{part}
 use Rattle.ranges.specs.Octets.{atMost}
-use Rattle.state.specs.Layout.{roundedUp, rowBase, endOf}
-use Rattle.state.specs.Short.{shortLength, shortEnd, shortTests}
+use Rattle.state.specs.declared.setup.Setup.{Setup}
+use Rattle.state.specs.Layout.{roundedUp, rowBase, endOf, allLengths}
+use Rattle.state.specs.Short.{shortLength, shortEnd, lastEnd, shortTests}
 use Rattle.state.specs.Unpack.{unpacked}
 use Rattle.state.specs.Well.{all, within, lengthsTests}
 use Rattle.state.proofs.ByWords.{rangeTests, ranges-all}
@@ -47,10 +48,34 @@ short-word m h =
 longer : (lo x : ℕ) → within lo x shortLength ≡ true → within lo x 244 ≡ true
 longer lo x e = let w = within-true lo x shortLength e in within-holds lo x 244 (w .0, omega arith)
 
--- what a short length is rounded up to
-rounded-short : (lo x : ℕ) → within lo x shortLength ≡ true → roundedUp x ≤ shortLength
+-- a longer length is not rounded up to less
+rounded-order : (x y : ℕ) → x ≤ y → roundedUp x ≤ roundedUp y
 unfolding roundedUp
-rounded-short lo x e = let w = within-true lo x shortLength e in omega arith
+rounded-order x y h = omega arith
+
+-- buffers end behind those of no length above n at most where six of n octets do
+ends-by : (s : Setup) (n : ℕ) → s .«output_len» ≤ n → s .«input_len» ≤ n → s .«parameter_len» ≤ n → s .«configuration_len» ≤ n
+    → s .«diagnosis_len» ≤ n → s .«get_cfg_len» ≤ n → endOf s ≤ endOf (allLengths n)
+unfolding rowBase
+ends-by s n h₀ h₁ h₂ h₃ h₄ h₅ =
+    let u₀ = rounded-order (s .«output_len») n h₀ in
+    let u₁ = rounded-order (s .«input_len») n h₁ in
+    let u₂ = rounded-order (s .«parameter_len») n h₂ in
+    let u₃ = rounded-order (s .«configuration_len») n h₃ in
+    let u₄ = rounded-order (s .«diagnosis_len») n h₄ in
+    let u₅ = rounded-order (s .«get_cfg_len») n h₅ in
+    omega arith
+
+-- what a length is at most, by its test
+most : (lo x hi : ℕ) → within lo x hi ≡ true → x ≤ hi
+most lo x hi e = within-true lo x hi e .1
+
+-- both tests of a memory that goes as far as the buffers may
+room-for : (m : List ℕ) (end : ℕ) → all (lengthsTests m) ≡ true → endOf (unpacked m .setup) ≤ end → end ≤ length m
+    → true ≡ (all (lengthsTests m) && leb (endOf (unpacked m .setup)) (length m))
+room-for m end h ends long =
+    let room = le-leb (endOf (unpacked m .setup)) (length m) (omega arith) in
+    sym (λ i. h i && room i)
 
 module _ (m : List ℕ) (h : all (shortTests m) ≡ true) where
   -- one of the tests
@@ -74,19 +99,34 @@ module _ (m : List ℕ) (h : all (shortTests m) ≡ true) where
 
   -- and their buffers end where all-96 says or before
   short-end : endOf (unpacked m .setup) ≤ shortEnd
-  unfolding unpacked rowBase
+  unfolding unpacked rowBase roundedUp
   short-end =
-      let u₀ = rounded-short 1 (getD m 48 0) (test 2) in
-      let u₁ = rounded-short 1 (getD m 49 0) (test 3) in
-      let u₂ = rounded-short 7 (getD m 50 0) (test 4) in
-      let u₃ = rounded-short 1 (getD m 51 0) (test 5) in
-      let u₄ = rounded-short 6 (getD m 52 0) (test 6) in
-      let u₅ = rounded-short 1 (getD m 53 0) (test 7) in
-      omega arith
+      ends-by (unpacked m .setup) shortLength (most 1 (getD m 48 0) shortLength (test 2)) (most 1 (getD m 49 0) shortLength (test 3))
+      (most 7 (getD m 50 0) shortLength (test 4))
+      (most 1 (getD m 51 0) shortLength (test 5))
+      (most 6 (getD m 52 0) shortLength (test 6))
+      (most 1 (getD m 53 0) shortLength (test 7))
 
   -- so there is room for them in a memory that goes as far
   pub short-room : shortEnd ≤ length m → true ≡ (all (lengthsTests m) && leb (endOf (unpacked m .setup)) (length m))
-  short-room long =
-      let ends = short-end in
-      let room = le-leb (endOf (unpacked m .setup)) (length m) (omega arith) in
-      sym (λ i. short-lengths i && room i)
+  short-room long = room-for m shortEnd short-lengths short-end long
+
+-- any lengths
+module _ (m : List ℕ) (h : all (lengthsTests m) ≡ true) where
+  -- one of the tests
+  length-test : (k : ℕ) → getD (lengthsTests m) k true ≡ true
+  length-test k = all-at (lengthsTests m) k h
+
+  -- their buffers end where all-244 says or before
+  last-end : endOf (unpacked m .setup) ≤ lastEnd
+  unfolding unpacked rowBase roundedUp
+  last-end =
+      ends-by (unpacked m .setup) 244 (most 1 (getD m 48 0) 244 (length-test 2)) (most 1 (getD m 49 0) 244 (length-test 3))
+      (most 7 (getD m 50 0) 244 (length-test 4))
+      (most 1 (getD m 51 0) 244 (length-test 5))
+      (most 6 (getD m 52 0) 244 (length-test 6))
+      (most 1 (getD m 53 0) 244 (length-test 7))
+
+  -- so there is room for them too in a memory that goes as far
+  pub last-room : lastEnd ≤ length m → true ≡ (all (lengthsTests m) && leb (endOf (unpacked m .setup)) (length m))
+  last-room long = room-for m lastEnd h last-end long

@@ -14,6 +14,10 @@ shortLength = 96
 abbrev pub shortEnd : ℕ
 shortEnd = 1504
 
+-- where the buffers of any lengths end at most: "All 244 end at 3,784"
+abbrev pub lastEnd : ℕ
+lastEnd = 3784
+
 -- the word of the lengths where all of them are short
 abbrev pub shortTests : List ℕ → List Bool
 shortTests m =

@@ -10,6 +10,9 @@ pub const STATE_LENGTH: usize = 64;
 // Where the buffers end at most if all lengths are at most 96.
 pub const SHORT_END: usize = 1504;
 
+// Where they end at most with any lengths.
+pub const LAST_END: usize = 3784;
+
 // How many output buffers there are,
 pub const OUTPUT_BUFFERS: u8 = 3;
 

@@ -12,7 +12,8 @@ ghost use Rattle.state.specs.Memory.{holdsState};
 ghost use Rattle.state.specs.Unpack.{unpacked};
 ghost use Rattle.state.specs.Well.{all, lengthsTests};
 
-// The lengths, and whether the buffers end in the memory. Of short lengths the sum need not be made.
+// The lengths, and whether the buffers end in the memory. Of short lengths, and in a memory that has room for all, the sum need not
+// be made.
 fn has_room(mem: &[u8]) -> bool
     requires { ⌜ stateLength ≤ length (now mem) ⌝ }
     ensures { λ r. ⌜ r ≡ (all (lengthsTests (now (mem .entry))) && leb (endOf (unpacked (now (mem .entry)) .setup)) (length (now (mem .entry)))) ⌝ }
@@ -22,6 +23,9 @@ fn has_room(mem: &[u8]) -> bool
     }
     if !well::well_lengths(mem) {
         return false;
+    }
+    if layout::LAST_END <= mem.len() {
+        return true;
     }
     layout::end_of(load::setup(mem)) <= mem.len()
 }

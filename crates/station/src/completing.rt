@@ -1,5 +1,6 @@
 // The last octet of a telegram over the memory that holds the state, where nothing waits for the end of the line's business. An accepted
-// Data_Exchange, which nearly every telegram is, has a way of its own: of the control part only the events and the watchdog change.
+// Data_Exchange, which nearly every telegram to the station is, and a telegram that does not act, which is nearly every other one on the
+// line, have ways of their own.
 use crate::reading::prm_at;
 use crate::reading::request_by;
 use crate::replies::draw;
@@ -17,6 +18,7 @@ use rules::request::OpenSets;
 use rules::request::Prm;
 use rules::request::Request;
 use rules::request::Service;
+use rules::requests::acts;
 use rules::requests::master_of;
 use rules::requests::refilled;
 use rules::requests::service_of;
@@ -37,13 +39,14 @@ use state::state::Incoming;
 use state::state::Reply;
 use telegram::Kind;
 use telegram::sender::Sender;
-ghost use mathlib.Core.Bool.{true};
+ghost use mathlib.Core.Bool.{true, false};
 ghost use mathlib.Core.Path.{_≡_};
 ghost use Rattle.buffers.specs.Triple.{heldOf};
 ghost use Rattle.state.specs.declared.state.State.{State};
 ghost use Rattle.state.specs.Memory.{Holds};
 ghost use Rattle.state.specs.Unpack.{unpacked};
 ghost use Rattle.state.specs.With.{withIncoming};
+ghost use Rattle.rules.specs.Requests.{acts};
 ghost use Rattle.steps.specs.Stepped.{packedAfter};
 ghost use Rattle.steps.specs.Replies.{replyFor};
 ghost use Rattle.steps.specs.Reading.{requestBy, prmIn, outcomeOf, answered};
@@ -162,6 +165,24 @@ fn accept(mem: &mut [u8], i: Incoming, r: Request)
     save_reply(reply, mem);
 }
 
+// A telegram that does not act draws nothing.
+fn pass_by(mem: &mut [u8], i: Incoming, r: Request)
+    requires { ⌜ (Holds (now mem) (unpacked (now mem))) × (acts (unpacked (now mem) .setup) r ≡ false) ⌝ }
+    ensures { λ _. ⌜ now (mem .exit) ≡ packedAfter (answered (withIncoming (unpacked (now (mem .entry))) i) (now (mem .entry)) (outcomeOf (unpacked (now (mem .entry))) (now (mem .entry)) r) r) ⌝ }
+{
+    let control = load::control(&mem[..]);
+    let outputs = load::outputs(&mem[..]);
+    let header = header_of(control);
+    let reply = Reply {
+        drawn: Drawn::Nothing,
+        sender: Sender::empty(),
+        place: outputs.set.held(),
+        header,
+    };
+    save_incoming(i, mem);
+    save_reply(reply, mem);
+}
+
 // A last octet applies Services; octets are ignored until a gap. i: the telegram, read to its end.
 pub fn complete(mem: &mut [u8], i: Incoming)
     requires { ⌜ Holds (now mem) (unpacked (now mem)) ⌝ }
@@ -171,6 +192,10 @@ pub fn complete(mem: &mut [u8], i: Incoming)
     let r = request_by(reader);
     if is_accepted(&mem[..], r) {
         accept(mem, i, r);
+        return;
+    }
+    if !acts(load::setup(&mem[..]), r) {
+        pass_by(mem, i, r);
         return;
     }
     answer(mem, outcome_in(&mem[..], r), i, r);

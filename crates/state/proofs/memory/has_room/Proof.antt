@@ -6,13 +6,13 @@ use mathlib.Core.List.{List, [], _∷_}
 use lib.Dec.{leb}
 use lib.ListN.{length}
 use denote.Ref.{now}
-use borrow.Author.Tests.{leb-true, not-true}
+use borrow.Author.Tests.{leb-true, not-true, not-false}
 use Rattle.state.specs.Layout.{endOf}
 use Rattle.state.specs.Short.{shortEnd}
 use Rattle.state.specs.Unpack.{unpacked}
 use Rattle.state.specs.Well.{all, lengthsTests}
 use Rattle.state.proofs.Choice.{and-left, and-right}
-use Rattle.state.proofs.ShortLengths.{short-room}
+use Rattle.state.proofs.ShortLengths.{short-room, last-room}
 use Rattle.state.proofs.Tests.{all-fails, others-decide}
 use borrow.Author.Needs.{needs}
 use Rattle.state.proofs.memory.has_room.Statement.{statement}
@@ -40,16 +40,22 @@ well-lengths-requires c κs = search needs
 returns-2 : tie.Need-returns-2
 returns-2 c = all-fails (tests (now (c .before .before .before .before .before .args .mem))) 0 (sym (c .before .well-lengths .ensures) ∙ not-true _ (c .if2 .taken))
 
+returns-3 : tie.Need-returns-3
+returns-3 c =
+    let m = now (c .before .before .before .before .before .before .args .mem) in
+    let well = c .before .before in
+    last-room m (sym (well .well-lengths .ensures) ∙ not-false (well .well-lengths .result) (c .before .if2 .left)) (c .if3 .taken)
+
 setup-requires : tie.Need-setup-requires
 setup-requires c κs = search needs
 
 end-of-requires : tie.Need-end-of-requires
 end-of-requires c κs = search needs
 
-returns-3 : tie.Need-returns-3
-returns-3 c =
-    let m = now (c .before .before .before .before .before .before .before .args .mem) in
-    let s = c .before .before in
+returns-4 : tie.Need-returns-4
+returns-4 c =
+    let m = now (c .before .before .before .before .before .before .before .before .args .mem) in
+    let s = c .before .before .before in
     ap (λ (n : ℕ). leb n (length m)) (c .end-of .ensures ∙ ap endOf (c .before .setup .ensures))
     ∙ others-decide 1 (tests m) (ap not (sym (s .before .well-lengths .ensures)) ∙ s .if2 .left, tt)
 
@@ -61,6 +67,7 @@ has-room-spec =
     returns
     well-lengths-requires
     returns-2
+    returns-3
     setup-requires
     end-of-requires
-    returns-3)
+    returns-4)

@@ -1,3 +1,4 @@
+-- `station::replies::sender_for` meets its contract.
 use borrow.Author.Needs.{needs}
 use Rattle.station.proofs.replies.sender_for.Statement.{statement}
 use Rattle.station.proofs.replies.sender_for.Tie as tie
@@ -60,31 +61,31 @@ servicing-requires-4 : tie.Need-servicing-requires-4
 servicing-requires-4 c κs = search needs
 
 returns : tie.Need-returns
-returns c = rw (c .empty .ensures, c .before .enum-told .given .1)
+returns c = λ s e f. rw (c .empty .ensures, c .before .enum-told .given .1)
 
 returns-2 : tie.Need-returns-2
-returns-2 c = rw (c .single .ensures, c .before .enum-told2 .given .1)
+returns-2 c = λ s e f. rw (c .single .ensures, c .before .enum-told2 .given .1)
 
 returns-3 : tie.Need-returns-3
-returns-3 c = rw (c .telegram .ensures, c .before .enum-told3 .given .1)
+returns-3 c = λ s e f. rw (c .telegram .ensures, c .before .enum-told3 .given .1, e)
 
 returns-4 : tie.Need-returns-4
-returns-4 c = rw (c .telegram2 .ensures, c .before .enum-told4 .given .1)
+returns-4 c = λ s e f. rw (c .telegram2 .ensures, c .before .enum-told4 .given .1, e)
 
 returns-5 : tie.Need-returns-5
-returns-5 c = rw (c .telegram3 .ensures, c .before .exchange-fc .ensures, c .before .before .enum-told5 .given .1)
+returns-5 c = λ s e f. rw (c .telegram3 .ensures, c .before .exchange-fc .ensures, c .before .before .enum-told5 .given .1, e, f)
 
 returns-6 : tie.Need-returns-6
-returns-6 c = rw (c .servicing .ensures, c .before .enum-told6 .given .1)
+returns-6 c = λ s e f. rw (c .servicing .ensures, c .before .enum-told6 .given .1, e)
 
 returns-7 : tie.Need-returns-7
-returns-7 c = rw (c .servicing2 .ensures, c .before .enum-told7 .given .1)
+returns-7 c = λ s e f. rw (c .servicing2 .ensures, c .before .enum-told7 .given .1, e)
 
 returns-8 : tie.Need-returns-8
-returns-8 c = rw (c .servicing3 .ensures, c .before .enum-told8 .given .1)
+returns-8 c = λ s e f. rw (c .servicing3 .ensures, c .before .enum-told8 .given .1, e)
 
 returns-9 : tie.Need-returns-9
-returns-9 c = rw (c .servicing4 .ensures, c .before .enum-told9 .given .1)
+returns-9 c = λ s e f. rw (c .servicing4 .ensures, c .before .enum-told9 .given .1, e, f)
 
 pub sender-for-spec : {M : Type 1} → statement M
 sender-for-spec =
