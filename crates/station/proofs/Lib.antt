@@ -4,3 +4,5 @@ pub mod Guarding
 mod HeardOverMemory
 mod StoredOverMemory
 mod SentOverMemory
+mod Ticking
+mod UserOverMemory

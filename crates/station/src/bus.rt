@@ -134,7 +134,8 @@ pub fn elapse(mut s: State, mem: &mut [u8]) -> State
     }
     let remaining = s.control.watchdog.remaining;
     if 1 < remaining {
-        s.control.watchdog.remaining = remaining - 1;
+        let less = remaining - 1;
+        s.control.watchdog.remaining = less;
         return s;
     }
     carry_out(s, mem, ticked(busy(s), s.control), 0)

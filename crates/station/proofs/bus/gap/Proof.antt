@@ -1,6 +1,7 @@
 -- `station::bus::gap` meets its contract.
 use Rattle.steps.proofs.Holding.{holds-safe}
 use Rattle.station.proofs.SentOverMemory.{packs, quiet-gap}
+use Rattle.state.proofs.Damage.{fronted-same}
 use borrow.Author.Needs.{needs}
 use Rattle.station.proofs.bus.gap.Statement.{statement}
 use Rattle.station.proofs.bus.gap.Tie as tie
@@ -40,7 +41,7 @@ read-on-requires : tie.Need-read-on-requires
 read-on-requires c κs = search needs
 
 save-incoming-requires : tie.Need-save-incoming-requires
-save-incoming-requires c κs = c .before .before .before .before .before .before .before .before .before .pre
+save-incoming-requires c κs = c .before .before .before .before .before .before .before .before .before .pre .long
 
 same-length-2 : tie.Need-same-length-2
 same-length-2 c = search needs
@@ -55,7 +56,7 @@ returns-2 c =
       c .before .before .before .before .before .start .ensures,
       c .before .before .before .before .before .before .incoming .ensures,
     ))
-    (c .before .before .save-incoming .ensures)
+    (c .before .before .save-incoming .ensures _ (fronted-same _ _ (c .before .before .before .before .before .before .before .before .before .before .before .before .pre)))
 
 pub gap-spec : {M : Type 1} → statement M
 gap-spec =

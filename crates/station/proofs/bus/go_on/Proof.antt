@@ -3,6 +3,7 @@ use Rattle.state.specs.Unpack.{unpacked}
 use Rattle.steps.proofs.KeepsSafe.{safe-reply}
 use Rattle.steps.proofs.Holding.{holds-safe}
 use Rattle.station.proofs.SentOverMemory.{packs, quiet-on}
+use Rattle.state.proofs.Damage.{fronted-same}
 use borrow.Author.Needs.{needs}
 use Rattle.station.proofs.bus.go_on.Statement.{statement}
 use Rattle.station.proofs.bus.go_on.Tie as tie
@@ -40,7 +41,7 @@ returns c =
     (c .before .before .save .ensures)
 
 save-sender-requires : tie.Need-save-sender-requires
-save-sender-requires c κs = c .before .before .before .before .before .pre
+save-sender-requires c κs = c .before .before .before .before .before .pre .long
 
 same-length-2 : tie.Need-same-length-2
 same-length-2 c = search needs
@@ -50,7 +51,7 @@ returns-2 c =
     quiet-on _ (unpacked (c .before .before .before .before .before .before .before .before .args .mem .now)) _ _ _
     (c .before .before .before .before .before .waits .ensures)
     (c .before .before .before .before .if1 .left)
-    (c .before .before .save-sender .ensures)
+    (c .before .before .save-sender .ensures _ (fronted-same _ _ (c .before .before .before .before .before .before .before .before .pre)))
 
 pub go-on-spec : {M : Type 1} → statement M
 go-on-spec =

@@ -1,3 +1,4 @@
+-- `station::bus::pause` meets its contract.
 use borrow.Author.Needs.{needs}
 use Rattle.steps.specs.Bus.{paused}
 use Rattle.steps.proofs.KeepsSafe.{safe-read-by}

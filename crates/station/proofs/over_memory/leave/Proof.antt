@@ -1,24 +1,18 @@
 -- `station::over_memory::leave` meets its contract.
-use Rattle.station.proofs.Stepping.{holding, stepped}
-use Rattle.steps.proofs.Holding.{holds-safe}
+use Rattle.steps.specs.Step.{stepOver}
 use borrow.Author.Needs.{needs}
 use Rattle.station.proofs.over_memory.leave.Statement.{statement}
 use Rattle.station.proofs.over_memory.leave.Tie as tie
 
-unpack-requires : tie.Need-unpack-requires
-unpack-requires c κs = c .before .before .pre .long
-
 leave-requires : tie.Need-leave-requires
-leave-requires c κs = holds-safe _ _ (holding _ _ (c .before .before .before .before .pre) (c .before .unpack .ensures))
-
-save-requires : tie.Need-save-requires
-save-requires c κs = rw (c .before .before .before .leave .kept .1 .0) (c .before .before .before .before .before .before .before .before .pre .long)
+leave-requires c κs = search needs
 
 same-length : tie.Need-same-length
 same-length c = search needs
 
 returns : tie.Need-returns
-returns c = let d = c .before .before .before .before .before .before in stepped _ _ _ (holding _ _ (d .before .before .before .before .before .pre) (d .before .before .unpack .ensures)) _ _ _ _ (d .leave .ensures) (c .before .before .save .ensures)
+unfolding stepOver
+returns c = c .before .before .leave .ensures
 
 pub leave-spec : {M : Type 1} → statement M
-leave-spec = tie.close (tie.spec unpack-requires leave-requires save-requires same-length returns)
+leave-spec = tie.close (tie.spec leave-requires same-length returns)

@@ -1,23 +1,18 @@
 -- `station::over_memory::take` meets its contract.
-use Rattle.station.proofs.Stepping.{holding, stepped}
+use Rattle.steps.specs.Step.{stepOver}
 use borrow.Author.Needs.{needs}
 use Rattle.station.proofs.over_memory.take.Statement.{statement}
 use Rattle.station.proofs.over_memory.take.Tie as tie
 
-unpack-requires : tie.Need-unpack-requires
-unpack-requires c κs = c .before .before .pre .long
-
 take-outputs-requires : tie.Need-take-outputs-requires
 take-outputs-requires c κs = search needs
-
-save-requires : tie.Need-save-requires
-save-requires c κs = c .before .before .before .before .before .pre .long
 
 same-length : tie.Need-same-length
 same-length c = search needs
 
 returns : tie.Need-returns
-returns c = let d = c .before .before .before .before in stepped _ _ _ (holding _ _ (d .before .before .before .before .pre) (d .before .unpack .ensures)) _ _ _ _ (d .take-outputs .ensures _) (c .before .before .save .ensures)
+unfolding stepOver
+returns c = c .before .before .take-outputs .ensures
 
 pub take-spec : {M : Type 1} → statement M
-take-spec = tie.close (tie.spec unpack-requires take-outputs-requires save-requires same-length returns)
+take-spec = tie.close (tie.spec take-outputs-requires same-length returns)

@@ -1,76 +1,73 @@
 -- `station::user::judge_parameters` meets its contract.
+use mathlib.Core.Path.{refl}
 use Rattle.steps.specs.User.{judgeParameters}
+use Rattle.station.proofs.UserOverMemory.{judges-parameters}
 use borrow.Author.Needs.{needs}
 use Rattle.station.proofs.user.judge_parameters.Statement.{statement}
 use Rattle.station.proofs.user.judge_parameters.Tie as tie
 
+parameters-requires : tie.Need-parameters-requires
+parameters-requires c κs = search needs
+
 is-open-requires : tie.Need-is-open-requires
 is-open-requires c κs = search needs
-
-refusing-requires : tie.Need-refusing-requires
-refusing-requires c κs = search needs
-
-returns : tie.Need-returns
-unfolding judgeParameters
-returns c = rw (← c .before .before .is-open .ensures, c .before .if1 .taken) (c .refusing .ensures _)
-
-refusing-requires-2 : tie.Need-refusing-requires-2
-refusing-requires-2 c κs = search needs
-
-returns-2 : tie.Need-returns-2
-unfolding judgeParameters
-returns-2 c =
-    rw (
-      ← c .before .before .before .is-open .ensures,
-      c .before .before .if1 .left,
-      c .before .if2 .taken,
-    )
-    (c .refusing2 .ensures _)
-
-judged-parameters-requires : tie.Need-judged-parameters-requires
-judged-parameters-requires c κs = search needs
-
-carry-out-requires : tie.Need-carry-out-requires
-carry-out-requires c κs = search needs
-
-waited-number-requires : tie.Need-waited-number-requires
-waited-number-requires c κs = search needs
-
-told-requires : tie.Need-told-requires
-told-requires c κs = search needs
 
 same-length : tie.Need-same-length
 same-length c = search needs
 
-returns-3 : tie.Need-returns-3
+returns : tie.Need-returns
 unfolding judgeParameters
+returns c =
+    rw (← c .before .before .parameters .ensures, ← c .before .is-open .ensures, c .if1 .taken)
+    (record { answers = refl; leaves = refl })
+
+same-length-2 : tie.Need-same-length-2
+same-length-2 c = search needs
+
+returns-2 : tie.Need-returns-2
+unfolding judgeParameters
+returns-2 c =
+    rw (← c .before .before .before .parameters .ensures, ← c .before .before .is-open .ensures, c .before .if1 .left, c .if2 .taken)
+    (record { answers = refl; leaves = refl })
+
+control-requires : tie.Need-control-requires
+control-requires c κs = search needs
+
+judged-parameters-requires : tie.Need-judged-parameters-requires
+judged-parameters-requires c κs = search needs
+
+carry-over-requires : tie.Need-carry-over-requires
+carry-over-requires c κs = search needs
+
+waited-number-requires : tie.Need-waited-number-requires
+waited-number-requires c κs = search needs
+
+same-length-3 : tie.Need-same-length-3
+same-length-3 c = search needs
+
+returns-3 : tie.Need-returns-3
 returns-3 c =
-    let p = c .before .before .before .before in
-    let d = p .before .before .before in
-    let e = p .carry-out .ensures in
-    rw (
-      ← d .before .before .is-open .ensures,
-      d .before .if1 .left,
-      d .if2 .left,
-      ← p .before .judged-parameters .ensures,
-      ← e .states,
-      ← e .leaves,
-      ← c .before .waited-number .ensures,
-    )
-    (c .told .ensures (p .carry-out .last .1 .0))
+    let d = c .before .before .before .before .before .before .before .before in
+    judges-parameters _ _ (c .before .before .before .before .before .before .control .ensures) (c .before .before .before .carry-over .ensures) _ (d .if2 .left)
+    (d .before .before .is-open .ensures)
+    (c .waited-number .ensures)
+    (d .before .before .before .parameters .ensures)
+    (d .before .if1 .left)
+    (c .before .before .before .before .judged-parameters .ensures)
 
 pub judge-parameters-spec : {M : Type 1} → statement M
 judge-parameters-spec =
     tie.close
     (tie.spec
+    parameters-requires
     is-open-requires
-    refusing-requires
-    returns
-    refusing-requires-2
-    returns-2
-    judged-parameters-requires
-    carry-out-requires
-    waited-number-requires
-    told-requires
     same-length
+    returns
+    same-length-2
+    returns-2
+    control-requires
+    judged-parameters-requires
+    carry-over-requires
+    waited-number-requires
+    same-length-3
     returns-3)

@@ -1,0 +1,54 @@
+-- A Tick case by case, with the control part as the code read it.
+use Prim.Native.Nat.{ℕ, _-_, _<_}
+use mathlib.Core.Path.{_≡_, sym, ap, _∙_}
+use mathlib.Core.Bool.{Bool, true, false, cond, not}
+use mathlib.Core.List.{List}
+use borrow.Author.Tests.{lt-leb}
+use Rattle.state.specs.declared.control.Control.{Control}
+use Rattle.state.specs.declared.state.State.{State}
+use Rattle.state.specs.Start.{noReply}
+use Rattle.state.specs.With.{withReply, withTicks}
+use Rattle.rules.specs.declared.outcome.Outcome.{Outcome}
+use Rattle.rules.specs.Line.{counts, ticked}
+use Rattle.steps.specs.Stepped.{Stepped, unchanged}
+use Rattle.steps.specs.Line.{begun, busy}
+use Rattle.steps.specs.Outcome.{carried, settle}
+use Rattle.steps.specs.Reading.{readBy}
+use Rattle.steps.specs.Bus.{silencedReader, elapsed}
+
+module _ (s : State) (m : List ℕ) (x : Control) (same : x ≡ s .control) where
+  -- telegram and reply are dropped
+  abbrev dropping : Stepped
+  dropping = settle (withReply (readBy s (silencedReader (begun s) (s .incoming .reader))) noReply) m
+
+  -- by the test of the code
+  by-noted : (t : Bool) → x .noted ≡ t → elapsed s m ≡ cond t dropping (carried s m (ticked (busy s) (s .control)) 0)
+  unfolding elapsed
+  by-noted t e = ap (λ (u : Bool). cond u dropping (carried s m (ticked (busy s) (s .control)) 0)) ((λ i. sym same i .noted) ∙ e)
+
+  -- a clear is noted
+  pub tick-drops : x .noted ≡ true → elapsed s m ≡ dropping
+  tick-drops e = by-noted true e
+
+  module _ (none : x .noted ≡ false) where
+    -- none is noted: the outcome of the rules,
+    pub tick-carries : (b : Bool) (o : Outcome) → b ≡ busy s → o ≡ ticked b x → elapsed s m ≡ carried s m o 0
+    tick-carries b o e f =
+        by-noted false none ∙ ap (λ (p : Outcome). carried s m p 0) (sym (f ∙ (λ i. ticked (e i) (same i))))
+
+    module _ (b : Bool) (tested : b ≡ counts x) where
+      -- by the test of the code
+      counting : (t : Bool) → not b ≡ t → not (counts (s .control)) ≡ t
+      counting t e = ap not (sym (tested ∙ ap counts same)) ∙ e
+
+      -- which leaves all as it is where the watchdog does not count,
+      pub tick-rests : not b ≡ true → elapsed s m ≡ unchanged s m
+      unfolding carried ticked
+      tick-rests e = by-noted false none ∙ rw (counting true e)
+
+      -- and but for the ticks that remain where it counts and does not end
+      pub tick-counts : not b ≡ false → 1 < x .watchdog .remaining → elapsed s m ≡ unchanged (withTicks s (x .watchdog .remaining - 1)) m
+      unfolding carried ticked
+      tick-counts e h =
+          let ticks : s .control .watchdog .remaining ≡ x .watchdog .remaining = λ i. sym same i .watchdog .remaining in
+          by-noted false none ∙ rw (counting false e, ticks, lt-leb _ _ h)
