@@ -5,3 +5,4 @@ pub mod Served
 pub mod EventsFollow
 pub mod Owner
 pub mod LookedAt
+pub mod NoteStays

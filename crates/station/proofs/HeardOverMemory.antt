@@ -1,7 +1,7 @@
 -- An octet heard over the memory that holds the state: the step changes no more than the code writes.
 use Prim.Native.Nat.{ℕ, _+_, _≤_, _<_}
 use native.Mathlib.Omega.{arith}
-use mathlib.Core.Path.{_≡_, refl, sym, ap, subst, _∙_}
+use mathlib.Core.Path.{_≡_, refl, sym, ap, _∙_}
 use mathlib.Core.Bool.{Bool, true, false, cond, not, _&&_}
 use mathlib.Core.List.{List}
 use lib.Dec.{eqb, ltb}
@@ -21,10 +21,10 @@ use Rattle.telegram.proofs.Above.{datum-number, datum-nothing, data-inside, dat
 use Rattle.state.specs.declared.state.Incoming.{Incoming}
 use Rattle.state.specs.declared.state.State.{State}
 use Rattle.state.specs.Layout.{stateLength, rowCount, startOf, outputRow, parameterRow, configurationRow, outputsAt, parametersAt, configurationAt}
-use Rattle.state.specs.Memory.{kept, Holds}
-use Rattle.state.specs.Unpack.{unpacked}
+use Rattle.state.specs.Memory.{kept, Holds, Changes}
 use Rattle.state.specs.With.{withIncoming, withData}
-use Rattle.state.proofs.Damage.{holds-unpacked, fronted-same}
+use Rattle.state.proofs.Choice.{and-left, and-right}
+use Rattle.state.proofs.Damage.{fronted, fronted-same}
 use Rattle.state.proofs.Places.{inside}
 use Rattle.steps.specs.Stepped.{Steps, unchanged, packedAfter}
 use Rattle.steps.specs.Line.{isInside}
@@ -32,8 +32,6 @@ use Rattle.steps.specs.Outcome.{settle}
 use Rattle.steps.specs.Reading.{storedData, keptOctets, storedAs, readOn, readBy, beginning, heardAs, isIgnored, heard}
 use Rattle.steps.proofs.Holding.{holds-safe}
 use Rattle.station.specs.Hearing.{isPlain}
-use Rattle.steps.proofs.KeepsSafe.{stored-data-length}
-use Rattle.state.proofs.Choice.{and-left, and-right}
 
 is-inside : (x : Status) → isInside x ≡ true → x ≡ Inside
 is-inside Fresh e = no-true e
@@ -57,7 +55,7 @@ module _ (s : State) (m : List ℕ) (b : ℕ) where
       ∙ (λ i. cond (isInside (e i)) (storedAs (datumOf old) s m next b) (settle (beginning s next) m))
 
   -- data
-  heard-data : takesData old ≡ true → heard s m b false ≡ storedAs (Number (old .at)) s m (readerStep old b) b
+  pub heard-data : takesData old ≡ true → heard s m b false ≡ storedAs (Number (old .at)) s m (readerStep old b) b
   heard-data e =
       heard-inner false (data-inside old e) (data-goes-on old b e)
       ∙ ap (λ (d : Datum). storedAs d s m (readerStep old b) b) (datum-number old e)
@@ -118,68 +116,50 @@ module _ (m : List ℕ) (s : State) (h : Holds m s) where
       (behind configurationRow (fillOf (s .configuration .set .place)) (safe .configuration .fill-in)))
       refl))
 
-  -- so the memory holds the state still
-  storing-holds : (k b : ℕ) → Holds (storedData s m k b) s
-  storing-holds k b =
-      let e = stored-data-length s m k b in
-      record {
-        long = rw e (h .long);
-        sound = h .sound;
-        front = stored-front k b ∙ h .front;
-        room = rw e (h .room);
-      }
-
-  -- and what it unpacks to, as the code has it
-  pub stored-holds : (k b : ℕ) (n : List ℕ) → n ≡ storedData s m k b → Holds n (unpacked n)
-  stored-holds k b n e =
-      let h′ : Holds n s = subst (λ (l : List ℕ). Holds l s) (sym e) (storing-holds k b) in
-      subst (Holds n) (sym (holds-unpacked n s h′)) h′
-
   -- ---- what the code leaves
 
+  -- of a data octet
   data-octet : (b : ℕ) (e : takesData (s .incoming .reader) ≡ true)
       → let r = s .incoming .reader in
-      let n = storedData s m (r .at) b in
       kept
-      (withData (unpacked n) (readerStep r b .at) (readerStep r b .sum) (cond (eqb (r .at) 0) b (s .incoming .first))
-      (cond (eqb (r .at) 1) b (s .incoming .second)))
-      n
+      (withData s (readerStep r b .at) (readerStep r b .sum) (cond (eqb (r .at) 0) b (s .incoming .first)) (cond (eqb (r .at) 1) b (s .incoming .second)))
+      (storedData s m (r .at) b)
       ≡ packedAfter (heard s m b false)
   data-octet b e =
       let r = s .incoming .reader in
-      let n = storedData s m (r .at) b in
       let first = cond (eqb (r .at) 0) b (s .incoming .first) in
       let second = cond (eqb (r .at) 1) b (s .incoming .second) in
-      ap (λ (x : State). kept (withData x (readerStep r b .at) (readerStep r b .sum) first second) n)
-      (holds-unpacked n s (storing-holds (r .at) b))
-      ∙ (λ i. kept (withIncoming s (record { reader = data-changes r b e i; first = first; second = second })) n)
+      (λ i. kept (withIncoming s (record { reader = data-changes r b e i; first = first; second = second })) (storedData s m (r .at) b))
       ∙ sym (ap packedAfter (heard-data s m b e))
 
+  -- of an inner one that is no data
   plain-octet : (b : ℕ) (bad : Bool) → isPlain (s .incoming .reader) (readerAfter (s .incoming .reader) b bad) ≡ true
       → kept (readBy s (readerAfter (s .incoming .reader) b bad)) m ≡ packedAfter (heard s m b bad)
   plain-octet b bad e = sym (ap packedAfter (heard-plain s m b bad e))
 
+  -- of one that is ignored
   ignored-octet : (b : ℕ) (bad : Bool) → isIgnored (status (s .incoming .reader)) ≡ true → m ≡ packedAfter (heard s m b bad)
   ignored-octet b bad e = fronted-same m s h ∙ sym (ap packedAfter (heard-ignored s m b bad e))
 
   -- ---- the same of the values that the code has
 
   module _ (b : ℕ) (i : Incoming) (same : i ≡ s .incoming) where
+    -- a data octet
     pub leaves-data : takesData (s .incoming .reader) ≡ true → (n : List ℕ) (x : Reader) (j : Incoming) (out : List ℕ)
         → n ≡ storedData s m (i .reader .at) b → x ≡ readerStep (i .reader) b → j ≡ keptOctets i x (i .reader .at) b
-        → out ≡ kept (withData (unpacked n) (j .reader .at) (j .reader .sum) (j .first) (j .second)) n
-        → out ≡ packedAfter (heard s m b false)
+        → Changes n out (λ u. withData u (j .reader .at) (j .reader .sum) (j .first) (j .second)) → out ≡ packedAfter (heard s m b false)
     leaves-data e n x j out en ex ej k =
         let stored : n ≡ storedData s m (s .incoming .reader .at) b = en ∙ (λ t. storedData s m (same t .reader .at) b) in
         let read : x ≡ readerStep (s .incoming .reader) b = ex ∙ (λ t. readerStep (same t .reader) b) in
         let put : j ≡ keptOctets (s .incoming) (readerStep (s .incoming .reader) b) (s .incoming .reader .at) b =
         ej ∙ (λ t. keptOctets (same t) (read t) (same t .reader .at) b)
         in
-        k
-        ∙ (λ t. kept (withData (unpacked (stored t)) (put t .reader .at) (put t .reader .sum) (put t .first) (put t .second)) (stored t))
+        k s (fronted m n s h (ap (take stateLength) stored ∙ stored-front (s .incoming .reader .at) b))
+        ∙ (λ t. kept (withData s (put t .reader .at) (put t .reader .sum) (put t .first) (put t .second)) (stored t))
         ∙ data-octet b e
 
     module _ (bad : Bool) where
+      -- one that is ignored
       pub leaves-ignored : (x : Status) (p : Bool) → x ≡ status (i .reader) → p ≡ isIgnored x → p ≡ true → m ≡ packedAfter (heard s m b bad)
       leaves-ignored x p ex ep e =
           ignored-octet b bad (sym (ep ∙ ap isIgnored ex ∙ (λ t. isIgnored (status (same t .reader)))) ∙ e)
@@ -189,22 +169,29 @@ module _ (m : List ℕ) (s : State) (h : Holds m s) where
         after : next ≡ readerAfter (s .incoming .reader) b bad
         after = goes ∙ (λ t. readerAfter (same t .reader) b bad)
 
+        -- an inner one that is no data
         pub leaves-plain : (p : Bool) (j : Incoming) (out : List ℕ) → p ≡ isPlain (i .reader) next → p ≡ true → j ≡ readOn i next
-            → out ≡ kept (withIncoming s j) m → out ≡ packedAfter (heard s m b bad)
+            → Changes m out (λ u. withIncoming u j) → out ≡ packedAfter (heard s m b bad)
         leaves-plain p j out ep e ej k =
-            k
+            k s (fronted-same m s h)
             ∙ (λ t. kept (withIncoming s (ej t)) m)
             ∙ (λ t. kept (withIncoming s (readOn (same t) (after t))) m)
             ∙ plain-octet b bad (sym (ep ∙ (λ t. isPlain (same t .reader) (after t))) ∙ e)
 
-        pub leaves-other : (x : Status) (p : Bool) → x ≡ status (i .reader) → p ≡ isIgnored x → p ≡ false
-            → (y : Status) (u t : State) (n out : List ℕ) → y ≡ status next → u ≡ s → Steps (heardAs y u m next b) t n → out ≡ kept t n
-            → out ≡ packedAfter (heard s m b bad)
-        leaves-other x p ex ep e y u t n out ey eu h k =
-            let told : y ≡ status (readerAfter (s .incoming .reader) b bad) = ey ∙ ap status after in
-            k
-            ∙ (λ r. kept (h .states r) (h .leaves r))
-            ∙ (λ r. packedAfter (heardAs (told r) (eu r) m (after r) b))
-            ∙ sym
-            (ap packedAfter
-            (heard-other s m b bad (sym (ep ∙ ap isIgnored ex ∙ (λ r. isIgnored (status (same r .reader)))) ∙ e)))
+        -- the octet is not ignored; y: what the octets are with it
+        module _ (x : Status) (p : Bool) (ex : x ≡ status (i .reader)) (ep : p ≡ isIgnored x) (e : p ≡ false) (y : Status) (ey : y ≡ status next) where
+          -- that decides
+          heard-so : heardAs y s m next b ≡ heard s m b bad
+          heard-so =
+              (λ r. heardAs ((ey ∙ ap status after) r) s m (after r) b)
+              ∙ sym (heard-other s m b bad (sym (ep ∙ ap isIgnored ex ∙ (λ r. isIgnored (status (same r .reader)))) ∙ e))
+
+          -- the whole state is unpacked
+          pub leaves-other : (u t : State) (n out : List ℕ) → u ≡ s → Steps (heardAs y u m next b) t n → out ≡ kept t n
+              → out ≡ packedAfter (heard s m b bad)
+          leaves-other u t n out eu h k =
+              k ∙ (λ r. kept (h .states r) (h .leaves r)) ∙ (λ r. packedAfter (heardAs y (eu r) m next b)) ∙ ap packedAfter heard-so
+
+          -- nothing waits
+          pub leaves-turn : (out : List ℕ) → ((b : ℕ) → out ≡ packedAfter (heardAs y s m next b)) → out ≡ packedAfter (heard s m b bad)
+          leaves-turn out k = k b ∙ ap packedAfter heard-so

@@ -2,7 +2,10 @@ pub mod KindsInMemory
 pub mod Stepping
 pub mod Guarding
 mod HeardOverMemory
+mod TurnedOverMemory
 mod StoredOverMemory
+mod CompletedOverMemory
+mod PassedBy
 mod SentOverMemory
 mod Ticking
 mod UserOverMemory

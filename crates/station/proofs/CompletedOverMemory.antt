@@ -1,0 +1,184 @@
+-- The last octet of a telegram over the memory, part by part: the memory then holds the state after it.
+use Prim.Native.Nat.{ℕ}
+use mathlib.Core.Path.{_≡_, refl, sym, ap, _∙_}
+use mathlib.Core.Bool.{true, cond, not, _&&_}
+use mathlib.Core.List.{List}
+use lib.Dec.{eqb}
+use Rattle.buffers.specs.declared.events.Events.{Events}
+use Rattle.buffers.specs.declared.triple.Triple.{Triple}
+use Rattle.buffers.specs.Events.{raised, outputsEvent}
+use Rattle.buffers.specs.Triple.{heldOf}
+use Rattle.telegram.specs.declared.Kind.the-variants.{Sd2}
+use Rattle.telegram.specs.declared.sender.Sender.{Sender}
+use Rattle.telegram.specs.Sending.{sending}
+use Rattle.telegram.proofs.Run.{no-true}
+use Rattle.state.specs.declared.setup.Setup.{Setup}
+use Rattle.state.specs.declared.control.Control.{Control}
+use Rattle.state.specs.declared.state.Drawn.{Drawn}
+use Rattle.state.specs.declared.state.Drawn.the-variants as drawn
+use Rattle.state.specs.declared.state.Header.{Header}
+use Rattle.state.specs.declared.state.Incoming.{Incoming}
+use Rattle.state.specs.declared.state.Outputs.{Outputs}
+use Rattle.state.specs.declared.state.Reply.{Reply}
+use Rattle.state.specs.declared.state.State.{State}
+use Rattle.state.specs.Memory.{kept, Changes}
+use Rattle.state.specs.With.{withControl, withOutputs, withInputs, withIncoming, withReply, withEventWord, withTicks}
+use Rattle.state.proofs.Choice.{either, and-left, and-right}
+use Rattle.state.proofs.Written.{again, onto, then}
+use Rattle.rules.specs.declared.outcome.OutputsDeed.{OutputsDeed}
+use Rattle.rules.specs.declared.outcome.OutputsDeed.the-variants as outputs-deed
+use Rattle.rules.specs.declared.outcome.Outcome.{Outcome}
+use Rattle.rules.specs.declared.request.Request.{Request}
+use Rattle.rules.specs.declared.request.Service.{Service}
+use Rattle.rules.specs.declared.request.Service.the-variants.{Nothing, Status, Reject, GlobalControl, DataExchange, SetPrm, ChkCfg, SlaveDiag, GetCfg, ReadInputs, ReadOutputs}
+use Rattle.rules.specs.Control.{exchanging, owns, raise}
+use Rattle.rules.specs.Diagnosis.{headerOf}
+use Rattle.rules.specs.Phases.{drawing, enteringWaitPrm}
+use Rattle.rules.specs.Replies.{exchangeFc}
+use Rattle.rules.specs.Requests.{masterOf, acts, toStation, refilled, serviceOf}
+use Rattle.rules.specs.Services.{cfgFault, exchanges, goodExchange, dataExchange, serve}
+use Rattle.rules.proofs.Alike.{refilled-alike}
+use Rattle.rules.proofs.ByCases.{refilled-same}
+use Rattle.steps.specs.Stepped.{packedAfter}
+use Rattle.steps.specs.Outcome.{openSets, onOutputs, onInputs, onState, onMemory, carried}
+use Rattle.steps.specs.Reading.{dataIn, outcomeOf, answered}
+use Rattle.steps.specs.Replies.{replyFor}
+use Rattle.station.specs.Completing.{isDataExchange, accepts}
+
+-- ---- what comes of an accepted Data_Exchange
+
+-- no other service is it
+is-data-exchange : (x : Service) → isDataExchange x ≡ true → x ≡ DataExchange
+is-data-exchange Nothing e = no-true e
+is-data-exchange Status e = no-true e
+is-data-exchange Reject e = no-true e
+is-data-exchange GlobalControl e = no-true e
+is-data-exchange DataExchange e = refl
+is-data-exchange SetPrm e = no-true e
+is-data-exchange ChkCfg e = no-true e
+is-data-exchange SlaveDiag e = no-true e
+is-data-exchange GetCfg e = no-true e
+is-data-exchange ReadInputs e = no-true e
+is-data-exchange ReadOutputs e = no-true e
+
+module _ (g : Setup) (c : Control) (r : Request) where
+  -- the watchdog refilled, the same telegrams are from the owner in DATA_EXCH
+  refilled-exchanges : exchanges (refilled g c r) r ≡ exchanges c r
+  refilled-exchanges = λ j. eqb (refilled-same g c r .0 j) (masterOf r) && exchanging (refilled-alike g c r .phase-same j)
+
+  -- such a telegram with as many octets as there are outputs is good
+  exchange-good : exchanges c r ≡ true → eqb (r .count) (g .«output_len») ≡ true → dataExchange g c r ≡ goodExchange c
+  unfolding dataExchange
+  exchange-good e f = λ j. cond (not (e j)) (drawing c drawn.Rejected) (cond (not (f j)) (enteringWaitPrm (cfgFault c) drawn.Rejected) (goodExchange c))
+
+-- accepted is what is good
+accepted-good : (s : State) (m : List ℕ) (r : Request) → accepts s r ≡ true → outcomeOf s m r ≡ goodExchange (refilled (s .setup) (s .control) r)
+unfolding outcomeOf
+accepted-good s m r e =
+    let g = s .setup in
+    let c = s .control in
+    let asked = isDataExchange (serviceOf g r) in
+    let fits = eqb (r .count) (g .«output_len») in
+    let both = and-left (asked && exchanges c r) fits e in
+    let service = is-data-exchange (serviceOf g r) (and-left asked (exchanges c r) both) in
+    (λ j. serve (service j) g (refilled g c r) (openSets s) r (dataIn s m))
+    ∙ exchange-good g (refilled g c r) r (refilled-exchanges g c r ∙ and-right asked (exchanges c r) both) (and-right (asked && exchanges c r) fits e)
+
+-- of the control part only the events and the ticks that remain change
+only-ticks : (s : State) (r : Request)
+    → let k = refilled (s .setup) (s .control) r in
+    withTicks (withEventWord s (raised (k .events) outputsEvent)) (k .watchdog .remaining) .control ≡ raise k outputsEvent
+unfolding refilled
+only-ticks s r =
+    either (λ (k : Control). withTicks (withEventWord s (raised (k .events) outputsEvent)) (k .watchdog .remaining) .control ≡ raise k outputsEvent)
+    (acts (s .setup) r && toStation (s .setup) r && owns (s .control) (masterOf r)) refl refl
+
+-- ---- the reply
+
+-- a reply drawn by parts of a state: it is that of every state that has them
+abbrev Draws : Drawn → Setup → Control → ℕ → ℕ → Reply → Type 0
+Draws d setup c held master x =
+    (t : State) → t .setup ≡ setup → t .control ≡ c → heldOf (t .outputs .set .place) ≡ held → x ≡ replyFor d t master
+
+-- that to an accepted Data_Exchange, made of its parts
+pub exchange-drawn : (setup : Setup) (c : Control) (held master fc : ℕ) (sender : Sender) (header : Header) → fc ≡ exchangeFc c
+    → sender ≡ sending Sd2 master (setup .address) fc (setup .«input_len») → header ≡ headerOf c
+    → Draws drawn.Exchange setup c held master (record { drawn = drawn.Exchange; sender = sender; place = held; header = header })
+unfolding replyFor
+exchange-drawn setup c held master fc sender header ef es eh t e f g =
+    let sends : sender ≡ sending Sd2 master (t .setup .address) (exchangeFc (t .control)) (t .setup .«input_len») =
+    es ∙ (λ j. sending Sd2 master (sym e j .address) ((ef ∙ ap exchangeFc (sym f)) j) (sym e j .«input_len»))
+    in
+    λ j. record { drawn = drawn.Exchange; sender = sends j; place = sym g j; header = (eh ∙ ap headerOf (sym f)) j }
+
+-- it does not look at the events
+raised-draws : (s : State) (c : Control) (n master : ℕ)
+    → replyFor drawn.Exchange (withControl s c) master ≡ replyFor drawn.Exchange (withControl s (raise c n)) master
+unfolding replyFor headerOf
+raised-draws s c n master = refl
+
+-- ---- the memory
+
+-- zeros in a buffer do not depend on the telegram that is coming
+zeros-same : (d : OutputsDeed) (s : State) (i : Incoming) (m : List ℕ) → onMemory d s m ≡ onMemory d (withIncoming s i) m
+zeros-same outputs-deed.Keep s i m = refl
+zeros-same outputs-deed.Publish s i m = refl
+zeros-same outputs-deed.Zeros s i m = refl
+
+-- the parts as the code has them: the setup and the output set that it read, that set after the deed, the place of the held outputs, the master
+module _ (m : List ℕ) (s : State) (i : Incoming) (r : Request) (setup : Setup) (was outputs : Outputs) (held master : ℕ) (read : setup ≡ s .setup)
+    (read-outputs : was ≡ s .outputs) (holds : held ≡ heldOf (outputs .set .place)) (names : master ≡ masterOf r) where
+  -- the reply is that of a state with these outputs
+  drawn-for : (d : Drawn) (c : Control) (x : Reply) → Draws d setup c held master x → (t : State) → t .setup ≡ s .setup → t .control ≡ c
+      → outputs ≡ t .outputs → x ≡ replyFor d t (masterOf r)
+  drawn-for d c x draws t e f g = draws t (e ∙ sym read) f (sym (holds ∙ (λ j. heldOf (g j .set .place)))) ∙ ap (replyFor d t) names
+
+  -- an outcome carried out, the telegram read to its end, and the reply drawn
+  pub answered-over : (o : Outcome) (x : Reply) → outputs ≡ onOutputs (o .outputs) was → Draws (o .drawn) setup (o .control) held master x
+      → (n₁ n₂ n₃ : List ℕ) → n₁ ≡ packedAfter (carried s m o (r .count)) → Changes n₁ n₂ (λ t. withIncoming t i) → Changes n₂ n₃ (λ t. withReply t x)
+      → n₃ ≡ packedAfter (answered (withIncoming s i) m o r)
+  unfolding carried answered
+  answered-over o x done draws n₁ n₂ n₃ e p₂ p₃ =
+      let l : List ℕ = onMemory (o .outputs) s m in
+      let s₁ : State = onState s o (r .count) in
+      let s₂ : State = withIncoming s₁ i in
+      let e₂ : n₂ ≡ kept s₂ l = onto l n₁ n₂ s₁ s₂ e (p₂ s₁ (again l n₁ s₁ e)) in
+      let replies = drawn-for (o .drawn) (o .control) x draws s₂ refl refl (done ∙ ap (onOutputs (o .outputs)) read-outputs) in
+      onto l n₂ n₃ s₂ (withReply s₂ x) e₂ (p₃ s₂ (again l n₂ s₂ e₂))
+      ∙ (λ j. kept (withReply s₂ (replies j)) (zeros-same (o .outputs) s i m j))
+
+  -- an accepted Data_Exchange: the telegram, the events, the ticks that remain, both sets and the reply
+  pub accepted-over : m ≡ kept s m → accepts s r ≡ true → (c control : Control) (inputs brings : Triple) (events : Events) (x : Reply)
+      → c ≡ s .control → control ≡ refilled setup c r → outputs ≡ onOutputs outputs-deed.Publish was → inputs ≡ s .inputs
+      → brings ≡ onInputs outputs-deed.Publish inputs → events ≡ raised (control .events) outputsEvent → Draws drawn.Exchange setup control held master x
+      → (n₁ n₂ n₃ n₄ n₅ n₆ : List ℕ) → Changes m n₁ (λ t. withIncoming t i) → Changes n₁ n₂ (λ t. withEventWord t events)
+      → Changes n₂ n₃ (λ t. withTicks t (control .watchdog .remaining)) → Changes n₃ n₄ (λ t. withOutputs t outputs)
+      → Changes n₄ n₅ (λ t. withInputs t brings) → Changes n₅ n₆ (λ t. withReply t x)
+      → n₆ ≡ packedAfter (answered (withIncoming s i) m (outcomeOf s m r) r)
+  unfolding carried answered
+  accepted-over front good c control inputs brings events x ec er eo ei eb ev draws n₁ n₂ n₃ n₄ n₅ n₆ p₁ p₂ p₃ p₄ p₅ p₆ =
+      let k : Control = refilled (s .setup) (s .control) r in
+      let t : State = onState (withIncoming s i) (goodExchange k) (r .count) in
+      let refills : control ≡ k = er ∙ (λ j. refilled (read j) (ec j) r) in
+      let publishes : outputs ≡ t .outputs = eo ∙ ap (onOutputs outputs-deed.Publish) read-outputs in
+      let raises : events ≡ raised (k .events) outputsEvent = ev ∙ (λ j. raised (refills j .events) outputsEvent) in
+      let replies : x ≡ replyFor drawn.Exchange t (masterOf r) =
+      drawn-for drawn.Exchange control x draws (withControl t k) refl (sym refills) publishes ∙ raised-draws t k outputsEvent (masterOf r)
+      in
+      then m n₅ n₆ _ _ (then m n₄ n₅ _ _ (then m n₃ n₄ _ _ (then m n₂ n₃ _ _ (then m n₁ n₂ _ _ p₁ p₂) p₃) p₄) p₅) p₆ s front
+      ∙ (λ j.
+      kept
+      (record {
+        setup = s .setup;
+        control = withTicks (withEventWord s (raises j)) (refills j .watchdog .remaining) .control;
+        outputs = publishes j;
+        inputs = (eb ∙ ap (onInputs outputs-deed.Publish) ei) j;
+        parameters = s .parameters;
+        configuration = s .configuration;
+        swapped = s .swapped;
+        incoming = i;
+        reply = replies j;
+      })
+      m)
+      ∙ (λ j. kept (withReply (withControl t (only-ticks s r j)) (replyFor drawn.Exchange t (masterOf r))) m)
+      ∙ ap (λ (o : Outcome). packedAfter (answered (withIncoming s i) m o r)) (sym (accepted-good s m r good))

@@ -1,0 +1,40 @@
+-- `station::completing::is_accepted` meets its contract.
+use borrow.Author.Needs.{needs}
+use Rattle.station.proofs.completing.is_accepted.Statement.{statement}
+use Rattle.station.proofs.completing.is_accepted.Tie as tie
+
+setup-requires : tie.Need-setup-requires
+setup-requires c κs = search needs
+
+service-of-requires : tie.Need-service-of-requires
+service-of-requires c κs = search needs
+
+is-data-exchange-requires : tie.Need-is-data-exchange-requires
+is-data-exchange-requires c κs = search needs
+
+control-requires : tie.Need-control-requires
+control-requires c κs = search needs
+
+exchanges-requires : tie.Need-exchanges-requires
+exchanges-requires c κs = search needs
+
+returns : tie.Need-returns
+returns c =
+    rw (
+      c .before .before .exchanges .ensures,
+      c .before .before .before .control .ensures,
+      c .before .before .before .before .is-data-exchange .ensures,
+      c .before .before .before .before .before .service-of .ensures,
+      c .before .before .before .before .before .before .setup .ensures,
+    )
+
+pub is-accepted-spec : {M : Type 1} → statement M
+is-accepted-spec =
+    tie.close
+    (tie.spec
+    setup-requires
+    service-of-requires
+    is-data-exchange-requires
+    control-requires
+    exchanges-requires
+    returns)
