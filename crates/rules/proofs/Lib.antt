@@ -6,3 +6,4 @@ pub mod EventsFollow
 pub mod Owner
 pub mod LookedAt
 pub mod NoteStays
+pub mod GoodExchange

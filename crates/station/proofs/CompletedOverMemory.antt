@@ -1,7 +1,7 @@
 -- The last octet of a telegram over the memory, part by part: the memory then holds the state after it.
 use Prim.Native.Nat.{ℕ}
 use mathlib.Core.Path.{_≡_, refl, sym, ap, _∙_}
-use mathlib.Core.Bool.{true, cond, not, _&&_}
+use mathlib.Core.Bool.{true, _&&_}
 use mathlib.Core.List.{List}
 use lib.Dec.{eqb}
 use Rattle.buffers.specs.declared.events.Events.{Events}
@@ -31,14 +31,12 @@ use Rattle.rules.specs.declared.outcome.Outcome.{Outcome}
 use Rattle.rules.specs.declared.request.Request.{Request}
 use Rattle.rules.specs.declared.request.Service.{Service}
 use Rattle.rules.specs.declared.request.Service.the-variants.{Nothing, Status, Reject, GlobalControl, DataExchange, SetPrm, ChkCfg, SlaveDiag, GetCfg, ReadInputs, ReadOutputs}
-use Rattle.rules.specs.Control.{exchanging, owns, raise}
+use Rattle.rules.specs.Control.{owns, raise}
 use Rattle.rules.specs.Diagnosis.{headerOf}
-use Rattle.rules.specs.Phases.{drawing, enteringWaitPrm}
 use Rattle.rules.specs.Replies.{exchangeFc}
 use Rattle.rules.specs.Requests.{masterOf, acts, toStation, refilled, serviceOf}
-use Rattle.rules.specs.Services.{cfgFault, exchanges, goodExchange, dataExchange, serve}
-use Rattle.rules.proofs.Alike.{refilled-alike}
-use Rattle.rules.proofs.ByCases.{refilled-same}
+use Rattle.rules.specs.Services.{exchanges, goodExchange, serve}
+use Rattle.rules.proofs.GoodExchange.{refilled-exchanges, exchange-good}
 use Rattle.steps.specs.Stepped.{packedAfter}
 use Rattle.steps.specs.Outcome.{openSets, onOutputs, onInputs, onState, onMemory, carried}
 use Rattle.steps.specs.Reading.{dataIn, outcomeOf, answered}
@@ -60,16 +58,6 @@ is-data-exchange SlaveDiag e = no-true e
 is-data-exchange GetCfg e = no-true e
 is-data-exchange ReadInputs e = no-true e
 is-data-exchange ReadOutputs e = no-true e
-
-module _ (g : Setup) (c : Control) (r : Request) where
-  -- the watchdog refilled, the same telegrams are from the owner in DATA_EXCH
-  refilled-exchanges : exchanges (refilled g c r) r ≡ exchanges c r
-  refilled-exchanges = λ j. eqb (refilled-same g c r .0 j) (masterOf r) && exchanging (refilled-alike g c r .phase-same j)
-
-  -- such a telegram with as many octets as there are outputs is good
-  exchange-good : exchanges c r ≡ true → eqb (r .count) (g .«output_len») ≡ true → dataExchange g c r ≡ goodExchange c
-  unfolding dataExchange
-  exchange-good e f = λ j. cond (not (e j)) (drawing c drawn.Rejected) (cond (not (f j)) (enteringWaitPrm (cfgFault c) drawn.Rejected) (goodExchange c))
 
 -- accepted is what is good
 accepted-good : (s : State) (m : List ℕ) (r : Request) → accepts s r ≡ true → outcomeOf s m r ≡ goodExchange (refilled (s .setup) (s .control) r)

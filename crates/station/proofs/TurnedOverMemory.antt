@@ -1,13 +1,12 @@
--- Octets that begin, end or break off a telegram, over the memory: where nothing waits for that, nothing new waits afterwards, and settling
--- changes nothing.
+-- Octets that begin, end or break off a telegram, over the memory, where nothing waits for that.
 use Prim.Native.Nat.{ℕ}
 use mathlib.Core.Path.{_≡_, refl, sym, ap, _∙_}
-use mathlib.Core.Bool.{Bool, true, false, cond, not, _&&_, _||_}
+use mathlib.Core.Bool.{Bool, true, false, not, _&&_, _||_}
 use mathlib.Core.List.{List}
 use Rattle.telegram.specs.declared.reader.Reader.{Reader}
 use Rattle.telegram.specs.declared.reader.Status.{Status}
 use Rattle.telegram.specs.declared.reader.Status.the-variants.{Fresh, Inside, Complete, Broken}
-use Rattle.telegram.specs.Reading.{off, status, takesData, datumOf}
+use Rattle.telegram.specs.Reading.{off, status, takesData}
 use Rattle.state.specs.declared.state.Incoming.{Incoming}
 use Rattle.state.specs.declared.state.State.{State}
 use Rattle.state.specs.Memory.{kept, Holds, Changes}
@@ -16,38 +15,13 @@ use Rattle.state.specs.Unpack.{unpacked}
 use Rattle.state.specs.With.{withIncoming, withReply}
 use Rattle.state.proofs.Choice.{or-left, or-right}
 use Rattle.state.proofs.Damage.{fronted-same}
-use Rattle.rules.specs.declared.request.Request.{Request}
-use Rattle.rules.specs.Diagnosis.{isDelayed, delayed}
+use Rattle.rules.specs.Diagnosis.{delayed}
 use Rattle.steps.specs.Stepped.{packedAfter}
 use Rattle.steps.specs.Line.{isInside, begun}
-use Rattle.steps.specs.Outcome.{openSets, carried, settle}
-use Rattle.steps.specs.Reading.{storedAs, readOn, readBy, requestBy, dataIn, outcomeOf, answered, completed, settleAfter, beginning, heardAs}
+use Rattle.steps.specs.Reading.{readOn, readBy, requestBy, outcomeOf, answered, heardAs}
 use Rattle.steps.proofs.NothingWaits.{idle}
-use Rattle.steps.proofs.OutcomeServed.{outcome-served}
+use Rattle.steps.proofs.NothingNewWaits.{completed-idle, beginning-idle}
 use Rattle.station.specs.Hearing.{isPlain, Turns}
-use Rattle.rules.proofs.NoteStays.{note-stays}
-
--- ---- nothing new waits
-
--- nothing waits: no diagnosis is delayed and no clear is noted
-module _ (s : State) (m : List ℕ) (quiet : delayed (s .control) || s .control .noted ≡ false) where
-  -- nor after a telegram
-  outcome-quiet : (r : Request) → delayed (outcomeOf s m r .control) || outcomeOf s m r .control .noted ≡ false
-  unfolding outcomeOf
-  outcome-quiet r =
-      (λ j. isDelayed (outcome-served s m r .lawful .counts-stay j) || note-stays (s .setup) (s .control) (openSets s) r (dataIn s m) j)
-      ∙ quiet
-
-  -- so after it settling changes nothing
-  completed-idle : (next : Reader) → settleAfter (completed s m next) ≡ answered (readBy s next) m (outcomeOf s m (requestBy next)) (requestBy next)
-  unfolding outcomeOf answered carried
-  completed-idle next = idle (completed s m next .state) (completed s m next .memory) (outcome-quiet (requestBy next))
-
-  -- nor at a beginning
-  beginning-idle : (next : Reader) (b : ℕ) → begun s ≡ false → heardAs Inside s m next b ≡ record { state = beginning s next; memory = m }
-  beginning-idle next b e =
-      ap (λ (t : Bool). cond t (storedAs (datumOf (s .incoming .reader)) s m next b) (settle (beginning s next) m)) e
-      ∙ idle (beginning s next) m quiet
 
 -- ---- what the code leaves
 

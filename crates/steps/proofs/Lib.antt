@@ -4,6 +4,7 @@ pub mod NothingWaits
 pub mod Holding
 pub mod Guarded
 pub mod OutcomeServed
+pub mod NothingNewWaits
 pub mod SetsCounted
 pub mod SoundWith
 pub mod KeepsSound
