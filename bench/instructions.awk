@@ -83,6 +83,8 @@ END {
     cycles = calls["dp_tick", "tick_in_exchange"]
     row("a whole cycle", "all of these", cycles, mean(cost_of_all, cycles), "-")
     print "  beside the workload:"
+    place_row("dp_octet", "last_octet_to_another", "last, to another station")
+    place_row("dp_octet", "last_octet_of_slave_diag", "last, Slave_Diag")
     place_row("dp_start", "station_starts", "")
     place_row("dp_judge_parameters", "vat_judges", "good")
     place_row("dp_judge_configuration", "vat_judges", "good")
