@@ -1,4 +1,5 @@
-// States with every field at an extreme value go through save and load; a memory with one octet changed is damaged or not.
+// States with every field at an extreme value go through save and load; a memory with one octet changed, or with other lengths and less
+// room, is damaged or not.
 use buffers::events::Events;
 use buffers::triple::Triple;
 use libc::STDOUT_FILENO;

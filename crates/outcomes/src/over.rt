@@ -1,4 +1,4 @@
-// An outcome of the rules carried out over the memory that holds the state: what the rules keep is neither read nor written.
+// An outcome of the rules carried out over the memory that holds the state: a set that the rules keep is not written.
 use crate::carry::on_inputs;
 use crate::carry::on_outputs;
 use crate::carry::on_sets;

@@ -1,4 +1,4 @@
--- Short lengths: what the damage check looks at first. No promise above it mentions them.
+-- Short lengths: what the damage check looks at before it goes through the lengths one by one. No promise above it mentions them.
 use Prim.Native.Nat.{ℕ}
 use mathlib.Core.Bool.{Bool}
 use mathlib.Core.List.{List, [], _∷_}

@@ -1,6 +1,6 @@
 // Whether the octets of the state part are the image of a sound state. What is nearly always so is tested by words: short lengths, and
-// no set open and no diagnosis delayed. Each test that fails ends the check. The tests of single octets come before those by words:
-// of a word that is loaded already the compiler would take the octets by shifts, in the usual case too.
+// no set open and no diagnosis delayed. Each test that fails ends the check. The single octets of a word are tested before the word
+// where that can be: of a word that is loaded already the compiler would take the octets by shifts, in the usual case too.
 use ranges::checks;
 ghost use mathlib.Core.Path.{_≡_};
 ghost use Prim.Native.Nat.{_≤_};

@@ -26,7 +26,7 @@ use Rattle.station.specs.Hearing.{isPlain, Turns}
 -- ---- what the code leaves
 
 -- i: the telegram that was coming, next: the reader after the octet
-module _ (m : List ℕ) (i : Incoming) (y : Status) (next : Reader) (turns : Turns m i y next) (b : ℕ) where
+module _ (m : List ℕ) (i : Incoming) (y : Status) (next : Reader) (turns : Turns m i y) (b : ℕ) where
   abbrev s : State
   s = unpacked m
 
@@ -74,7 +74,7 @@ not-begun false inner takes e f g = refl
 -- by the tests as the code makes them: neither plain nor data, and nothing waits
 pub turning : (m : List ℕ) (i : Incoming) (y : Status) (next : Reader) → Holds m (unpacked m) → i ≡ unpacked m .incoming → (plain waits takes : Bool)
     → plain ≡ isPlain (i .reader) next → plain ≡ false → waits ≡ (delayed (unpacked m .control) || unpacked m .control .noted)
-    → takes ≡ takesData (i .reader) → waits || takes ≡ false → y ≡ status next → Turns m i y next
+    → takes ≡ takesData (i .reader) → waits || takes ≡ false → y ≡ status next → Turns m i y
 turning m i y next h same plain waits takes ep e ew et f ey = record {
   holds = h;
   was = same;

@@ -18,8 +18,8 @@ abbrev pub isPlain : Reader → Reader → Bool
 isPlain r next = isInside (status r) && isInside (status next) && not (takesData r)
 
 -- the octet begins, ends or breaks off a telegram, and nothing waits for that: what the short way of such an octet asks of the memory,
--- of the telegram that was coming, of what the octets are with it and of the reader after it
-pub record Turns (m : List ℕ) (old : Incoming) (x : Status) (next : Reader) : Type 0 where
+-- of the telegram that was coming and of what the octets are with it
+pub record Turns (m : List ℕ) (old : Incoming) (x : Status) : Type 0 where
   pub holds : Holds m (unpacked m)
   pub was : old ≡ unpacked m .incoming
   pub quiet : delayed (unpacked m .control) || unpacked m .control .noted ≡ false

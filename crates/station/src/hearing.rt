@@ -1,4 +1,4 @@
-// The bus's octet over the memory that holds the state: an inner octet reads and writes only the part of the state that it needs.
+// The bus's octet over the memory that holds the state: nearly every octet reads and writes only the parts of the state that it needs.
 // Every step leaves the memory as the step on the unpacked state (`reading`) would leave it, packed again.
 use crate::completing::complete;
 use crate::reading::hear_as;
@@ -96,7 +96,7 @@ fn begin(mem: &mut [u8], i: Incoming)
 
 // Octets that begin, end or break off a telegram, where nothing waits for that; next: the reader after the octet.
 fn turn(status: Status, mem: &mut [u8], old: Incoming, next: Reader)
-    requires { ⌜ Turns (now mem) old status next ⌝ }
+    requires { ⌜ Turns (now mem) old status ⌝ }
     ensures { λ _. ⌜ ((b : ℕ) → now (mem .exit) ≡ packedAfter (heardAs status (unpacked (now (mem .entry))) (now (mem .entry)) next b)) ⌝ }
 {
     match status {
@@ -107,8 +107,8 @@ fn turn(status: Status, mem: &mut [u8], old: Incoming, next: Reader)
     }
 }
 
-// Any other octet: one that is ignored changes nothing, an inner one only the reader. Nearly always nothing waits for the others; else
-// the whole state is unpacked.
+// Any other octet: one that is ignored changes nothing, an inner one only the reader. Nearly always nothing waits for the others; else,
+// and at a data octet that is flagged bad, the whole state is unpacked.
 fn hear_other(mem: &mut [u8], b: u8, bad: bool)
     requires { ⌜ Holds (now mem) (unpacked (now mem)) ⌝ }
     ensures { λ _. ⌜ now (mem .exit) ≡ packedAfter (heard (unpacked (now (mem .entry))) (now (mem .entry)) b bad) ⌝ }

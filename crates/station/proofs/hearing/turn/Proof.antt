@@ -38,7 +38,7 @@ save-incoming-requires : tie.Need-save-incoming-requires
 save-incoming-requires c κs = search needs
 
 returns : tie.Need-returns
-returns c = λ b. rw (c .enum-told .given .1) (leaves-fresh _ _ _ _ (c .before .before .before .pre) b)
+returns c = λ b. rw (c .enum-told .given .1) (leaves-fresh _ _ _ (c .before .before .before .args .next) (c .before .before .before .pre) b)
 
 same-length : tie.Need-same-length
 same-length c = search needs
@@ -63,7 +63,7 @@ same-length-3 c = search needs
 returns-4 : tie.Need-returns-4
 returns-4 c =
     λ b. rw (c .before .before .before .before .before .before .enum-told4 .given .1)
-    (leaves-broken _ _ _ _ (c .before .before .before .before .before .before .before .before .before .pre) b _ _ _ (c .before .before .before .before .before .off .ensures) (c .before .before .before .before .read-on3 .ensures) (c .before .before .save-incoming .ensures))
+    (leaves-broken _ _ _ (c .before .before .before .before .before .before .before .before .before .args .next) (c .before .before .before .before .before .before .before .before .before .pre) b _ _ _ (c .before .before .before .before .before .off .ensures) (c .before .before .before .before .read-on3 .ensures) (c .before .before .save-incoming .ensures))
 
 pub turn-spec : {M : Type 1} → statement M
 turn-spec =
