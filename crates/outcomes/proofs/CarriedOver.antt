@@ -1,9 +1,9 @@
 -- An outcome carried out over the memory, part by part: the memory then holds the state after it.
-use Prim.Native.Nat.{ℕ, _≤_}
+use Prim.Native.Nat.{ℕ}
 use native.Mathlib.Omega.{arith}
 use mathlib.Core.Path.{_≡_, refl, sym, ap, _∙_}
 use mathlib.Core.List.{List}
-use lib.ListN.{length, take}
+use lib.ListN.{take}
 use Rattle.buffers.specs.declared.triple.Triple.{Triple}
 use Rattle.buffers.specs.Triple.{nextOf}
 use Rattle.octets.proofs.Parts.{pasted-take}

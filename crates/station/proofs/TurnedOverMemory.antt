@@ -17,7 +17,7 @@ use Rattle.state.proofs.Choice.{or-left, or-right}
 use Rattle.state.proofs.Damage.{fronted-same}
 use Rattle.rules.specs.Diagnosis.{delayed}
 use Rattle.steps.specs.Stepped.{packedAfter}
-use Rattle.steps.specs.Line.{isInside, begun}
+use Rattle.steps.specs.Line.{isInside}
 use Rattle.steps.specs.Reading.{readOn, readBy, requestBy, outcomeOf, answered, heardAs}
 use Rattle.steps.proofs.NothingWaits.{idle}
 use Rattle.steps.proofs.NothingNewWaits.{completed-idle, beginning-idle}
