@@ -1,18 +1,21 @@
-# The C side: the example firmware and the benchmark. All that is made lies below target/.
+# The C side: the example firmware, the library for other processors and the benchmark. All that is made lies below target/.
 #   make run      the library if need be, the example, and its run
-#   make check    the example's output against examples/card.expected, the header in C99 and in C++17
+#   make check    the example's output against examples/card.expected, the header in C99 and in C++17, lists of calls
 #   make bench    instructions for each call and on the lent state (needs valgrind), and octets per second
-#   make clean    removes what this file made; the libraries stay
+#   make cross    the library for the processors of cards, built and tried (see cross/cross.mk)
+#   make install  header, library, the libraries that make cross built, and a pkg-config file, below PREFIX
+#   make clean    removes what this file made; the libraries of x86-64 stay
 # LIB=path takes another library than the repository's. LENT=path takes another one for the bench loop on the lent state;
 # with LENT= its column stays empty.
 
-LIB ?= target/staticlib/libcard.a
+CARD_LIB := target/staticlib/libcard.a
+LIB ?= $(CARD_LIB)
 LENT ?= target/staticlib/liblent.a
 OUT := target/c
 
 CC := gcc
 CXX := g++
-WARNINGS := -Wall -Wextra -Werror -pedantic
+WARNINGS := -Wall -Wextra -Werror -pedantic -Wl,--fatal-warnings
 CFLAGS := -std=c99 -O2 $(WARNINGS)
 CXXFLAGS := -x c++ -std=c++17 -O2 $(WARNINGS)
 CPPFLAGS := -Iinclude -Iexamples
@@ -21,18 +24,22 @@ CPPFLAGS := -Iinclude -Iexamples
 COUNTED_CYCLES := 200
 
 HEADERS := include/dp.h examples/refusals.h examples/card.h
+FIRMWARE := examples/card.c examples/master.c $(HEADERS)
 WORKLOAD := bench/workload.c bench/workload.h $(HEADERS)
 
 # The programs whose instructions are counted.
 COUNTED := bench $(if $(LENT),lent)
 
-.PHONY: run check check-example check-header check-prototypes bench clean FORCE
+.PHONY: run check check-example check-header check-prototypes check-lists bench bench-native install clean FORCE
 
 # Two runs of rt at once would write to the same files.
 .NOTPARALLEL:
 
 run: $(OUT)/card
 	$(OUT)/card
+
+LISTS ?= tests/vectors
+include cross/cross.mk
 
 # A library is proved again when something under crates/ is newer than it; that takes minutes.
 target/staticlib/lib%.a: crates.txt $(shell find crates -type f \( -name '*.rt' -o -name '*.antt' \))
@@ -45,7 +52,7 @@ $(OUT):
 $(OUT)/library: FORCE | $(OUT)
 	@echo '$(LIB) $(LENT)' | cmp -s - $@ || echo '$(LIB) $(LENT)' >$@
 
-$(OUT)/card: examples/card.c examples/master.c $(HEADERS) $(LIB) $(OUT)/library | $(OUT)
+$(OUT)/card: $(FIRMWARE) $(LIB) $(OUT)/library | $(OUT)
 	$(CC) $(CPPFLAGS) $(CFLAGS) examples/card.c examples/master.c $(LIB) -o $@
 
 $(OUT)/header-c99: examples/header.c $(HEADERS) $(LIB) $(OUT)/library | $(OUT)
@@ -61,7 +68,10 @@ $(OUT)/bench: bench/bench.c $(WORKLOAD) $(LIB) $(OUT)/library | $(OUT)
 $(OUT)/lent: bench/lent.c bench/lent.h $(WORKLOAD) $(LIB) $(LENT) $(OUT)/library | $(OUT)
 	$(CC) $(CPPFLAGS) $(CFLAGS) $< bench/workload.c $(LENT) $(LIB) -Wl,-z,now -o $@
 
-check: check-example check-header check-prototypes
+$(OUT)/lists: cross/lists.c $(HEADERS) $(LIB) $(OUT)/library | $(OUT)
+	$(CC) $(CPPFLAGS) $(CFLAGS) $< $(LIB) -o $@
+
+check: check-example check-header check-prototypes check-lists
 	@echo "check: all as expected"
 
 check-example: $(OUT)/card
@@ -78,7 +88,13 @@ check-prototypes: | $(OUT)
 	awk -f examples/prototypes.awk include/dp.h bench/lent.h >$(OUT)/declared
 	diff $(OUT)/exported $(OUT)/declared
 
-bench: $(COUNTED:%=$(OUT)/%)
+check-lists: $(OUT)/lists
+	ls $(LISTS)/*.in >$(OUT)/names
+	$(OUT)/lists $(OUT)/names
+
+bench: $(if $(CARD),$(CARDS:%=bench-%),bench-native)
+
+bench-native: $(COUNTED:%=$(OUT)/%)
 	@if command -v valgrind >/dev/null; then \
 	    for program in $(COUNTED); do \
 	        valgrind --tool=callgrind --callgrind-out-file=$(OUT)/$$program.callgrind \
@@ -93,4 +109,4 @@ bench: $(COUNTED:%=$(OUT)/%)
 	@$(OUT)/bench
 
 clean:
-	rm -rf $(OUT)
+	rm -rf $(OUT) $(X)

@@ -1,9 +1,10 @@
 # From valgrind's callgrind files, that of bench.c and then, where the column is wanted, that of lent.c: for each
 # exported call and the place that it came from, how often it was called and how many instructions it took on average,
-# the functions below it included; beside it how many the same octet or Tick takes on the lent state.
+# the functions below it included; beside it how many the same octet or Tick takes on the lent state. A file of
+# cross/trace.awk may have the least and the most cycles instead, which then stand there.
 #
 # In a file a function has a number and, where it is first named, its name; a call is three lines: cfn= (which),
-# calls= (how often), and then where and the instructions.
+# calls= (how often), and then where, the instructions, and the cycles if there are.
 
 function name_of(text,    number) {
     number = text
@@ -29,22 +30,37 @@ function on_lent_state(call, without, with,    a, b) {
     return mean(cost["lent_exchange", b] - cost["lent_exchange", a], calls[call, b] - calls[call, a])
 }
 
-function row(call, text, calls, instructions, lent) {
-    if (calls > 0) printf "  %-24s %-30s %8d %14s %14s\n", call, text, calls, instructions, lent
+function cycles(least, most, calls) {
+    return sprintf("%.0f to %.0f", least / calls, most / calls)
 }
 
-# without, with: the places in lent.c of two runs; none for a call that has no form on the lent state.
+function row(call, text, calls, instructions, beside) {
+    if (calls > 0) printf "  %-24s %-30s %8d %14s %14s\n", call, text, calls, instructions, beside
+}
+
+# A row for the calls of a key, a call and a place; without, with: the places in lent.c of two runs, none for a call that
+# has no form on the lent state.
+function key_row(call, key, text, without, with) {
+    if (calls[key] > 0)
+        row(call, text, calls[key], mean(cost[key], calls[key]), \
+            has_cycles ? cycles(least[key], most[key], calls[key]) : on_lent_state(call, without, with))
+}
+
+function add(key, to) {
+    calls[to] += calls[key]
+    cost[to] += cost[key]
+    least[to] += least[key]
+    most[to] += most[key]
+}
+
 function place_row(call, place, text, without, with) {
-    row(call, text, calls[call, place], mean(cost[call, place], calls[call, place]), \
-        on_lent_state(call, without, with))
-    calls_of[call] += calls[call, place]
-    cost_of[call] += cost[call, place]
-    cost_of_all += cost[call, place]
+    key_row(call, call SUBSEP place, text, without, with)
+    add(call SUBSEP place, call SUBSEP "all")
+    add(call SUBSEP place, "all")
 }
 
 function all_row(call, without, with) {
-    row(call, "all of the workload", calls_of[call], mean(cost_of[call], calls_of[call]), \
-        on_lent_state(call, without, with))
+    key_row(call, call SUBSEP "all", "all of the workload", without, with)
 }
 
 # The numbers begin anew in each file, and lent.c goes through the places of the workload too.
@@ -52,6 +68,7 @@ FNR == 1 {
     split("", names)
     program = NR == 1 ? "" : "lent "
 }
+/^events:/ { has_cycles = /least most/ }
 /^fn=/ { place = program name_of(substr($0, 4)) }
 /^cfn=/ { call = name_of(substr($0, 5)) }
 /^calls=/ {
@@ -59,10 +76,13 @@ FNR == 1 {
     getline
     calls[call, place] += word[1]
     cost[call, place] += $2
+    least[call, place] += $3
+    most[call, place] += $4
 }
 
 END {
-    printf "  %-24s %-30s %8s %14s %14s\n", "call", "where", "calls", "instructions", "lent state"
+    printf "  %-24s %-30s %8s %14s %14s\n", "call", "where", "calls", "instructions", \
+        has_cycles ? "cycles" : "lent state"
     # Every run has its two gaps: no difference shows one.
     place_row("dp_gap", "gap_before_telegram", "before a telegram")
     place_row("dp_octet", "first_octet", "first octet", "no_octets", "up_to_first_octet")
@@ -80,8 +100,8 @@ END {
     place_row("dp_read", "vat_reads", "outputs")
     place_row("dp_write", "vat_writes", "inputs")
     place_row("dp_hand_over_inputs", "vat_hands_over", "")
-    cycles = calls["dp_tick", "tick_in_exchange"]
-    row("a whole cycle", "all of these", cycles, mean(cost_of_all, cycles), "-")
+    calls["all"] = calls["dp_tick", "tick_in_exchange"]
+    key_row("a whole cycle", "all", "all of these")
     print "  beside the workload:"
     place_row("dp_octet", "last_octet_to_another", "last, to another station")
     place_row("dp_octet", "last_octet_of_slave_diag", "last, Slave_Diag")

@@ -9,6 +9,8 @@
 #include "lent.h"
 #include "workload.h"
 
+#include <inttypes.h>
+
 /* After each of the two telegrams; far fewer than the watchdog has. */
 enum { TICKS = 32 };
 

@@ -2,7 +2,6 @@
 #ifndef LENT_H
 #define LENT_H
 
-#include <stddef.h>
 #include <stdint.h>
 
 /*
@@ -10,7 +9,7 @@
  * It leaves the memory that the exported calls for the same gaps, octets and Ticks leave. 1, or 0 if the memory holds
  * no state. Pointers must be valid for their length and not null; the telegrams must not lie in the memory.
  */
-int64_t lent_exchange(uint8_t *memory, size_t memory_len, const uint8_t *first, size_t first_len, const uint8_t *second,
-                      size_t second_len, uint32_t count);
+int64_t lent_exchange(uint8_t *memory, uint64_t memory_len, const uint8_t *first, uint64_t first_len,
+                      const uint8_t *second, uint64_t second_len, uint32_t count);
 
 #endif

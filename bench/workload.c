@@ -15,7 +15,7 @@ void expect(const char *what, int64_t found, int64_t expected)
 {
     if (found == expected)
         return;
-    fprintf(stderr, "%s is %" PRId64 " and not %" PRId64 "\n", what, found, expected);
+    fprintf(stderr, "%s is %lld and not %lld\n", what, (long long)found, (long long)expected);
     exit(EXIT_FAILURE);
 }
 

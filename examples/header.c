@@ -6,14 +6,14 @@
 #include "dp.h" /* a second time: the guard holds */
 #include "refusals.h"
 
-typedef int64_t (*on_memory)(uint8_t *, size_t);
-typedef int64_t (*on_number)(uint8_t *, size_t, uint32_t);
-typedef int64_t (*on_two_numbers)(uint8_t *, size_t, uint32_t, uint32_t);
-typedef int64_t (*on_octet)(uint8_t *, size_t, uint8_t, uint8_t);
-typedef int64_t (*on_mask)(uint8_t *, size_t, uint16_t);
-typedef int64_t (*on_write)(uint8_t *, size_t, uint32_t, uint32_t, uint8_t);
-typedef int64_t (*on_start)(uint8_t *, size_t, uint32_t, uint16_t, uint32_t, uint32_t, uint32_t, uint32_t, uint32_t,
-                            const uint8_t *, size_t);
+typedef int64_t (*on_memory)(uint8_t *, uint64_t);
+typedef int64_t (*on_number)(uint8_t *, uint64_t, uint32_t);
+typedef int64_t (*on_two_numbers)(uint8_t *, uint64_t, uint32_t, uint32_t);
+typedef int64_t (*on_octet)(uint8_t *, uint64_t, uint8_t, uint8_t);
+typedef int64_t (*on_mask)(uint8_t *, uint64_t, uint16_t);
+typedef int64_t (*on_write)(uint8_t *, uint64_t, uint32_t, uint32_t, uint8_t);
+typedef int64_t (*on_start)(uint8_t *, uint64_t, uint32_t, uint16_t, uint32_t, uint32_t, uint32_t, uint32_t, uint32_t,
+                            const uint8_t *, uint64_t);
 
 static const on_start start = dp_start;
 static const on_octet octet = dp_octet;
@@ -31,7 +31,7 @@ static void expect(const char *what, int64_t answer, int64_t expected)
 {
     if (answer == expected)
         return;
-    fprintf(stderr, "%s answered %" PRId64 " and not %" PRId64 "\n", what, answer, expected);
+    fprintf(stderr, "%s answered %lld and not %lld\n", what, (long long)answer, (long long)expected);
     exit(EXIT_FAILURE);
 }
 

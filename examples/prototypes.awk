@@ -10,8 +10,8 @@ function c_type(type) {
 function c_argument(argument,    word) {
     if (argument !~ /:/) return argument
     split(argument, word, ": ")
-    if (word[2] == "&mut [u8]") return "uint8_t *" word[1] ", size_t " word[1] "_len"
-    if (word[2] == "&[u8]") return "const uint8_t *" word[1] ", size_t " word[1] "_len"
+    if (word[2] == "&mut [u8]") return "uint8_t *" word[1] ", uint64_t " word[1] "_len"
+    if (word[2] == "&[u8]") return "const uint8_t *" word[1] ", uint64_t " word[1] "_len"
     return c_type(word[2]) " " word[1]
 }
 

@@ -4,7 +4,6 @@
 
 #include "dp.h"
 
-#include <inttypes.h>
 #include <stdio.h>
 #include <stdlib.h>
 #include <string.h>
@@ -39,7 +38,7 @@ static inline const char *refusal_in_words(int64_t answer)
 static inline void stop_refused(const char *call, int64_t answer)
 {
     fflush(stdout);
-    fprintf(stderr, "%.*s was refused by %" PRId64 ": %s\n", (int)strcspn(call, "("), call, -answer,
+    fprintf(stderr, "%.*s was refused by %d: %s\n", (int)strcspn(call, "("), call, (int)-answer,
             refusal_in_words(answer));
     exit(EXIT_FAILURE);
 }

@@ -1,10 +1,15 @@
 /*
- * The DP slave station as firmware in C calls it. The library is target/staticlib/libcard.a.
+ * The DP slave station as firmware in C calls it. The library is target/staticlib/libcard.a for x86-64, and
+ * target/cross/NAME/libcard.a for the processor NAME once `make cross` has built and tried it.
  *
  * Memory. Every call gets the one memory that the station lives in, as pointer and length: DP_MEMORY_MIN to
  * DP_MEMORY_MAX octets, a multiple of DP_MEMORY_STEP, of any alignment. The station keeps nothing anywhere else: no
  * heap, no static data that changes. Two memories are two stations. Pointers must be valid for their length and not
  * null; the slice for Get_Cfg must not lie in the memory. Nobody but these calls may write to the memory.
+ *
+ * Lengths. They have 64 bits on every processor, since that is how wide the library takes them. Where size_t has 32, a
+ * prototype with size_t would link without a word and every call would get a wrong length; so no length here is a
+ * size_t. What sizeof gives is widened by the prototype.
  *
  * Keeping calls apart. Each call must get the memory as the last one left it. A call reads the state out of the
  * memory, goes one step and writes it back, and takes no lock of its own. So two calls on the same memory must never
@@ -21,7 +26,6 @@
 #ifndef DP_H
 #define DP_H
 
-#include <stddef.h>
 #include <stdint.h>
 
 #ifdef __cplusplus
@@ -98,42 +102,42 @@ enum dp_judgement { DP_BAD = 0, DP_GOOD = 1 };
  * where all six lengths are at most 96; DP_MEMORY_MAX always is.
  * Answers 0. Refused by 1, 2, 3, 4.
  */
-int64_t dp_start(uint8_t *memory, size_t memory_len, uint32_t address, uint16_t ident, uint32_t output_len,
+int64_t dp_start(uint8_t *memory, uint64_t memory_len, uint32_t address, uint16_t ident, uint32_t output_len,
                  uint32_t input_len, uint32_t parameter_len, uint32_t configuration_len, uint32_t diagnosis_len,
-                 const uint8_t *get_cfg, size_t get_cfg_len);
+                 const uint8_t *get_cfg, uint64_t get_cfg_len);
 
 /*
  * An octet came from the line. bad: 0 if it was well received, anything else if the receiver flags it (parity,
  * framing, overrun, or an octet lost before it). The octet that completes a telegram also draws the reply.
  * Answers 0. Refused by 5.
  */
-int64_t dp_octet(uint8_t *memory, size_t memory_len, uint8_t octet, uint8_t bad);
+int64_t dp_octet(uint8_t *memory, uint64_t memory_len, uint8_t octet, uint8_t bad);
 
 /*
  * A gap on the line: it was quiet for so long that the next octet may begin a telegram. Each telegram needs one
  * before it. A reply that is being sent is not touched.
  * Answers 0. Refused by 5.
  */
-int64_t dp_gap(uint8_t *memory, size_t memory_len);
+int64_t dp_gap(uint8_t *memory, uint64_t memory_len);
 
 /*
  * The next octet of the reply, for the transmitter.
  * Answers the octet, 0 to 255, or DP_NO_OCTET when none is left. Refused by 5.
  */
-int64_t dp_send(uint8_t *memory, size_t memory_len);
+int64_t dp_send(uint8_t *memory, uint64_t memory_len);
 
 /*
  * A tick, every 10 ms: the watchdog counts down.
  * Answers 0. Refused by 5.
  */
-int64_t dp_tick(uint8_t *memory, size_t memory_len);
+int64_t dp_tick(uint8_t *memory, uint64_t memory_len);
 
 /*
  * Take outputs: the newest whole outputs are now the ones to be read, until the next take.
  * Answers 0 nothing new, and the same outputs stay; 1 new; 2 new, and they are zeros that the station published
  * itself. Refused by 5.
  */
-int64_t dp_take_outputs(uint8_t *memory, size_t memory_len);
+int64_t dp_take_outputs(uint8_t *memory, uint64_t memory_len);
 
 /*
  * Reads the octet at an index of a kind (enum dp_kind). The index is from 0 on, for diagnosis from 6 on, and below the
@@ -142,20 +146,20 @@ int64_t dp_take_outputs(uint8_t *memory, size_t memory_len);
  * Answers the octet, 0 to 255. Refused by 5; 7 kind or index; 8 no set is shown, it has fewer octets, or kind 5 while
  * a new diagnosis is delayed.
  */
-int64_t dp_read(uint8_t *memory, size_t memory_len, uint32_t kind, uint32_t index);
+int64_t dp_read(uint8_t *memory, uint64_t memory_len, uint32_t kind, uint32_t index);
 
 /*
  * Writes an octet of the inputs or of the vat program's diagnosis buffer. After dp_hand_over_inputs or
  * dp_new_diagnosis another buffer stands there, with what was in it at an earlier turn: write all octets each time.
  * Answers 0. Refused by 5; 7 kind or index; 8 kind 5 while a new diagnosis is delayed.
  */
-int64_t dp_write(uint8_t *memory, size_t memory_len, uint32_t kind, uint32_t index, uint8_t octet);
+int64_t dp_write(uint8_t *memory, uint64_t memory_len, uint32_t kind, uint32_t index, uint8_t octet);
 
 /*
  * Hand over inputs: all that was written goes out together, with the next Data_Exchange.
  * Answers 0. Refused by 5.
  */
-int64_t dp_hand_over_inputs(uint8_t *memory, size_t memory_len);
+int64_t dp_hand_over_inputs(uint8_t *memory, uint64_t memory_len);
 
 /*
  * New diagnosis: the vat program's buffer becomes the station's. count: of all octets, the six of the station at the
@@ -164,7 +168,7 @@ int64_t dp_hand_over_inputs(uint8_t *memory, size_t memory_len);
  * ended.
  * Answers 0. Refused by 5; 7 count or flags; 9 an earlier one is delayed.
  */
-int64_t dp_new_diagnosis(uint8_t *memory, size_t memory_len, uint32_t count, uint32_t flags);
+int64_t dp_new_diagnosis(uint8_t *memory, uint64_t memory_len, uint32_t count, uint32_t flags);
 
 /*
  * Judges the parameter set that is shown (enum dp_judgement). Good parameters are what dp_judge_configuration waits
@@ -173,7 +177,7 @@ int64_t dp_new_diagnosis(uint8_t *memory, size_t memory_len, uint32_t count, uin
  * Answers 0 the set was judged; 1 it was not, since a newer one waited, which is now shown: judge that one. Refused by
  * 5; 6 no parameter set is open; 7 judgement.
  */
-int64_t dp_judge_parameters(uint8_t *memory, size_t memory_len, uint32_t judgement);
+int64_t dp_judge_parameters(uint8_t *memory, uint64_t memory_len, uint32_t judgement);
 
 /*
  * Judges the configuration set that is shown, likewise. With a good one the exchange of data begins; a bad one is a
@@ -181,33 +185,33 @@ int64_t dp_judge_parameters(uint8_t *memory, size_t memory_len, uint32_t judgeme
  * Answers 0 or 1 as above. Refused by 5; 6 no configuration set is open, or the parameters were not judged good yet;
  * 7 judgement.
  */
-int64_t dp_judge_configuration(uint8_t *memory, size_t memory_len, uint32_t judgement);
+int64_t dp_judge_configuration(uint8_t *memory, uint64_t memory_len, uint32_t judgement);
 
 /*
  * The event word: bit n is set if event n (enum dp_event) is.
  * Answers the word, 0 to 65,535. Refused by 5.
  */
-int64_t dp_events(uint8_t *memory, size_t memory_len);
+int64_t dp_events(uint8_t *memory, uint64_t memory_len);
 
 /*
  * Acknowledge: clears the events whose bits are set in the mask, never 10 and 11. Acknowledge first and act then: an
  * event that is raised while you act is then not lost.
  * Answers 0. Refused by 5.
  */
-int64_t dp_acknowledge(uint8_t *memory, size_t memory_len, uint16_t mask);
+int64_t dp_acknowledge(uint8_t *memory, uint64_t memory_len, uint16_t mask);
 
 /*
  * Pending: some event that is set; do not rely on which one if there are several.
  * Answers its number, 0 to 15, or DP_NO_EVENT. Refused by 5.
  */
-int64_t dp_pending(uint8_t *memory, size_t memory_len);
+int64_t dp_pending(uint8_t *memory, uint64_t memory_len);
 
 /*
  * Leave master: the station gives up its master, publishes zeros and waits for Set_Prm. While the line is busy this is
  * put off until it is idle, at most until the next tick.
  * Answers 0. Refused by 5.
  */
-int64_t dp_leave_master(uint8_t *memory, size_t memory_len);
+int64_t dp_leave_master(uint8_t *memory, uint64_t memory_len);
 
 #ifdef __cplusplus
 }

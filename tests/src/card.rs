@@ -4,11 +4,11 @@ use crate::call::{Call, StartValues};
 use crate::random::Random;
 
 mod library {
-    //! Slices are a pointer and a length; every answer is an int64_t, a refusal negated.
+    //! Slices are a pointer and a length of 64 bits; every answer is an int64_t, a refusal negated.
     extern "C" {
         pub fn dp_start(
             memory: *mut u8,
-            len: usize,
+            len: u64,
             address: u32,
             ident: u16,
             output_len: u32,
@@ -17,23 +17,23 @@ mod library {
             configuration_len: u32,
             diagnosis_len: u32,
             get_cfg: *const u8,
-            get_cfg_len: usize,
+            get_cfg_len: u64,
         ) -> i64;
-        pub fn dp_octet(memory: *mut u8, len: usize, octet: u8, bad: u8) -> i64;
-        pub fn dp_gap(memory: *mut u8, len: usize) -> i64;
-        pub fn dp_send(memory: *mut u8, len: usize) -> i64;
-        pub fn dp_tick(memory: *mut u8, len: usize) -> i64;
-        pub fn dp_take_outputs(memory: *mut u8, len: usize) -> i64;
-        pub fn dp_read(memory: *mut u8, len: usize, kind: u32, index: u32) -> i64;
-        pub fn dp_write(memory: *mut u8, len: usize, kind: u32, index: u32, octet: u8) -> i64;
-        pub fn dp_hand_over_inputs(memory: *mut u8, len: usize) -> i64;
-        pub fn dp_new_diagnosis(memory: *mut u8, len: usize, count: u32, flags: u32) -> i64;
-        pub fn dp_judge_parameters(memory: *mut u8, len: usize, judgement: u32) -> i64;
-        pub fn dp_judge_configuration(memory: *mut u8, len: usize, judgement: u32) -> i64;
-        pub fn dp_events(memory: *mut u8, len: usize) -> i64;
-        pub fn dp_acknowledge(memory: *mut u8, len: usize, mask: u16) -> i64;
-        pub fn dp_pending(memory: *mut u8, len: usize) -> i64;
-        pub fn dp_leave_master(memory: *mut u8, len: usize) -> i64;
+        pub fn dp_octet(memory: *mut u8, len: u64, octet: u8, bad: u8) -> i64;
+        pub fn dp_gap(memory: *mut u8, len: u64) -> i64;
+        pub fn dp_send(memory: *mut u8, len: u64) -> i64;
+        pub fn dp_tick(memory: *mut u8, len: u64) -> i64;
+        pub fn dp_take_outputs(memory: *mut u8, len: u64) -> i64;
+        pub fn dp_read(memory: *mut u8, len: u64, kind: u32, index: u32) -> i64;
+        pub fn dp_write(memory: *mut u8, len: u64, kind: u32, index: u32, octet: u8) -> i64;
+        pub fn dp_hand_over_inputs(memory: *mut u8, len: u64) -> i64;
+        pub fn dp_new_diagnosis(memory: *mut u8, len: u64, count: u32, flags: u32) -> i64;
+        pub fn dp_judge_parameters(memory: *mut u8, len: u64, judgement: u32) -> i64;
+        pub fn dp_judge_configuration(memory: *mut u8, len: u64, judgement: u32) -> i64;
+        pub fn dp_events(memory: *mut u8, len: u64) -> i64;
+        pub fn dp_acknowledge(memory: *mut u8, len: u64, mask: u16) -> i64;
+        pub fn dp_pending(memory: *mut u8, len: u64) -> i64;
+        pub fn dp_leave_master(memory: *mut u8, len: u64) -> i64;
     }
 }
 
@@ -110,7 +110,7 @@ const fn pattern() -> [u8; 2 * GUARD] {
 
 /// One call of the library on a lent slice. The slice alone is lent: nothing else may be read or changed.
 pub fn call_library(memory: &mut [u8], call: &Call) -> i64 {
-    let len = memory.len();
+    let len = memory.len() as u64;
     let at = memory.as_mut_ptr();
     // Sound: pointer and length are those of a slice that is lent mutably for the time of the call.
     unsafe {
@@ -138,7 +138,7 @@ pub fn call_library(memory: &mut [u8], call: &Call) -> i64 {
 }
 
 /// The caller answers for pointer and length.
-unsafe fn start(at: *mut u8, len: usize, values: &StartValues) -> i64 {
+unsafe fn start(at: *mut u8, len: u64, values: &StartValues) -> i64 {
     library::dp_start(
         at,
         len,
@@ -150,7 +150,7 @@ unsafe fn start(at: *mut u8, len: usize, values: &StartValues) -> i64 {
         values.configuration,
         values.diagnosis,
         values.get_cfg.as_ptr(),
-        values.get_cfg.len(),
+        values.get_cfg.len() as u64,
     )
 }
 

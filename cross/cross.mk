@@ -1,0 +1,106 @@
+# The library for the card's own processor: the module that was proved and built for x86-64, compiled for others by the
+# toolchain's clang. Building needs no package, trying does; a library is there only once it was tried.
+#   make cross               builds and tries the library for each processor of cross/processors.mk, and prints a table
+#   make cross CARD=NAME     for the named ones alone
+#   make bench CARD=NAME     instructions for each call there, by a trace
+#   make check-objects       compiles for all of them and looks at the objects; needs no package
+#   make check-card          tries Cortex-M4 where the packages are, and says so where they are not
+# CARD_FLAGS=.. are further words for clang; LISTS=FOLDER takes the lists of calls from another folder.
+include cross/processors.mk
+
+X := target/cross
+CARDS := $(or $(CARD),$(PROCESSORS))
+$(if $(filter-out $(PROCESSORS),$(CARDS)),$(error CARD is "$(CARD)"; known are $(PROCESSORS)))
+
+# Looked for only where a recipe needs it.
+TOOLCHAIN = $(patsubst %/docs/START-HERE.md,%,$(shell rt doc))/on/$(shell uname -m)/toolchain/bin
+
+# What the toolchain itself compiles the module with, beside the processor's own words.
+IR_FLAGS := -ffunction-sections -fdata-sections -mllvm -trap-unreachable -mllvm -no-trap-after-noreturn \
+    --no-default-config -Werror
+
+# A program that hangs has failed.
+LIMIT := timeout 600
+
+# A trace has a line for each instruction, and the counts are nearly the same in every cycle.
+TRACED_CYCLES := 10
+
+.PHONY: cross cross-tools check-objects check-card say-card $(PROCESSORS:%=bench-%)
+.DELETE_ON_ERROR:
+
+# Ends the recipe if a package for one of the named processors is missing.
+define require_tools
+@missing=$$(cross/missing $(foreach card,$(1),$($(card)_TOOLS))); [ -z "$$missing" ] || { \
+    echo "make: nothing was done. To try $(1) this machine lacks the Debian packages" >&2; \
+    echo "    $$missing" >&2; exit 1; }
+endef
+
+cross: cross-tools $(CARDS:%=$(X)/%/libcard.a)
+	@awk -f cross/table.awk $(CARDS:%=$(X)/%/size) $(CARDS:%=$(X)/%/answers)
+
+# First of all: nothing is built that cannot be tried.
+cross-tools:
+	$(call require_tools,$(CARDS))
+
+# The module's text, and the object for x86-64.
+$(X)/x86-64/card.ll: $(CARD_LIB) cross/keep cross/widths.awk cross/toolchain
+	cross/keep $< $(@D)
+
+# What was asked for: with other words everything is built and tried again.
+$(PROCESSORS:%=$(X)/%/asked): $(X)/%/asked: FORCE
+	@mkdir -p $(@D)
+	@echo '$($*_FLAGS) $(CARD_FLAGS) $(LISTS)' | cmp -s - $@ || echo '$($*_FLAGS) $(CARD_FLAGS) $(LISTS)' >$@
+
+# The text names x86-64 in four places. In two of them the processor's own empty module tells what belongs there; the
+# processor's name and the probing of the stack, by x86-64's instructions, are left out.
+$(PROCESSORS:%=$(X)/%/card.o): $(X)/%/card.o: $(X)/x86-64/card.ll $(X)/%/asked
+	$(TOOLCHAIN)/clang $($*_FLAGS) $(CARD_FLAGS) -S -emit-llvm -x c /dev/null -o $(@D)/empty.ll
+	sed -e "s|^target datalayout.*|$$(grep '^target datalayout' $(@D)/empty.ll)|" \
+	    -e "s|^target triple.*|$$(grep '^target triple' $(@D)/empty.ll)|" \
+	    -e 's/ "probe-stack"="inline-asm"//' -e 's/ "target-cpu"="x86-64"//' $< >$(@D)/card.ll
+	! grep -i 'x86' $(@D)/card.ll
+	$(TOOLCHAIN)/clang $($*_FLAGS) $(CARD_FLAGS) $(IR_FLAGS) -fstack-usage -c -x ir $(@D)/card.ll -o $@
+
+$(PROCESSORS:%=$(X)/%/size): $(X)/%/size: $(X)/%/card.o cross/measure cross/stack.awk
+	cross/measure $(@D) 0 $($*_NEEDS) >$@
+
+# A call puts its return address on the stack.
+$(X)/x86-64/size: $(X)/x86-64/card.ll cross/measure cross/stack.awk
+	cross/measure $(@D) 8 memset >$@
+
+check-objects: $(X)/x86-64/size $(PROCESSORS:%=$(X)/%/size)
+	@awk -f cross/table.awk $^
+
+# The library is there once the example firmware has printed what it has to and every list has its answers. With it lies
+# the library for x86-64 that it is of.
+$(PROCESSORS:%=$(X)/%/libcard.a): $(X)/%/libcard.a: $(X)/%/card.o $(X)/%/size $(FIRMWARE) examples/card.expected \
+    cross/lists.c $(wildcard $(LISTS)/* cross/bare/*) cross/board
+	$(call require_tools,$*)
+	rm -rf $(@D)/new && mkdir $(@D)/new
+	$(TOOLCHAIN)/llvm-ar --format=gnu rcsD $(@D)/new/libcard.a $<
+	$($*_CC) $(CPPFLAGS) $(CFLAGS) examples/card.c examples/master.c $(@D)/new/libcard.a -o $(@D)/new/card
+	$(LIMIT) $($*_RUN) $(@D)/new/card </dev/null >$(@D)/new/card.out
+	diff examples/card.expected $(@D)/new/card.out
+	$($*_CC) $(CPPFLAGS) $(CFLAGS) cross/lists.c $(@D)/new/libcard.a -o $(@D)/new/lists
+	ls $(LISTS)/*.in >$(@D)/new/names
+	$(LIMIT) $($*_RUN) $(@D)/new/lists $(@D)/new/names </dev/null >$(@D)/new/answers
+	cp $(CARD_LIB) $(@D)/new/of.a
+	mv $(@D)/new/answers $(@D)/new/of.a $(@D)/new/libcard.a $(@D)
+
+say-card:
+	@missing=$$(cross/missing $(cortex-m4_TOOLS)); if [ -z "$$missing" ]; then \
+	    echo "The library for Cortex-M4 is tried too."; else \
+	    echo "The library for Cortex-M4 is not tried: this machine lacks the Debian packages $$missing."; fi
+
+check-card: say-card
+	@[ -n "$$(cross/missing $(cortex-m4_TOOLS))" ] || $(MAKE) cross CARD=cortex-m4
+
+$(PROCESSORS:%=bench-%): bench-%: $(X)/%/libcard.a bench/bench.c $(WORKLOAD)
+	@$($*_CC) $(CPPFLAGS) $(CFLAGS) bench/bench.c bench/workload.c $< -o $(X)/$*/bench
+	@QEMU_SINGLESTEP=1 QEMU_LOG=exec,nochain QEMU_LOG_FILENAME=$(X)/$*/trace \
+	    $(LIMIT) $($*_RUN) $(X)/$*/bench $(TRACED_CYCLES) </dev/null >$(X)/$*/bench.out
+	@$(if $($*_CYCLES),$($*_CYCLES) $(X)/$*/bench >$(X)/$*/disassembly)
+	@awk -f cross/trace.awk $(if $($*_CYCLES),$(X)/$*/disassembly) $(X)/$*/trace >$(X)/$*/calls
+	@rm $(X)/$*/trace
+	@echo "Instructions for each call on $*, by a trace under qemu over $(TRACED_CYCLES) cycles:"
+	@awk -f bench/instructions.awk $(X)/$*/calls

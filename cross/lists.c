@@ -1,0 +1,370 @@
+/*
+ * Runs lists of calls on the station and holds every answer to the list's own. The format is that of
+ * tests/vectors/README.md.
+ *
+ *   lists NAMES      NAMES is a file with the name of one NAME.in on each line; NAME.out lies beside it
+ *
+ * Every call gets the memory at another place than the call before, on each alignment in turn, with the guards' pattern
+ * all around it. A call that is refused, or that only looks, has to leave the memory as it was, and no call may change
+ * an octet of the pattern. It needs no more of a C library than files, so that it runs on a bare processor too.
+ *
+ * Exit 0: no difference; 1: a difference; 2: input that cannot be used.
+ */
+#include "dp.h"
+
+#include <stdbool.h>
+#include <stdio.h>
+#include <stdlib.h>
+#include <string.h>
+
+/* Start refuses all that is longer than DP_MEMORY_MAX; some lists lend it more. */
+enum { LONGEST = 2 * DP_MEMORY_MAX, GUARD = 128, ALIGNMENTS = 8 };
+
+/* The most numbers that a call takes in a list, and the most octets of its slice. */
+enum { NUMBERS = 8, SLICE = 2 * DP_LENGTH_MAX };
+
+/* A line holds the longest slice, two digits to an octet, and what stands before it. */
+enum { LINE = 2 * SLICE + 128 };
+
+enum exit_status { SAME = 0, DIFFERENT = 1, UNUSABLE = 2 };
+
+/* ---- The memory ---- */
+
+/* The station's memory between calls; zeros, in which no station was started, before the first Start. */
+static uint8_t kept[LONGEST];
+static size_t kept_len;
+
+/* What is lent: the memory somewhere in here, the pattern everywhere else. */
+static uint8_t arena[GUARD + ALIGNMENTS + LONGEST + GUARD];
+static uint8_t *lent;
+static size_t lent_len;
+
+/* Octets that no stray zero, copy or shift repeats by chance. */
+static uint8_t pattern(size_t place)
+{
+    return (uint8_t)((place * 151 >> 3) ^ 0x5A);
+}
+
+/* Lends a memory on the next alignment. It holds the pattern, too. */
+static void lend(size_t length)
+{
+    static size_t turn;
+    for (size_t i = 0; i < sizeof arena; i++)
+        arena[i] = pattern(i);
+    lent = arena + GUARD + turn++ % ALIGNMENTS;
+    lent_len = length;
+}
+
+static bool is_guard(const uint8_t *octet)
+{
+    return octet < lent || octet >= lent + lent_len;
+}
+
+/* What a call did that it must not do, or NULL. same: the memory has to be as it was. */
+static const char *misdeed(bool same, const uint8_t *was)
+{
+    for (size_t i = 0; i < sizeof arena; i++) {
+        if (is_guard(arena + i) && arena[i] != pattern(i))
+            return "changed an octet outside the memory";
+    }
+    if (same && memcmp(lent, was, lent_len) != 0)
+        return "changed the memory, which it has to leave as it was";
+    return NULL;
+}
+
+/* ---- The calls ---- */
+
+struct arguments {
+    uint32_t number[NUMBERS];
+    uint8_t slice[SLICE];
+    size_t slice_len;
+};
+
+static int64_t run_start(const struct arguments *a)
+{
+    const uint32_t *n = a->number;
+    return dp_start(lent, lent_len, n[1], (uint16_t)n[2], n[3], n[4], n[5], n[6], n[7], a->slice, a->slice_len);
+}
+
+static int64_t run_octet(const struct arguments *a)
+{
+    return dp_octet(lent, lent_len, (uint8_t)a->number[0], 0);
+}
+
+static int64_t run_bad(const struct arguments *a)
+{
+    return dp_octet(lent, lent_len, (uint8_t)a->number[0], 1);
+}
+
+static int64_t run_read(const struct arguments *a)
+{
+    return dp_read(lent, lent_len, a->number[0], a->number[1]);
+}
+
+static int64_t run_write(const struct arguments *a)
+{
+    return dp_write(lent, lent_len, a->number[0], a->number[1], (uint8_t)a->number[2]);
+}
+
+static int64_t run_diag(const struct arguments *a)
+{
+    return dp_new_diagnosis(lent, lent_len, a->number[0], a->number[1]);
+}
+
+static int64_t run_judgeprm(const struct arguments *a)
+{
+    return dp_judge_parameters(lent, lent_len, a->number[0]);
+}
+
+static int64_t run_judgecfg(const struct arguments *a)
+{
+    return dp_judge_configuration(lent, lent_len, a->number[0]);
+}
+
+static int64_t run_ack(const struct arguments *a)
+{
+    return dp_acknowledge(lent, lent_len, (uint16_t)a->number[0]);
+}
+
+/* form: what stands behind the name, one letter for each: n a number, w one of 16 bits, l a memory's length, x an octet
+   and s a slice in hexadecimal digits. A call with no arguments has `alone` instead of `run`. */
+struct call {
+    const char *name, *form;
+    int64_t (*run)(const struct arguments *);
+    int64_t (*alone)(uint8_t *, uint64_t);
+    bool looks;
+};
+
+static const struct call calls[] = {
+    {"start", "lnwnnnnns", run_start, NULL, false},
+    {"octet", "x", run_octet, NULL, false},
+    {"bad", "x", run_bad, NULL, false},
+    {"gap", "", NULL, dp_gap, false},
+    {"send", "", NULL, dp_send, false},
+    {"tick", "", NULL, dp_tick, false},
+    {"take", "", NULL, dp_take_outputs, false},
+    {"read", "nn", run_read, NULL, true},
+    {"write", "nnx", run_write, NULL, false},
+    {"handover", "", NULL, dp_hand_over_inputs, false},
+    {"diag", "nn", run_diag, NULL, false},
+    {"judgeprm", "n", run_judgeprm, NULL, false},
+    {"judgecfg", "n", run_judgecfg, NULL, false},
+    {"events", "", NULL, dp_events, true},
+    {"ack", "w", run_ack, NULL, false},
+    {"pending", "", NULL, dp_pending, true},
+    {"leave", "", NULL, dp_leave_master, false},
+};
+
+/* ---- A list's lines ---- */
+
+/* The file that is read, for messages. */
+struct source {
+    FILE *file;
+    char name[256];
+    unsigned line;
+};
+
+static void stop(const struct source *from, const char *what, const char *word)
+{
+    fflush(stdout);
+    if (from->line > 0)
+        fprintf(stderr, "%s:%u: %s%s\n", from->name, from->line, what, word);
+    else
+        fprintf(stderr, "%s: %s%s\n", from->name, what, word);
+    exit(UNUSABLE);
+}
+
+static struct source opened(const char *name)
+{
+    struct source from = {NULL, "", 0};
+    if (strlen(name) >= sizeof from.name) {
+        fprintf(stderr, "%s: the name is too long\n", name);
+        exit(UNUSABLE);
+    }
+    strcpy(from.name, name);
+    from.file = fopen(name, "r");
+    if (from.file == NULL)
+        stop(&from, "cannot be opened", "");
+    return from;
+}
+
+/* The next line without its end, or false behind the last one. */
+static bool next_line(struct source *from, char *line)
+{
+    if (fgets(line, LINE, from->file) == NULL)
+        return false;
+    from->line++;
+    size_t count = strcspn(line, "\r\n");
+    if (line[count] == '\0' && count + 1 == LINE)
+        stop(from, "the line is too long", "");
+    line[count] = '\0';
+    return true;
+}
+
+/* The next line that is no remark. */
+static bool next_call(struct source *from, char *line)
+{
+    while (next_line(from, line)) {
+        if (line[strspn(line, " \t")] != '\0' && line[0] != '#')
+            return true;
+    }
+    return false;
+}
+
+static uint32_t number(const struct source *from, const char *word, uint32_t most)
+{
+    uint64_t value = 0;
+    size_t digits = strspn(word, "0123456789");
+    for (size_t i = 0; i < digits && value <= most; i++)
+        value = 10 * value + (uint64_t)(word[i] - '0');
+    if (digits == 0 || word[digits] != '\0' || value > most)
+        stop(from, "no decimal number that fits here: ", word);
+    return (uint32_t)value;
+}
+
+/* The octets of a word of hexadecimal digits; `-` for none. Answers how many. */
+static size_t octets(const struct source *from, const char *word, uint8_t *into, size_t most)
+{
+    size_t digits = strspn(word, "0123456789ABCDEFabcdef");
+    if (strcmp(word, "-") == 0)
+        return 0;
+    if (word[digits] != '\0' || digits % 2 != 0 || digits / 2 > most)
+        stop(from, "not two hexadecimal digits for each octet, or too many: ", word);
+    for (size_t i = 0; i < digits / 2; i++) {
+        const char pair[] = {word[2 * i], word[2 * i + 1], '\0'};
+        into[i] = (uint8_t)strtoul(pair, NULL, 16);
+    }
+    return digits / 2;
+}
+
+static void argument(const struct source *from, char kind, const char *word, uint32_t *value, struct arguments *a)
+{
+    uint8_t octet;
+    if (kind == 's') {
+        a->slice_len = octets(from, word, a->slice, SLICE);
+    } else if (kind == 'x') {
+        if (octets(from, word, &octet, 1) != 1)
+            stop(from, "not one octet: ", word);
+        *value = octet;
+    } else {
+        *value = number(from, word, kind == 'n' ? UINT32_MAX : kind == 'w' ? UINT16_MAX : LONGEST);
+    }
+}
+
+static const struct call *call_named(const struct source *from, const char *word)
+{
+    for (size_t i = 0; i < sizeof calls / sizeof calls[0]; i++) {
+        if (strcmp(word, calls[i].name) == 0)
+            return &calls[i];
+    }
+    stop(from, "no call: ", word);
+    return NULL;
+}
+
+/* The call that a line asks for and its arguments. The line is taken apart. */
+static const struct call *parsed(const struct source *from, char *line, struct arguments *a)
+{
+    static const char blanks[] = " \t";
+    const struct call *call = call_named(from, strtok(line, blanks));
+    for (size_t i = 0; call->form[i] != '\0'; i++) {
+        const char *word = strtok(NULL, blanks);
+        if (word == NULL)
+            stop(from, "too few words for ", call->name);
+        argument(from, call->form[i], word, &a->number[i < NUMBERS ? i : 0], a);
+    }
+    if (strtok(NULL, blanks) != NULL)
+        stop(from, "too many words for ", call->name);
+    return call;
+}
+
+/* The answer on the next line of a .out file. */
+static int64_t next_answer(struct source *from)
+{
+    char line[LINE], *end;
+    if (!next_line(from, line))
+        stop(from, "has fewer answers than its list has calls", "");
+    int64_t answer = strtol(line, &end, 10);
+    if (end == line || *end != '\0')
+        stop(from, "no answer: ", line);
+    return answer;
+}
+
+/* ---- Running ---- */
+
+/* A Start on a memory of another length gets one of its own, which holds the pattern; it becomes the station's if Start
+   answers 0. Every other call gets the station's. */
+static int64_t answered(const struct call *call, const struct arguments *a, const char **wrong)
+{
+    static uint8_t was[LONGEST];
+    bool elsewhere = call->run == run_start && a->number[0] != kept_len;
+    lend(elsewhere ? a->number[0] : kept_len);
+    if (!elsewhere)
+        memcpy(lent, kept, kept_len);
+    memcpy(was, lent, lent_len);
+    int64_t answer = call->run != NULL ? call->run(a) : call->alone(lent, lent_len);
+    *wrong = misdeed(answer < 0 || call->looks, was);
+    if (answer >= 0) {
+        kept_len = lent_len;
+        memcpy(kept, lent, lent_len);
+    }
+    return answer;
+}
+
+/* Whether one call is answered as it has to be. */
+static bool holds(const struct source *from, char *line, int64_t expected)
+{
+    struct arguments a;
+    char text[LINE];
+    const char *wrong;
+    strcpy(text, line);
+    int64_t answer = answered(parsed(from, line, &a), &a, &wrong);
+    if (answer != expected)
+        fprintf(stderr, "%s:%u: %s answers %lld and not %lld\n", from->name, from->line, text, (long long)answer,
+                (long long)expected);
+    else if (wrong != NULL)
+        fprintf(stderr, "%s:%u: %s answers %lld and %s\n", from->name, from->line, text, (long long)answer, wrong);
+    return answer == expected && wrong == NULL;
+}
+
+/* NAME.in and NAME.out. A list ends at its first difference: the station is then not where the list has it. */
+static bool list_holds(const char *name, unsigned *answers)
+{
+    char line[LINE], partner[sizeof((struct source *)0)->name];
+    bool same = true;
+    struct source from = opened(name);
+    size_t stem = strlen(name) - 3;
+    if (strlen(name) < 4 || strcmp(name + stem, ".in") != 0)
+        stop(&from, "its name does not end in .in", "");
+    snprintf(partner, sizeof partner, "%.*s.out", (int)stem, name);
+    struct source out = opened(partner);
+    kept_len = DP_MEMORY_MIN;
+    memset(kept, 0, sizeof kept);
+    while (same && next_call(&from, line)) {
+        same = holds(&from, line, next_answer(&out));
+        *answers += same;
+    }
+    if (same && next_line(&out, line))
+        stop(&out, "has more answers than its list has calls", "");
+    fclose(from.file);
+    fclose(out.file);
+    return same;
+}
+
+int main(int argc, char **argv)
+{
+    unsigned lists = 0, answers = 0, differences = 0;
+    char name[LINE];
+    if (argc != 2) {
+        fprintf(stderr, "usage: lists NAMES\n");
+        return UNUSABLE;
+    }
+    struct source names = opened(argv[1]);
+    while (next_line(&names, name)) {
+        lists++;
+        differences += !list_holds(name, &answers);
+    }
+    if (lists == 0)
+        stop(&names, "names no list", "");
+    printf("%u lists, %u answers, %u differences\n", lists, answers, differences);
+    return differences == 0 ? SAME : DIFFERENT;
+}

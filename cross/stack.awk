@@ -1,0 +1,56 @@
+# The deepest stack that a call of an object can need, and the call: by the frame of each function, as the compiler tells
+# it, and by who calls whom, as the object's relocations tell it. Every function has a section of its own, so that each
+# call of another one has a relocation; widths.awk has seen to it that all are called by their names.
+#
+#   readelf -rW FILE.o | awk -v call=OCTETS -f stack.awk FILE.su -
+#
+# call: what the processor puts on the stack at a call by itself. Functions of other libraries are not counted.
+
+function fail(what) {
+    print "stack.awk: " what >"/dev/stderr"
+    failed = 1
+    exit 1
+}
+
+function depth_below(name, level,    callees, i, deepest, depth) {
+    if (name in depth_of) return depth_of[name]
+    if (level > 100) fail("the calls from " name " do not end")
+    split(calls[name], callees, " ")
+    for (i in callees) {
+        depth = call + depth_below(callees[i], level + 1)
+        if (depth > deepest) deepest = depth
+    }
+    return depth_of[name] = frame[name] + deepest
+}
+
+NR == FNR {
+    if ($0 !~ /\tstatic$/) fail("a frame of no fixed size: " $0)
+    sub(/^[^:]*:/, "", $1)
+    frame[$1] = $2
+    next
+}
+/^Relocation section/ {
+    caller = $3
+    is_code = sub(/^'[.]rela?[.]text[.]/, "", caller)
+    sub(/'$/, "", caller)
+    if (is_code && !(caller in frame)) fail("no frame is known of " caller)
+}
+# Any mention of another function counts as a call of it; of itself, the places in a table of jumps do not.
+is_code && $5 != "" {
+    callee = $5
+    sub(/^[.]text[.]/, "", callee)
+    if (callee in frame && (callee != caller || $3 ~ /CALL|JUMP|PLT/)) calls[caller] = calls[caller] " " callee
+}
+
+END {
+    if (failed) exit 1
+    for (name in frame) {
+        depth = depth_below(name, 0)
+        if (name ~ /^dp_/ && depth > deepest) {
+            deepest = depth
+            deepest_call = name
+        }
+    }
+    if (deepest_call == "") fail("no exported call has a frame")
+    print deepest, deepest_call
+}
