@@ -13,6 +13,10 @@ LIB ?= $(CARD_LIB)
 LENT ?= target/staticlib/liblent.a
 OUT := target/c
 
+# The base, document 01, is 1.0; with request n of document 02 it becomes 1.n.
+VERSION := 1.0
+PREFIX ?= /usr/local
+
 CC := gcc
 CXX := g++
 WARNINGS := -Wall -Wextra -Werror -pedantic -Wl,--fatal-warnings
@@ -71,6 +75,9 @@ $(OUT)/lent: bench/lent.c bench/lent.h $(WORKLOAD) $(LIB) $(LENT) $(OUT)/library
 $(OUT)/lists: cross/lists.c $(HEADERS) $(LIB) $(OUT)/library | $(OUT)
 	$(CC) $(CPPFLAGS) $(CFLAGS) $< $(LIB) -o $@
 
+$(OUT)/lists-wrong: cross/lists.c cross/wrong.c $(HEADERS) $(LIB) $(OUT)/library | $(OUT)
+	$(CC) $(CPPFLAGS) $(CFLAGS) cross/lists.c cross/wrong.c $(LIB) -Wl,--wrap=dp_read -o $@
+
 check: check-example check-header check-prototypes check-lists
 	@echo "check: all as expected"
 
@@ -88,9 +95,14 @@ check-prototypes: | $(OUT)
 	awk -f examples/prototypes.awk include/dp.h bench/lent.h >$(OUT)/declared
 	diff $(OUT)/exported $(OUT)/declared
 
-check-lists: $(OUT)/lists
+# The lists' answers, and that wrong stations are noticed.
+check-lists: $(OUT)/lists $(OUT)/lists-wrong
 	ls $(LISTS)/*.in >$(OUT)/names
 	$(OUT)/lists $(OUT)/names
+	@for mistake in 1 2 3 4 5; do \
+	    WRONG=$$mistake $(OUT)/lists-wrong $(OUT)/names >$(OUT)/wrong.out 2>&1; [ $$? -eq 1 ] \
+	        || { echo "check-lists: mistake $$mistake of cross/wrong.c is not noticed" >&2; exit 1; }; \
+	done
 
 bench: $(if $(CARD),$(CARDS:%=bench-%),bench-native)
 
@@ -107,6 +119,9 @@ bench-native: $(COUNTED:%=$(OUT)/%)
 	    echo "valgrind is not installed: no instructions are counted"; \
 	fi
 	@$(OUT)/bench
+
+install: $(LIB)
+	cross/install $(LIB) '$(PREFIX)' $(VERSION)
 
 clean:
 	rm -rf $(OUT) $(X)

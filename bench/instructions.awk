@@ -20,7 +20,8 @@ function mean(cost, calls) {
 # Two runs of the bench loop, each made once in a cycle, that differ in some calls alone. lent.c makes the exported calls
 # at the same place, so they say how many these are.
 function on_lent_state(call, without, with,    a, b) {
-    if (with == "" || program == "") return "-"
+    if (program == "") return ""
+    if (with == "") return "-"
     a = "lent " without
     b = "lent " with
     if (calls["lent_exchange", a] == 0 || calls["lent_exchange", a] != calls["lent_exchange", b]) {
@@ -82,7 +83,7 @@ FNR == 1 {
 
 END {
     printf "  %-24s %-30s %8s %14s %14s\n", "call", "where", "calls", "instructions", \
-        has_cycles ? "cycles" : "lent state"
+        has_cycles ? "cycles" : program == "" ? "" : "lent state"
     # Every run has its two gaps: no difference shows one.
     place_row("dp_gap", "gap_before_telegram", "before a telegram")
     place_row("dp_octet", "first_octet", "first octet", "no_octets", "up_to_first_octet")

@@ -2,7 +2,7 @@
 # toolchain's clang. Building needs no package, trying does; a library is there only once it was tried.
 #   make cross               builds and tries the library for each processor of cross/processors.mk, and prints a table
 #   make cross CARD=NAME     for the named ones alone
-#   make bench CARD=NAME     instructions for each call there, by a trace
+#   make bench CARD=NAME     instructions for each call there, by a trace, code and stack
 #   make check-objects       compiles for all of them and looks at the objects; needs no package
 #   make check-card          tries Cortex-M4 where the packages are, and says so where they are not
 # CARD_FLAGS=.. are further words for clang; LISTS=FOLDER takes the lists of calls from another folder.
@@ -35,6 +35,13 @@ define require_tools
     echo "    $$missing" >&2; exit 1; }
 endef
 
+# The example firmware, compiled by the first words and run by the second, over the library of a folder.
+define try_example
+$(1) $(CPPFLAGS) $(CFLAGS) examples/card.c examples/master.c $(3)/libcard.a -o $(3)/card
+$(LIMIT) $(2) $(3)/card </dev/null >$(3)/card.out
+diff examples/card.expected $(3)/card.out
+endef
+
 cross: cross-tools $(CARDS:%=$(X)/%/libcard.a)
 	@awk -f cross/table.awk $(CARDS:%=$(X)/%/size) $(CARDS:%=$(X)/%/answers)
 
@@ -57,7 +64,8 @@ $(PROCESSORS:%=$(X)/%/card.o): $(X)/%/card.o: $(X)/x86-64/card.ll $(X)/%/asked
 	$(TOOLCHAIN)/clang $($*_FLAGS) $(CARD_FLAGS) -S -emit-llvm -x c /dev/null -o $(@D)/empty.ll
 	sed -e "s|^target datalayout.*|$$(grep '^target datalayout' $(@D)/empty.ll)|" \
 	    -e "s|^target triple.*|$$(grep '^target triple' $(@D)/empty.ll)|" \
-	    -e 's/ "probe-stack"="inline-asm"//' -e 's/ "target-cpu"="x86-64"//' $< >$(@D)/card.ll
+	    -e 's/ "probe-stack"="inline-asm"//' -e 's/ "target-cpu"="x86-64"//' \
+	    -e '$(if $($*_TEXT),$$a $($*_TEXT))' $< >$(@D)/card.ll
 	! grep -i 'x86' $(@D)/card.ll
 	$(TOOLCHAIN)/clang $($*_FLAGS) $(CARD_FLAGS) $(IR_FLAGS) -fstack-usage -c -x ir $(@D)/card.ll -o $@
 
@@ -69,6 +77,7 @@ $(X)/x86-64/size: $(X)/x86-64/card.ll cross/measure cross/stack.awk
 	cross/measure $(@D) 8 memset >$@
 
 check-objects: $(X)/x86-64/size $(PROCESSORS:%=$(X)/%/size)
+	@cross/refuse $(X)/x86-64/card.ll
 	@awk -f cross/table.awk $^
 
 # The library is there once the example firmware has printed what it has to and every list has its answers. With it lies
@@ -78,9 +87,8 @@ $(PROCESSORS:%=$(X)/%/libcard.a): $(X)/%/libcard.a: $(X)/%/card.o $(X)/%/size $(
 	$(call require_tools,$*)
 	rm -rf $(@D)/new && mkdir $(@D)/new
 	$(TOOLCHAIN)/llvm-ar --format=gnu rcsD $(@D)/new/libcard.a $<
-	$($*_CC) $(CPPFLAGS) $(CFLAGS) examples/card.c examples/master.c $(@D)/new/libcard.a -o $(@D)/new/card
-	$(LIMIT) $($*_RUN) $(@D)/new/card </dev/null >$(@D)/new/card.out
-	diff examples/card.expected $(@D)/new/card.out
+	$(call try_example,$($*_CC),$($*_RUN),$(@D)/new)
+	$(if $($*_ALSO),$(call try_example,$($*_ALSO),$($*_RUN),$(@D)/new))
 	$($*_CC) $(CPPFLAGS) $(CFLAGS) cross/lists.c $(@D)/new/libcard.a -o $(@D)/new/lists
 	ls $(LISTS)/*.in >$(@D)/new/names
 	$(LIMIT) $($*_RUN) $(@D)/new/lists $(@D)/new/names </dev/null >$(@D)/new/answers
@@ -104,3 +112,5 @@ $(PROCESSORS:%=bench-%): bench-%: $(X)/%/libcard.a bench/bench.c $(WORKLOAD)
 	@rm $(X)/$*/trace
 	@echo "Instructions for each call on $*, by a trace under qemu over $(TRACED_CYCLES) cycles:"
 	@awk -f bench/instructions.awk $(X)/$*/calls
+	@echo "Octets of code, and of stack that each call can need:"
+	@awk '{ printf "  %-24s %8d\n", $$2, $$1 }' $(X)/$*/size

@@ -157,7 +157,9 @@ static const struct call calls[] = {
 
 /* ---- A list's lines ---- */
 
-/* The file that is read, for messages. */
+static const char blanks[] = " \t";
+
+/* A file that is read, and where. */
 struct source {
     FILE *file;
     char name[256];
@@ -205,7 +207,8 @@ static bool next_line(struct source *from, char *line)
 static bool next_call(struct source *from, char *line)
 {
     while (next_line(from, line)) {
-        if (line[strspn(line, " \t")] != '\0' && line[0] != '#')
+        char first = line[strspn(line, blanks)];
+        if (first != '\0' && first != '#')
             return true;
     }
     return false;
@@ -264,7 +267,6 @@ static const struct call *call_named(const struct source *from, const char *word
 /* The call that a line asks for and its arguments. The line is taken apart. */
 static const struct call *parsed(const struct source *from, char *line, struct arguments *a)
 {
-    static const char blanks[] = " \t";
     const struct call *call = call_named(from, strtok(line, blanks));
     for (size_t i = 0; call->form[i] != '\0'; i++) {
         const char *word = strtok(NULL, blanks);
@@ -283,7 +285,7 @@ static int64_t next_answer(struct source *from)
     char line[LINE], *end;
     if (!next_line(from, line))
         stop(from, "has fewer answers than its list has calls", "");
-    int64_t answer = strtol(line, &end, 10);
+    int64_t answer = strtoll(line, &end, 10);
     if (end == line || *end != '\0')
         stop(from, "no answer: ", line);
     return answer;
@@ -329,13 +331,13 @@ static bool holds(const struct source *from, char *line, int64_t expected)
 /* NAME.in and NAME.out. A list ends at its first difference: the station is then not where the list has it. */
 static bool list_holds(const char *name, unsigned *answers)
 {
-    char line[LINE], partner[sizeof((struct source *)0)->name];
+    char line[LINE], partner[LINE + 1];
     bool same = true;
     struct source from = opened(name);
-    size_t stem = strlen(name) - 3;
-    if (strlen(name) < 4 || strcmp(name + stem, ".in") != 0)
+    const char *end = strrchr(name, '.');
+    if (end == NULL || strcmp(end, ".in") != 0)
         stop(&from, "its name does not end in .in", "");
-    snprintf(partner, sizeof partner, "%.*s.out", (int)stem, name);
+    snprintf(partner, sizeof partner, "%.*s.out", (int)(end - name), name);
     struct source out = opened(partner);
     kept_len = DP_MEMORY_MIN;
     memset(kept, 0, sizeof kept);

@@ -1,7 +1,9 @@
 # The processors that the library is built for and tried on. To add one: its name here, and its values below.
 #   FLAGS  what the toolchain's clang compiles the library with
+#   TEXT   a line that the module's text gets beside, if one is wanted
 #   NEEDS  the functions that the object may need from outside; any other one is refused
 #   CC     compiles and links a program for it
+#   ALSO   the same for another kind of programs that the library has to do for, if there is one
 #   RUN    runs such a program here
 #   CYCLES disassembles a program for cross/trace.awk, which knows the cycles of Cortex-M4 alone
 #   TOOLS  what CC and RUN need: PACKAGE:COMMAND, or PACKAGE:COMPILER:FILE for a file of the compiler's libraries
@@ -12,9 +14,13 @@ BARE := --specs=rdimon.specs -T cross/bare/board.ld cross/bare/start.c -Wl,--no-
 BARE_TOOLS := gcc-arm-none-eabi:arm-none-eabi-gcc libnewlib-arm-none-eabi:arm-none-eabi-gcc:librdimon.a \
     qemu-system-arm:qemu-system-arm
 
+# No call has a floating point number, so the library may say of itself that it fits programs that hand these over in
+# floating point registers (-mfloat-abi=hard) and programs that do not; the linker would refuse it for the former.
 cortex-m4_FLAGS := -O3 --target=thumbv7em-none-eabi -mcpu=cortex-m4 -mfloat-abi=soft
-cortex-m4_NEEDS := __aeabi_memclr __aeabi_memcpy __aeabi_memcpy4
-cortex-m4_CC := arm-none-eabi-gcc -mcpu=cortex-m4 -mthumb $(BARE)
+cortex-m4_TEXT := module asm ".eabi_attribute Tag_ABI_VFP_args, 3"
+cortex-m4_NEEDS := __aeabi_memclr __aeabi_memcpy __aeabi_memcpy4 __aeabi_memmove
+cortex-m4_CC := arm-none-eabi-gcc -mcpu=cortex-m4 -mthumb -mfloat-abi=soft $(BARE)
+cortex-m4_ALSO := arm-none-eabi-gcc -mcpu=cortex-m4 -mthumb -mfloat-abi=hard -mfpu=fpv4-sp-d16 $(BARE)
 cortex-m4_RUN := cross/board cortex-m4
 cortex-m4_CYCLES := arm-none-eabi-objdump -d
 cortex-m4_TOOLS := $(BARE_TOOLS)

@@ -1,6 +1,6 @@
-# The deepest stack that a call of an object can need, and the call: by the frame of each function, as the compiler tells
-# it, and by who calls whom, as the object's relocations tell it. Every function has a section of its own, so that each
-# call of another one has a relocation; widths.awk has seen to it that all are called by their names.
+# How much stack each exported call of an object can need: by the frame of each function, as the compiler tells it, and by
+# who calls whom, as the object's relocations tell it. Every function has a section of its own, so that each call of
+# another one has a relocation; widths.awk has seen to it that all are called by their names.
 #
 #   readelf -rW FILE.o | awk -v call=OCTETS -f stack.awk FILE.su -
 #
@@ -45,12 +45,9 @@ is_code && $5 != "" {
 END {
     if (failed) exit 1
     for (name in frame) {
-        depth = depth_below(name, 0)
-        if (name ~ /^dp_/ && depth > deepest) {
-            deepest = depth
-            deepest_call = name
-        }
+        if (name !~ /^dp_/) continue
+        print depth_below(name, 0), name
+        exported++
     }
-    if (deepest_call == "") fail("no exported call has a frame")
-    print deepest, deepest_call
+    if (exported == 0) fail("no exported call has a frame")
 }

@@ -79,7 +79,7 @@ function check(n, text,    count) {
     } else if (text ~ /^  store ptr /) {
         refuse_special(n, 1, 1, "has its address kept")
     } else if (text ~ / = load ptr, /) {
-        return
+        refuse_special(n, 1, 1, "is not a variable of its function")
     } else if (text ~ / = load i64, /) {
         if (!(variable[2] in length_of)) refuse_special(n, 2, 2, "is loaded as a number")
     } else if (text ~ /^  store i64 /) {
@@ -149,6 +149,8 @@ END {
         if (line[n] ~ /^define/) {
             match(line[n], /@("[^"]+"|[A-Za-z0-9_.]+)\(/)
             within = substr(line[n], RSTART, RLENGTH)
+            count = variables_of(line[n])
+            if (line[n] !~ /^define internal /) refuse_special(n, 1, count, "comes from outside")
         } else if (line[n] ~ /^  /) {
             check(n, line[n])
         }

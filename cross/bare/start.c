@@ -25,6 +25,15 @@ static void fault(void)
         ask_host(EXIT, RUN_TIME_ERROR);
 }
 
+static void reset(void)
+{
+#ifdef __ARM_FP
+    /* Coprocessors 10 and 11, the floating point unit, are the program's. */
+    *(volatile uint32_t *)0xE000ED88 |= 0xFu << 20;
+#endif
+    _start();
+}
+
 union entry {
     uint32_t *stack;
     void (*handler)(void);
@@ -32,6 +41,6 @@ union entry {
 
 /* The stack's top, reset, NMI, hard fault, and the faults that Cortex-M3 and later tell apart. */
 __attribute__((section(".vectors"), used)) static const union entry vectors[] = {
-    {.stack = stack_top}, {.handler = _start}, {.handler = fault}, {.handler = fault},
-    {.handler = fault},   {.handler = fault},  {.handler = fault},
+    {.stack = stack_top}, {.handler = reset}, {.handler = fault}, {.handler = fault},
+    {.handler = fault},   {.handler = fault}, {.handler = fault},
 };
