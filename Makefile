@@ -6,11 +6,12 @@
 #   make install  header, library, the libraries that make cross built, and a pkg-config file, below PREFIX
 #   make clean    removes what this file made; the libraries of x86-64 stay
 # LIB=path takes another library than the repository's. LENT=path takes another one for the bench loop on the lent state;
-# with LENT= its column stays empty.
+# with LENT= its column stays empty. LISTS=folder takes the lists of calls from another folder.
 
-CARD_LIB := target/staticlib/libcard.a
-LIB ?= $(CARD_LIB)
+PROVED_LIB := target/staticlib/libcard.a
+LIB ?= $(PROVED_LIB)
 LENT ?= target/staticlib/liblent.a
+LISTS ?= tests/vectors
 OUT := target/c
 
 # The base, document 01, is 1.0; with request n of document 02 it becomes 1.n.
@@ -42,7 +43,6 @@ COUNTED := bench $(if $(LENT),lent)
 run: $(OUT)/card
 	$(OUT)/card
 
-LISTS ?= tests/vectors
 include cross/cross.mk
 
 # A library is proved again when something under crates/ is newer than it; that takes minutes.

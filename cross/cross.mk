@@ -5,7 +5,7 @@
 #   make bench CARD=NAME     instructions for each call there, by a trace, code and stack
 #   make check-objects       compiles for all of them and looks at the objects; needs no package
 #   make check-card          tries Cortex-M4 where the packages are, and says so where they are not
-# CARD_FLAGS=.. are further words for clang; LISTS=FOLDER takes the lists of calls from another folder.
+# CARD_FLAGS=.. are further words for clang.
 include cross/processors.mk
 
 X := target/cross
@@ -50,7 +50,7 @@ cross-tools:
 	$(call require_tools,$(CARDS))
 
 # The module's text, and the object for x86-64.
-$(X)/x86-64/card.ll: $(CARD_LIB) cross/keep cross/widths.awk cross/toolchain
+$(X)/x86-64/card.ll: $(PROVED_LIB) cross/keep cross/widths.awk cross/toolchain
 	cross/keep $< $(@D)
 
 # What was asked for: with other words everything is built and tried again.
@@ -92,7 +92,7 @@ $(PROCESSORS:%=$(X)/%/libcard.a): $(X)/%/libcard.a: $(X)/%/card.o $(X)/%/size $(
 	$($*_CC) $(CPPFLAGS) $(CFLAGS) cross/lists.c $(@D)/new/libcard.a -o $(@D)/new/lists
 	ls $(LISTS)/*.in >$(@D)/new/names
 	$(LIMIT) $($*_RUN) $(@D)/new/lists $(@D)/new/names </dev/null >$(@D)/new/answers
-	cp $(CARD_LIB) $(@D)/new/of.a
+	cp $(PROVED_LIB) $(@D)/new/of.a
 	mv $(@D)/new/answers $(@D)/new/of.a $(@D)/new/libcard.a $(@D)
 
 say-card:

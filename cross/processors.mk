@@ -1,9 +1,9 @@
 # The processors that the library is built for and tried on. To add one: its name here, and its values below.
 #   FLAGS  what the toolchain's clang compiles the library with
-#   TEXT   a line that the module's text gets beside, if one is wanted
+#   TEXT   a further line of the module's text, if one is needed
 #   NEEDS  the functions that the object may need from outside; any other one is refused
 #   CC     compiles and links a program for it
-#   ALSO   the same for another kind of programs that the library has to do for, if there is one
+#   ALSO   the same for another kind of program that the library has to fit, if there is one
 #   RUN    runs such a program here
 #   CYCLES disassembles a program for cross/trace.awk, which knows the cycles of Cortex-M4 alone
 #   TOOLS  what CC and RUN need: PACKAGE:COMMAND, or PACKAGE:COMPILER:FILE for a file of the compiler's libraries
