@@ -5,7 +5,7 @@
 #   make cross    the library for the processors of cards, built and tried (see cross/cross.mk)
 #   make install  header, library, the libraries that make cross built, and a pkg-config file, below PREFIX
 #   make clean    removes what this file made; the libraries of x86-64 stay
-# LIB=path takes another library than the repository's. LENT=path takes another one for the bench loop on the lent state;
+# LIB=path takes another library than the repository's for run, check and bench. LENT=path takes another one for the bench loop on the lent state;
 # with LENT= its column stays empty. LISTS=folder takes the lists of calls from another folder.
 
 PROVED_LIB := target/staticlib/libcard.a
@@ -76,7 +76,7 @@ $(OUT)/lists: cross/lists.c $(HEADERS) $(LIB) $(OUT)/library | $(OUT)
 	$(CC) $(CPPFLAGS) $(CFLAGS) $< $(LIB) -o $@
 
 $(OUT)/lists-wrong: cross/lists.c cross/wrong.c $(HEADERS) $(LIB) $(OUT)/library | $(OUT)
-	$(CC) $(CPPFLAGS) $(CFLAGS) cross/lists.c cross/wrong.c $(LIB) -Wl,--wrap=dp_read -o $@
+	$(CC) $(CPPFLAGS) $(CFLAGS) cross/lists.c cross/wrong.c $(LIB) -Wl,--wrap=dp_read,--wrap=dp_start -o $@
 
 check: check-example check-header check-prototypes check-lists
 	@echo "check: all as expected"
@@ -96,15 +96,14 @@ check-prototypes: | $(OUT)
 	diff $(OUT)/exported $(OUT)/declared
 
 # The lists' answers, and that wrong stations are noticed.
-check-lists: $(OUT)/lists $(OUT)/lists-wrong
-	ls $(LISTS)/*.in >$(OUT)/names
-	$(OUT)/lists $(OUT)/names
-	@for mistake in 1 2 3 4 5; do \
-	    WRONG=$$mistake $(OUT)/lists-wrong $(OUT)/names >$(OUT)/wrong.out 2>&1; [ $$? -eq 1 ] \
+check-lists: $(OUT)/lists $(OUT)/lists-wrong $(X)/lists
+	$(OUT)/lists $(X)/lists
+	@for mistake in 1 2 3 4 5 6 7; do \
+	    WRONG=$$mistake $(OUT)/lists-wrong $(X)/lists >$(OUT)/wrong.out 2>&1; [ $$? -eq 1 ] \
 	        || { echo "check-lists: mistake $$mistake of cross/wrong.c is not noticed" >&2; exit 1; }; \
 	done
 
-bench: $(if $(CARD),$(CARDS:%=bench-%),bench-native)
+bench: $(if $(CARD),cross-tools $(CARDS:%=bench-%),bench-native)
 
 bench-native: $(COUNTED:%=$(OUT)/%)
 	@if command -v valgrind >/dev/null; then \
@@ -120,8 +119,8 @@ bench-native: $(COUNTED:%=$(OUT)/%)
 	fi
 	@$(OUT)/bench
 
-install: $(LIB)
-	cross/install $(LIB) '$(PREFIX)' $(VERSION)
+install: $(PROVED_LIB)
+	cross/install $(PROVED_LIB) '$(PREFIX)' $(VERSION) $(PROCESSORS)
 
 clean:
 	rm -rf $(OUT) $(X)

@@ -1,10 +1,11 @@
 # From valgrind's callgrind files, that of bench.c and then, where the column is wanted, that of lent.c: for each
 # exported call and the place that it came from, how often it was called and how many instructions it took on average,
 # the functions below it included; beside it how many the same octet or Tick takes on the lent state. A file of
-# cross/trace.awk may have the least and the most cycles instead, which then stand there.
+# cross/trace.awk may have cycles, which then stand there: the least and the most of any call of a row, and for a row of
+# several kinds of calls on average.
 #
 # In a file a function has a number and, where it is first named, its name; a call is three lines: cfn= (which),
-# calls= (how often), and then where, the instructions, and the cycles if there are.
+# calls= (how often), and then where, the instructions, and the cycles if there are, as cross/trace.awk says.
 
 function name_of(text,    number) {
     number = text
@@ -31,8 +32,10 @@ function on_lent_state(call, without, with,    a, b) {
     return mean(cost["lent_exchange", b] - cost["lent_exchange", a], calls[call, b] - calls[call, a])
 }
 
-function cycles(least, most, calls) {
-    return sprintf("%.0f to %.0f", least / calls, most / calls)
+# A sum of several kinds of calls has no least and most of a single one.
+function cycles(key) {
+    if (key in most_one) return least_one[key] " to " most_one[key]
+    return sprintf("%.0f to %.0f", least[key] / calls[key], most[key] / calls[key])
 }
 
 function row(call, text, calls, instructions, beside) {
@@ -44,7 +47,7 @@ function row(call, text, calls, instructions, beside) {
 function key_row(call, key, text, without, with) {
     if (calls[key] > 0)
         row(call, text, calls[key], mean(cost[key], calls[key]), \
-            has_cycles ? cycles(least[key], most[key], calls[key]) : on_lent_state(call, without, with))
+            (has_cycles ? cycles(key) : on_lent_state(call, without, with)))
 }
 
 function add(key, to) {
@@ -69,7 +72,7 @@ FNR == 1 {
     split("", names)
     program = NR == 1 ? "" : "lent "
 }
-/^events:/ { has_cycles = /least most/ }
+/^events:/ { has_cycles = / cycles$/ }
 /^fn=/ { place = program name_of(substr($0, 4)) }
 /^cfn=/ { call = name_of(substr($0, 5)) }
 /^calls=/ {
@@ -79,11 +82,15 @@ FNR == 1 {
     cost[call, place] += $2
     least[call, place] += $3
     most[call, place] += $4
+    if (has_cycles) {
+        least_one[call, place] = $5
+        most_one[call, place] = $6
+    }
 }
 
 END {
     printf "  %-24s %-30s %8s %14s %14s\n", "call", "where", "calls", "instructions", \
-        has_cycles ? "cycles" : program == "" ? "" : "lent state"
+        (has_cycles ? "cycles" : (program == "" ? "" : "lent state"))
     # Every run has its two gaps: no difference shows one.
     place_row("dp_gap", "gap_before_telegram", "before a telegram")
     place_row("dp_octet", "first_octet", "first octet", "no_octets", "up_to_first_octet")
@@ -106,6 +113,8 @@ END {
     print "  beside the workload:"
     place_row("dp_octet", "last_octet_to_another", "last, to another station")
     place_row("dp_octet", "last_octet_of_slave_diag", "last, Slave_Diag")
+    place_row("dp_octet", "last_octet_of_set_prm", "last, Set_Prm")
+    place_row("dp_octet", "last_octet_of_chk_cfg", "last, Chk_Cfg")
     place_row("dp_start", "station_starts", "")
     place_row("dp_judge_parameters", "vat_judges", "good")
     place_row("dp_judge_configuration", "vat_judges", "good")

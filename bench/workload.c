@@ -181,11 +181,22 @@ PLACE void octet_at_start_up(uint8_t octet)
     CALL(dp_octet(MEMORY, octet, 0));
 }
 
-PLACE void acknowledged_at_start_up(const uint8_t *t, size_t count)
+PLACE void last_octet_of_set_prm(uint8_t octet)
+{
+    CALL(dp_octet(MEMORY, octet, 0));
+}
+
+PLACE void last_octet_of_chk_cfg(uint8_t octet)
+{
+    CALL(dp_octet(MEMORY, octet, 0));
+}
+
+PLACE void acknowledged_at_start_up(const uint8_t *t, size_t count, void (*last)(uint8_t))
 {
     CALL(dp_gap(MEMORY));
-    for (size_t i = 0; i < count; i++)
+    for (size_t i = 0; i + 1 < count; i++)
         octet_at_start_up(t[i]);
+    last(t[count - 1]);
     expect("the reply at start-up", CALL(dp_send(MEMORY)), 0xE5);
 }
 
@@ -210,8 +221,8 @@ void start_up(void)
     static const uint8_t chk_cfg[] = {0x68, 0x09, 0x09, 0x68, 0x85, 0x82, 0x5D, 0x3E,
                                       0x3E, 0x1F, 0x1F, 0x2F, 0x2F, 0x7C, 0x16};
     station_starts();
-    acknowledged_at_start_up(set_prm, sizeof set_prm);
-    acknowledged_at_start_up(chk_cfg, sizeof chk_cfg);
+    acknowledged_at_start_up(set_prm, sizeof set_prm, last_octet_of_set_prm);
+    acknowledged_at_start_up(chk_cfg, sizeof chk_cfg, last_octet_of_chk_cfg);
     vat_judges();
     vat_looks_at_events();
 }

@@ -5,10 +5,12 @@
 #   make bench CARD=NAME     instructions for each call there, by a trace, code and stack
 #   make check-objects       compiles for all of them and looks at the objects; needs no package
 #   make check-card          tries Cortex-M4 where the packages are, and says so where they are not
-# CARD_FLAGS=.. are further words for clang.
+# CARD_FLAGS=.. are further words for clang. Both are taken from make's command line alone.
 include cross/processors.mk
 
 X := target/cross
+CARD :=
+CARD_FLAGS :=
 CARDS := $(or $(CARD),$(PROCESSORS))
 $(if $(filter-out $(PROCESSORS),$(CARDS)),$(error CARD is "$(CARD)"; known are $(PROCESSORS)))
 
@@ -49,18 +51,30 @@ cross: cross-tools $(CARDS:%=$(X)/%/libcard.a)
 cross-tools:
 	$(call require_tools,$(CARDS))
 
-# The module's text, and the object for x86-64.
-$(X)/x86-64/card.ll: $(PROVED_LIB) cross/keep cross/widths.awk cross/toolchain
-	cross/keep $< $(@D)
+# A file that the rules below depend on is written only where its contents change: which toolchain there is, which lists
+# there are, what was asked for.
+keep_if_same = cmp -s - $@ || $(1) >$@
 
-# What was asked for: with other words everything is built and tried again.
+$(X):
+	@mkdir -p $@
+
+$(X)/toolchain: FORCE | $(X)
+	@rt version | $(call keep_if_same,rt version)
+
+$(X)/lists: FORCE | $(X)
+	@ls $(LISTS)/*.in | $(call keep_if_same,ls $(LISTS)/*.in)
+
 $(PROCESSORS:%=$(X)/%/asked): $(X)/%/asked: FORCE
 	@mkdir -p $(@D)
-	@echo '$($*_FLAGS) $(CARD_FLAGS) $(LISTS)' | cmp -s - $@ || echo '$($*_FLAGS) $(CARD_FLAGS) $(LISTS)' >$@
+	@echo '$(CARD_FLAGS)' | $(call keep_if_same,echo '$(CARD_FLAGS)')
+
+# The module's text, and the object for x86-64.
+$(X)/x86-64/card.ll: $(PROVED_LIB) $(X)/toolchain cross/toolchain cross/keep cross/widths.awk
+	cross/keep $< $(@D)
 
 # The text names x86-64 in four places. In two of them the processor's own empty module tells what belongs there; the
 # processor's name and the probing of the stack, by x86-64's instructions, are left out.
-$(PROCESSORS:%=$(X)/%/card.o): $(X)/%/card.o: $(X)/x86-64/card.ll $(X)/%/asked
+$(PROCESSORS:%=$(X)/%/card.o): $(X)/%/card.o: $(X)/x86-64/card.ll $(X)/%/asked cross/processors.mk
 	$(TOOLCHAIN)/clang $($*_FLAGS) $(CARD_FLAGS) -S -emit-llvm -x c /dev/null -o $(@D)/empty.ll
 	sed -e "s|^target datalayout.*|$$(grep '^target datalayout' $(@D)/empty.ll)|" \
 	    -e "s|^target triple.*|$$(grep '^target triple' $(@D)/empty.ll)|" \
@@ -70,11 +84,11 @@ $(PROCESSORS:%=$(X)/%/card.o): $(X)/%/card.o: $(X)/x86-64/card.ll $(X)/%/asked
 	$(TOOLCHAIN)/clang $($*_FLAGS) $(CARD_FLAGS) $(IR_FLAGS) -fstack-usage -c -x ir $(@D)/card.ll -o $@
 
 $(PROCESSORS:%=$(X)/%/size): $(X)/%/size: $(X)/%/card.o cross/measure cross/stack.awk
-	cross/measure $(@D) 0 $($*_NEEDS) >$@
+	cross/measure $(@D) 0 0 $($*_NEEDS) >$@
 
-# A call puts its return address on the stack.
+# A call puts its return address on the stack, and a function may use 128 octets below its stack pointer.
 $(X)/x86-64/size: $(X)/x86-64/card.ll cross/measure cross/stack.awk
-	cross/measure $(@D) 8 memset >$@
+	cross/measure $(@D) 8 128 memset >$@
 
 check-objects: $(X)/x86-64/size $(PROCESSORS:%=$(X)/%/size)
 	@cross/refuse $(X)/x86-64/card.ll
@@ -83,17 +97,18 @@ check-objects: $(X)/x86-64/size $(PROCESSORS:%=$(X)/%/size)
 # The library is there once the example firmware has printed what it has to and every list has its answers. With it lies
 # the library for x86-64 that it is of.
 $(PROCESSORS:%=$(X)/%/libcard.a): $(X)/%/libcard.a: $(X)/%/card.o $(X)/%/size $(FIRMWARE) examples/card.expected \
-    cross/lists.c $(wildcard $(LISTS)/* cross/bare/*) cross/board
+    cross/lists.c $(X)/lists $(wildcard $(LISTS)/* cross/bare/*) cross/board
+	@rm -f $@
 	$(call require_tools,$*)
 	rm -rf $(@D)/new && mkdir $(@D)/new
 	$(TOOLCHAIN)/llvm-ar --format=gnu rcsD $(@D)/new/libcard.a $<
 	$(call try_example,$($*_CC),$($*_RUN),$(@D)/new)
 	$(if $($*_ALSO),$(call try_example,$($*_ALSO),$($*_RUN),$(@D)/new))
 	$($*_CC) $(CPPFLAGS) $(CFLAGS) cross/lists.c $(@D)/new/libcard.a -o $(@D)/new/lists
-	ls $(LISTS)/*.in >$(@D)/new/names
-	$(LIMIT) $($*_RUN) $(@D)/new/lists $(@D)/new/names </dev/null >$(@D)/new/answers
+	$(LIMIT) $($*_RUN) $(@D)/new/lists $(X)/lists </dev/null >$(@D)/new/answers
 	cp $(PROVED_LIB) $(@D)/new/of.a
-	mv $(@D)/new/answers $(@D)/new/of.a $(@D)/new/libcard.a $(@D)
+	mv $(@D)/new/answers $(@D)/new/of.a $(@D)
+	mv $(@D)/new/libcard.a $@
 
 say-card:
 	@missing=$$(cross/missing $(cortex-m4_TOOLS)); if [ -z "$$missing" ]; then \

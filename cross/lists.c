@@ -4,21 +4,23 @@
  *
  *   lists NAMES      NAMES is a file with the name of one NAME.in on each line; NAME.out lies beside it
  *
- * Every call gets the memory at another place than the call before, on each alignment in turn, with the guards' pattern
- * all around it. A call that is refused, or that only looks, has to leave the memory as it was, and no call may change
- * an octet of the pattern. It needs no more of a C library than files, so that it runs on a bare processor too.
+ * Every call gets the memory at another place than the call before, on each alignment in turn, with a pattern all around
+ * it, and so does Start its slice. A call that is refused, or that only looks, has to leave the memory as it was, and no
+ * call may change the slice or an octet of a pattern. It needs no more of a C library than files, so that it runs on a
+ * bare processor too.
  *
  * Exit 0: no difference; 1: a difference; 2: input that cannot be used.
  */
 #include "dp.h"
 
+#include <errno.h>
 #include <stdbool.h>
 #include <stdio.h>
 #include <stdlib.h>
 #include <string.h>
 
 /* Start refuses all that is longer than DP_MEMORY_MAX; some lists lend it more. */
-enum { LONGEST = 2 * DP_MEMORY_MAX, GUARD = 128, ALIGNMENTS = 8 };
+enum { LONGEST = 2 * DP_MEMORY_MAX, GUARD = 512, ALIGNMENTS = 8 };
 
 /* The most numbers that a call takes in a list, and the most octets of its slice. */
 enum { NUMBERS = 8, SLICE = 2 * DP_LENGTH_MAX };
@@ -28,16 +30,19 @@ enum { LINE = 2 * SLICE + 128 };
 
 enum exit_status { SAME = 0, DIFFERENT = 1, UNUSABLE = 2 };
 
-/* ---- The memory ---- */
+/* ---- What is lent ---- */
 
-/* The station's memory between calls; zeros, in which no station was started, before the first Start. */
-static uint8_t kept[LONGEST];
-static size_t kept_len;
+/* Octets lent for one call, from `at` on, in front of and behind a pattern. */
+struct lending {
+    uint8_t *octets;
+    size_t size, at, length;
+};
 
-/* What is lent: the memory somewhere in here, the pattern everywhere else. */
-static uint8_t arena[GUARD + ALIGNMENTS + LONGEST + GUARD];
-static uint8_t *lent;
-static size_t lent_len;
+static uint8_t around_memory[GUARD + ALIGNMENTS + LONGEST + GUARD];
+static struct lending memory = {around_memory, sizeof around_memory, 0, 0};
+
+static uint8_t around_slice[GUARD + ALIGNMENTS + SLICE + GUARD];
+static struct lending slice = {around_slice, sizeof around_slice, 0, 0};
 
 /* Octets that no stray zero, copy or shift repeats by chance. */
 static uint8_t pattern(size_t place)
@@ -45,31 +50,25 @@ static uint8_t pattern(size_t place)
     return (uint8_t)((place * 151 >> 3) ^ 0x5A);
 }
 
-/* Lends a memory on the next alignment. It holds the pattern, too. */
-static void lend(size_t length)
+/* Lends octets on the next alignment, all of them the pattern; whatever was lent before is gone. Answers where. */
+static uint8_t *lend(struct lending *l, size_t length)
 {
-    static size_t turn;
-    for (size_t i = 0; i < sizeof arena; i++)
-        arena[i] = pattern(i);
-    lent = arena + GUARD + turn++ % ALIGNMENTS;
-    lent_len = length;
+    for (size_t i = 0; i < l->size; i++)
+        l->octets[i] = pattern(i);
+    l->at = GUARD + (l->at + 1) % ALIGNMENTS;
+    l->length = length;
+    return l->octets + l->at;
 }
 
-static bool is_guard(const uint8_t *octet)
+/* Whether the pattern around is whole. */
+static bool is_kept_to(const struct lending *l)
 {
-    return octet < lent || octet >= lent + lent_len;
-}
-
-/* What a call did that it must not do, or NULL. same: the memory has to be as it was. */
-static const char *misdeed(bool same, const uint8_t *was)
-{
-    for (size_t i = 0; i < sizeof arena; i++) {
-        if (is_guard(arena + i) && arena[i] != pattern(i))
-            return "changed an octet outside the memory";
+    for (size_t i = 0; i < l->size; i++) {
+        bool is_lent = i >= l->at && i < l->at + l->length;
+        if (!is_lent && l->octets[i] != pattern(i))
+            return false;
     }
-    if (same && memcmp(lent, was, lent_len) != 0)
-        return "changed the memory, which it has to leave as it was";
-    return NULL;
+    return true;
 }
 
 /* ---- The calls ---- */
@@ -80,48 +79,51 @@ struct arguments {
     size_t slice_len;
 };
 
-static int64_t run_start(const struct arguments *a)
+typedef int64_t run(uint8_t *lent, uint64_t lent_len, const struct arguments *a);
+
+static int64_t run_start(uint8_t *lent, uint64_t lent_len, const struct arguments *a)
 {
     const uint32_t *n = a->number;
-    return dp_start(lent, lent_len, n[1], (uint16_t)n[2], n[3], n[4], n[5], n[6], n[7], a->slice, a->slice_len);
+    uint8_t *get_cfg = memcpy(lend(&slice, a->slice_len), a->slice, a->slice_len);
+    return dp_start(lent, lent_len, n[1], (uint16_t)n[2], n[3], n[4], n[5], n[6], n[7], get_cfg, a->slice_len);
 }
 
-static int64_t run_octet(const struct arguments *a)
+static int64_t run_octet(uint8_t *lent, uint64_t lent_len, const struct arguments *a)
 {
     return dp_octet(lent, lent_len, (uint8_t)a->number[0], 0);
 }
 
-static int64_t run_bad(const struct arguments *a)
+static int64_t run_bad(uint8_t *lent, uint64_t lent_len, const struct arguments *a)
 {
     return dp_octet(lent, lent_len, (uint8_t)a->number[0], 1);
 }
 
-static int64_t run_read(const struct arguments *a)
+static int64_t run_read(uint8_t *lent, uint64_t lent_len, const struct arguments *a)
 {
     return dp_read(lent, lent_len, a->number[0], a->number[1]);
 }
 
-static int64_t run_write(const struct arguments *a)
+static int64_t run_write(uint8_t *lent, uint64_t lent_len, const struct arguments *a)
 {
     return dp_write(lent, lent_len, a->number[0], a->number[1], (uint8_t)a->number[2]);
 }
 
-static int64_t run_diag(const struct arguments *a)
+static int64_t run_diag(uint8_t *lent, uint64_t lent_len, const struct arguments *a)
 {
     return dp_new_diagnosis(lent, lent_len, a->number[0], a->number[1]);
 }
 
-static int64_t run_judgeprm(const struct arguments *a)
+static int64_t run_judgeprm(uint8_t *lent, uint64_t lent_len, const struct arguments *a)
 {
     return dp_judge_parameters(lent, lent_len, a->number[0]);
 }
 
-static int64_t run_judgecfg(const struct arguments *a)
+static int64_t run_judgecfg(uint8_t *lent, uint64_t lent_len, const struct arguments *a)
 {
     return dp_judge_configuration(lent, lent_len, a->number[0]);
 }
 
-static int64_t run_ack(const struct arguments *a)
+static int64_t run_ack(uint8_t *lent, uint64_t lent_len, const struct arguments *a)
 {
     return dp_acknowledge(lent, lent_len, (uint16_t)a->number[0]);
 }
@@ -130,7 +132,7 @@ static int64_t run_ack(const struct arguments *a)
    and s a slice in hexadecimal digits. A call with no arguments has `alone` instead of `run`. */
 struct call {
     const char *name, *form;
-    int64_t (*run)(const struct arguments *);
+    run *run;
     int64_t (*alone)(uint8_t *, uint64_t);
     bool looks;
 };
@@ -196,9 +198,11 @@ static bool next_line(struct source *from, char *line)
     if (fgets(line, LINE, from->file) == NULL)
         return false;
     from->line++;
-    size_t count = strcspn(line, "\r\n");
-    if (line[count] == '\0' && count + 1 == LINE)
-        stop(from, "the line is too long", "");
+    size_t count = strcspn(line, "\n");
+    if (line[count] == '\0' && !feof(from->file))
+        stop(from, "the line is too long, or has an octet 0", "");
+    if (count > 0 && line[count - 1] == '\r')
+        count--;
     line[count] = '\0';
     return true;
 }
@@ -285,13 +289,30 @@ static int64_t next_answer(struct source *from)
     char line[LINE], *end;
     if (!next_line(from, line))
         stop(from, "has fewer answers than its list has calls", "");
+    errno = 0;
     int64_t answer = strtoll(line, &end, 10);
-    if (end == line || *end != '\0')
+    if (end == line || *end != '\0' || errno != 0)
         stop(from, "no answer: ", line);
     return answer;
 }
 
 /* ---- Running ---- */
+
+/* The station's memory between calls; zeros, in which no station was started, before the first Start. */
+static uint8_t kept[LONGEST];
+static size_t kept_len;
+
+/* What a call did that it must not do, or NULL. was: how the memory was. */
+static const char *misdeed(const struct call *call, const struct arguments *a, int64_t answer, const uint8_t *was)
+{
+    if (!is_kept_to(&memory) || !is_kept_to(&slice))
+        return "changed an octet outside the memory";
+    if (call->run == run_start && memcmp(slice.octets + slice.at, a->slice, a->slice_len) != 0)
+        return "changed the slice";
+    if ((answer < 0 || call->looks) && memcmp(memory.octets + memory.at, was, memory.length) != 0)
+        return "changed the memory, which it has to leave as it was";
+    return NULL;
+}
 
 /* A Start on a memory of another length gets one of its own, which holds the pattern; it becomes the station's if Start
    answers 0. Every other call gets the station's. */
@@ -299,15 +320,17 @@ static int64_t answered(const struct call *call, const struct arguments *a, cons
 {
     static uint8_t was[LONGEST];
     bool elsewhere = call->run == run_start && a->number[0] != kept_len;
-    lend(elsewhere ? a->number[0] : kept_len);
+    size_t length = elsewhere ? a->number[0] : kept_len;
+    uint8_t *lent = lend(&memory, length);
+    lend(&slice, 0); /* so that no call finds an earlier one's slice */
     if (!elsewhere)
-        memcpy(lent, kept, kept_len);
-    memcpy(was, lent, lent_len);
-    int64_t answer = call->run != NULL ? call->run(a) : call->alone(lent, lent_len);
-    *wrong = misdeed(answer < 0 || call->looks, was);
+        memcpy(lent, kept, length);
+    memcpy(was, lent, length);
+    int64_t answer = call->run != NULL ? call->run(lent, length, a) : call->alone(lent, length);
+    *wrong = misdeed(call, a, answer, was);
     if (answer >= 0) {
-        kept_len = lent_len;
-        memcpy(kept, lent, lent_len);
+        kept_len = length;
+        memcpy(kept, lent, length);
     }
     return answer;
 }
@@ -345,6 +368,8 @@ static bool list_holds(const char *name, unsigned *answers)
         same = holds(&from, line, next_answer(&out));
         *answers += same;
     }
+    if (out.line == 0)
+        stop(&from, "has no call", "");
     if (same && next_line(&out, line))
         stop(&out, "has more answers than its list has calls", "");
     fclose(from.file);
@@ -362,6 +387,8 @@ int main(int argc, char **argv)
     }
     struct source names = opened(argv[1]);
     while (next_line(&names, name)) {
+        if (name[0] == '\0')
+            stop(&names, "an empty line, and no name", "");
         lists++;
         differences += !list_holds(name, &answers);
     }

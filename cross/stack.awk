@@ -2,9 +2,10 @@
 # who calls whom, as the object's relocations tell it. Every function has a section of its own, so that each call of
 # another one has a relocation; widths.awk has seen to it that all are called by their names.
 #
-#   readelf -rW FILE.o | awk -v call=OCTETS -f stack.awk FILE.su -
+#   readelf -rW FILE.o | awk -v call=OCTETS -v below=OCTETS -f stack.awk FILE.su -
 #
-# call: what the processor puts on the stack at a call by itself. Functions of other libraries are not counted.
+# call: what the processor puts on the stack at a call by itself; below: what a function may use below its stack pointer.
+# Functions of other libraries are not counted, nor are arguments that are pushed for a single call (x86-64 alone does).
 
 function fail(what) {
     print "stack.awk: " what >"/dev/stderr"
@@ -46,7 +47,7 @@ END {
     if (failed) exit 1
     for (name in frame) {
         if (name !~ /^dp_/) continue
-        print depth_below(name, 0), name
+        print call + depth_below(name, 0) + below, name
         exported++
     }
     if (exported == 0) fail("no exported call has a frame")

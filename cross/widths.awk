@@ -2,12 +2,13 @@
 #
 # Every line has to be of a form that is named at the end; any other one is told, and the module is refused. So no pointer
 # is made a number or compared, no number is made a pointer, every step in memory counts octets, there is no global and
-# no assembly text, and what is called are functions of the module, by their names, and two of LLVM's own.
+# no assembly text, and what is called are functions of the module, by their names and with the arguments that they are
+# defined for, and two of LLVM's own.
 #
 # How wide a pointer is could then still be seen where one lies in memory. It may lie in two kinds of places only:
 #   a slot     alloca ptr, stored to and loaded from as a pointer, and its address goes nowhere;
 #   a slice    16 octets, a pointer and from octet 8 on a length: copied whole, handed over by its address, and never
-#              taken for anything else.
+#              taken for anything else. The place of its length is stored to and loaded from as a number of 64 bits.
 # With a pointer of 32 bits, octets 4 to 7 of a slice are copied and never looked at.
 
 function tell(n, what) {
@@ -33,15 +34,27 @@ function related(a, b) {
     right[relations] = b
 }
 
-# The arguments of a call, or the parameters of a definition, each with its place. No name has ", " in it.
-function relate_arguments(text,    callee, argument, count, i) {
-    match(text, /@("[^"]+"|[A-Za-z0-9_.]+)\(/)
-    callee = substr(text, RSTART, RLENGTH)
+# The arguments of a call, or the parameters of a definition, each with its place. No name has ", " in it. What it gives
+# and takes, as types: a call has to have those of the definition.
+function relate_arguments(text,    callee, given, argument, count, types, i) {
+    callee = name_in(text)
+    given = substr(text, 1, RSTART - 2)
     count = split(substr(text, RSTART + RLENGTH), argument, ", ")
-    if (text ~ /^define/) within = defined[callee] = callee
-    else called[callee] = NR
-    for (i = 1; i <= count; i++)
+    if (text ~ /^define/) within = callee
+    sub(/.* /, "", given)
+    types = given
+    for (i = 1; i <= count; i++) {
+        types = types " " (match(argument[i], /^(ptr|i[0-9]+)/) ? substr(argument[i], 1, RLENGTH) : "")
         if (argument[i] ~ /^ptr / && variables_of(argument[i])) related(variable[1], callee i)
+    }
+    if (text ~ /^define/) defined[callee] = types
+    else called[NR] = callee types
+}
+
+# A function's name with the parenthesis behind it.
+function name_in(text) {
+    match(text, /@("[^"]+"|[A-Za-z0-9_.]+)\(/)
+    return substr(text, RSTART, RLENGTH)
 }
 
 function relate(text,    count) {
@@ -52,14 +65,25 @@ function relate(text,    count) {
     else if (text ~ /call [^@]*@/ && text !~ /@llvm[.]/) relate_arguments(text)
 }
 
-function spread_slices(    v, i, changed) {
+function spread_slices(    v, i, n, changed) {
     for (v in holder)
         if (!(v in slot)) slice[v] = ++slices
     do {
         changed = 0
         for (i = 1; i <= relations; i++)
-            if ((left[i] in slice) != (right[i] in slice)) slice[left[i]] = slice[right[i]] = changed = 1
+            if ((left[i] in slice) != (right[i] in slice)) {
+                slice[left[i]] = slice[right[i]] = 1
+                changed = 1
+            }
     } while (changed)
+}
+
+# Before anything is checked, since a function's blocks may stand in any order.
+function find_lengths(    n) {
+    for (n = 1; n <= NR; n++) {
+        if (line[n] ~ /^define/) within = name_in(line[n])
+        if (line[n] ~ / = getelementptr / && variables_of(line[n]) && variable[2] in slice) length_of[variable[1]] = 1
+    }
 }
 
 # ---- What is done with slots, slices and their lengths
@@ -86,9 +110,9 @@ function check(n, text,    count) {
         if (!(variable[count] in length_of)) refuse_special(n, 1, count, "is a number or is stored to as one")
     } else if (text ~ / = getelementptr / && variable[2] in slice) {
         if (text !~ /, i64 8$/) tell(n, "a step into a slice, but not to its length")
-        length_of[variable[1]] = 1
-    } else if (text ~ /@llvm[.]memmove/) {
-        if (text !~ /, i64 16, i1 false/) refuse_special(n, 1, count, "is copied, but not as a whole")
+        if (variable[1] in slice) tell(n, "a slice lies in a slice")
+    } else if (text ~ /@llvm[.]memmove/ && text !~ /, i64 16, i1 false/) {
+        refuse_special(n, 1, count, "is copied, but not as a whole")
     } else if (text ~ /call [^@]*@/) {
         for (; count > 0; count--)
             if (!(variable[count] in slice)) refuse_special(n, count, count, "is handed over")
@@ -133,9 +157,9 @@ BEGIN {
     outer[++outers] = "^(source_filename|target datalayout|target triple) = \"[^\"]*\"$"
     outer[++outers] = "^define (internal )?(noundef |zeroext )*(void|" type ") " name \
         "\\((" wanted "(, " wanted ")*)?\\) #[0-9]+ {$"
-    outer[++outers] = "^declare (void|" type ") @llvm[.][^(]*\\(.*\\) #[0-9]+$"
-    outer[++outers] = "^attributes #[0-9]+ = { [^}]* }$"
-    outer[++outers] = "^!(llvm[.]ident|[0-9]+) = !{.*}$"
+    outer[++outers] = "^declare (void|" type ") @llvm[.][a-z0-9.]+\\([a-z0-9 ,()]*\\) #[0-9]+$"
+    outer[++outers] = "^attributes #[0-9]+ = { [^@{}]* }$"
+    outer[++outers] = "^!(llvm[.]ident|[0-9]+) = !{[^@{}]*}$"
 }
 
 { line[NR] = $0 }
@@ -143,20 +167,32 @@ BEGIN {
 /^  / { relate($0) }
 !is_one_of(inner, inners) && !is_one_of(outer, outers) { tell(NR, "not a form that is known") }
 
+# An exported function takes its arguments as a C compiler hands them over, so no slice, and no number that is taken to be
+# widened already.
+function check_definition(n,    count) {
+    within = name_in(line[n])
+    if (line[n] ~ /^define internal /) return
+    count = variables_of(line[n])
+    refuse_special(n, 1, count, "comes from outside")
+    if (line[n] ~ / zeroext /) tell(n, "an exported function relies on its caller to widen a number")
+}
+
+function check_calls(    n, callee) {
+    for (n in called) {
+        callee = substr(called[n], 1, index(called[n], "("))
+        if (!(callee in defined)) tell(n, "a function that is not the module's is called")
+        else if (called[n] != callee defined[callee]) tell(n, "a call with other types than the function's")
+    }
+}
+
 END {
     spread_slices()
+    find_lengths()
     for (n = 1; n <= NR; n++) {
-        if (line[n] ~ /^define/) {
-            match(line[n], /@("[^"]+"|[A-Za-z0-9_.]+)\(/)
-            within = substr(line[n], RSTART, RLENGTH)
-            count = variables_of(line[n])
-            if (line[n] !~ /^define internal /) refuse_special(n, 1, count, "comes from outside")
-        } else if (line[n] ~ /^  /) {
-            check(n, line[n])
-        }
+        if (line[n] ~ /^define/) check_definition(n)
+        else if (line[n] ~ /^  /) check(n, line[n])
     }
-    for (callee in called)
-        if (!(callee in defined)) tell(called[callee], "a function that is not the module's is called")
+    check_calls()
     printf "%d lines, %d pointers' slots, %d complaints\n", NR, slots, complaints
     exit NR == 0 || complaints > 0
 }

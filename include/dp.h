@@ -1,6 +1,6 @@
 /*
- * The DP slave station as firmware in C calls it. The library is target/staticlib/libcard.a for x86-64, and
- * target/cross/NAME/libcard.a for the processor NAME once `make cross` has built and tried it.
+ * The DP slave station as firmware in C calls it. The library is libcard.a, one for each processor; the project's README
+ * says where each lies and what it asks of the firmware.
  *
  * Memory. Every call gets the one memory that the station lives in, as pointer and length: DP_MEMORY_MIN to
  * DP_MEMORY_MAX octets, a multiple of DP_MEMORY_STEP, of any alignment. The station keeps nothing anywhere else: no
