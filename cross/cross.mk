@@ -98,9 +98,8 @@ check-objects: $(X)/x86-64/size $(PROCESSORS:%=$(X)/%/size)
 # the library for x86-64 that it is of.
 $(PROCESSORS:%=$(X)/%/libcard.a): $(X)/%/libcard.a: $(X)/%/card.o $(X)/%/size $(FIRMWARE) examples/card.expected \
     cross/lists.c $(X)/lists $(wildcard $(LISTS)/* cross/bare/*) cross/board
-	@rm -f $@
 	$(call require_tools,$*)
-	rm -rf $(@D)/new && mkdir $(@D)/new
+	rm -rf $@ $(@D)/new && mkdir $(@D)/new
 	$(TOOLCHAIN)/llvm-ar --format=gnu rcsD $(@D)/new/libcard.a $<
 	$(call try_example,$($*_CC),$($*_RUN),$(@D)/new)
 	$(if $($*_ALSO),$(call try_example,$($*_ALSO),$($*_RUN),$(@D)/new))

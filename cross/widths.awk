@@ -9,7 +9,8 @@
 #   a slot     alloca ptr, stored to and loaded from as a pointer, and its address goes nowhere;
 #   a slice    16 octets, a pointer and from octet 8 on a length: copied whole, handed over by its address, and never
 #              taken for anything else. The place of its length is stored to and loaded from as a number of 64 bits.
-# With a pointer of 32 bits, octets 4 to 7 of a slice are copied and never looked at.
+# With a pointer of 32 bits, octets 4 to 7 of a slice are copied and never looked at. That a step stays inside what was
+# lent, so that 32 bits hold it, is proved of the program.
 
 function tell(n, what) {
     printf "%s:%d: %s:%s\n", FILENAME, n, what, line[n] >"/dev/stderr"
@@ -36,13 +37,12 @@ function related(a, b) {
 
 # The arguments of a call, or the parameters of a definition, each with its place. No name has ", " in it. What it gives
 # and takes, as types: a call has to have those of the definition.
-function relate_arguments(text,    callee, given, argument, count, types, i) {
+function relate_arguments(text,    callee, argument, count, types, i) {
     callee = name_in(text)
-    given = substr(text, 1, RSTART - 2)
+    types = substr(text, 1, RSTART - 2)
     count = split(substr(text, RSTART + RLENGTH), argument, ", ")
     if (text ~ /^define/) within = callee
-    sub(/.* /, "", given)
-    types = given
+    sub(/.* /, "", types)
     for (i = 1; i <= count; i++) {
         types = types " " (match(argument[i], /^(ptr|i[0-9]+)/) ? substr(argument[i], 1, RLENGTH) : "")
         if (argument[i] ~ /^ptr / && variables_of(argument[i])) related(variable[1], callee i)
@@ -57,17 +57,17 @@ function name_in(text) {
     return substr(text, RSTART, RLENGTH)
 }
 
-function relate(text,    count) {
-    count = variables_of(text)
+function relate(text) {
+    variables_of(text)
     if (text ~ / = alloca ptr,/) slot[variable[1]] = ++slots
     else if (text ~ /^  store ptr | = load ptr, /) holder[variable[2]] = 1
     else if (text ~ /@llvm[.]memmove.*, i64 16, i1 false/) related(variable[1], variable[2])
     else if (text ~ /call [^@]*@/ && text !~ /@llvm[.]/) relate_arguments(text)
 }
 
-function spread_slices(    v, i, n, changed) {
+function spread_slices(    v, i, changed) {
     for (v in holder)
-        if (!(v in slot)) slice[v] = ++slices
+        if (!(v in slot)) slice[v] = 1
     do {
         changed = 0
         for (i = 1; i <= relations; i++)
