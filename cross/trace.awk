@@ -47,7 +47,7 @@ function set_cycles(at, mnemonic, operands,    several) {
 }
 
 /^ *[0-9a-f]+:\t/ {
-    count = split($0, part, "\t")
+    split($0, part, "\t")
     at = part[1]
     gsub(/[ :]/, "", at)
     at = substr("00000000" at, length(at) + 1)
