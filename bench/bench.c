@@ -34,6 +34,33 @@ PLACE void last_octet_of_slave_diag(uint8_t octet)
     CALL(dp_octet(MEMORY, octet, 0));
 }
 
+/* ---- Calls that end the exchange ---- */
+
+PLACE void vat_judges_bad(void)
+{
+    expect("parameters", CALL(dp_judge_parameters(MEMORY, DP_BAD)), 0);
+}
+
+PLACE void tick_expires(void)
+{
+    CALL(dp_tick(MEMORY));
+}
+
+PLACE void tick_leaves(void)
+{
+    CALL(dp_tick(MEMORY));
+}
+
+PLACE void gap_leaves(void)
+{
+    CALL(dp_gap(MEMORY));
+}
+
+PLACE int64_t last_send_leaves(void)
+{
+    return CALL(dp_send(MEMORY));
+}
+
 /* A telegram and its reply, if it draws one. */
 static void other_telegram(const uint8_t *t, size_t count, void (*last)(uint8_t))
 {
@@ -53,6 +80,49 @@ static void other_telegrams(void)
     other_telegram(slave_diag, sizeof slave_diag, last_octet_of_slave_diag);
 }
 
+/* Parameters that come in the exchange. */
+static void judged_bad(void)
+{
+    start_up();
+    put_parameters(255, 255);
+    vat_judges_bad();
+}
+
+static void watchdog_expires(void)
+{
+    start_up();
+    put_parameters(1, 2);
+    CALL(dp_tick(MEMORY));
+    tick_expires();
+    expect("the events", CALL(dp_events(MEMORY)) & DP_EVENT_BIT(DP_EVENT_WATCHDOG), DP_EVENT_BIT(DP_EVENT_WATCHDOG));
+}
+
+/* Leave master on a busy line is put off: to the next tick, to a gap inside a telegram, to the end of a reply. */
+static void put_off(void (*end)(void))
+{
+    start_up();
+    CALL(dp_gap(MEMORY));
+    octet_of_other_telegram(0x68);
+    CALL(dp_leave_master(MEMORY));
+    end();
+    expect("the outputs taken", CALL(dp_take_outputs(MEMORY)), 2);
+}
+
+static void put_off_to_end_of_reply(void)
+{
+    uint8_t t[TELEGRAM];
+    fill_request(t, 1);
+    start_up();
+    CALL(dp_gap(MEMORY));
+    for (unsigned i = 0; i < TELEGRAM; i++)
+        octet_of_other_telegram(t[i]);
+    CALL(dp_leave_master(MEMORY));
+    for (unsigned i = 1; i < REPLY; i++)
+        CALL(dp_send(MEMORY));
+    expect("the last octet of the reply", last_send_leaves(), 0x16);
+    expect("the outputs taken", CALL(dp_take_outputs(MEMORY)), 2);
+}
+
 static void rare_calls(void)
 {
     for (int i = 0; i < 10; i++) {
@@ -60,6 +130,11 @@ static void rare_calls(void)
         other_telegrams();
         vat_has_diagnosis();
         vat_leaves();
+        judged_bad();
+        watchdog_expires();
+        put_off(tick_leaves);
+        put_off(gap_leaves);
+        put_off_to_end_of_reply();
     }
 }
 

@@ -117,12 +117,17 @@ END {
     place_row("dp_octet", "last_octet_of_chk_cfg", "last, Chk_Cfg")
     place_row("dp_start", "station_starts", "")
     place_row("dp_judge_parameters", "vat_judges", "good")
+    place_row("dp_judge_parameters", "vat_judges_bad", "bad")
     place_row("dp_judge_configuration", "vat_judges", "good")
     place_row("dp_events", "vat_looks_at_events", "")
     place_row("dp_pending", "vat_looks_at_events", "")
     place_row("dp_acknowledge", "vat_looks_at_events", "")
     place_row("dp_new_diagnosis", "vat_has_diagnosis", "")
     place_row("dp_leave_master", "vat_leaves", "in the exchange")
+    place_row("dp_tick", "tick_expires", "the watchdog expires")
+    place_row("dp_tick", "tick_leaves", "Leave master was put off")
+    place_row("dp_gap", "gap_leaves", "Leave master was put off")
+    place_row("dp_send", "last_send_leaves", "Leave master was put off")
     # What the lent state costs once, however many octets follow.
     runs = calls["lent_exchange", "lent no_octets"]
     once = mean(cost["lent_exchange", "lent no_octets"], runs)

@@ -213,15 +213,23 @@ PLACE void vat_looks_at_events(void)
     CALL(dp_acknowledge(MEMORY, word));
 }
 
-/* Set_Prm with a watchdog of 255 x 255 ticks, Chk_Cfg: from a fresh memory into the exchange. */
+void put_parameters(uint8_t factor_1, uint8_t factor_2)
+{
+    uint8_t set_prm[] = {0x68, 0x0C, 0x0C, 0x68, 0x85, 0x82, 0x5D, 0x3D, 0x3E,
+                         0x88, 0x00, 0x00, 0x0B, 0x80, 0xB3, 0x00, 0xA5, 0x16};
+    set_prm[10] = factor_1;
+    set_prm[11] = factor_2;
+    set_prm[16] = (uint8_t)(set_prm[16] + factor_1 + factor_2);
+    acknowledged_at_start_up(set_prm, sizeof set_prm, last_octet_of_set_prm);
+}
+
+/* A watchdog of 255 x 255 ticks, Chk_Cfg: from a fresh memory into the exchange. */
 void start_up(void)
 {
-    static const uint8_t set_prm[] = {0x68, 0x0C, 0x0C, 0x68, 0x85, 0x82, 0x5D, 0x3D, 0x3E,
-                                      0x88, 0xFF, 0xFF, 0x0B, 0x80, 0xB3, 0x00, 0xA3, 0x16};
     static const uint8_t chk_cfg[] = {0x68, 0x09, 0x09, 0x68, 0x85, 0x82, 0x5D, 0x3E,
                                       0x3E, 0x1F, 0x1F, 0x2F, 0x2F, 0x7C, 0x16};
     station_starts();
-    acknowledged_at_start_up(set_prm, sizeof set_prm, last_octet_of_set_prm);
+    put_parameters(255, 255);
     acknowledged_at_start_up(chk_cfg, sizeof chk_cfg, last_octet_of_chk_cfg);
     vat_judges();
     vat_looks_at_events();

@@ -35,7 +35,10 @@ unsigned cycles_asked_for(int argc, char **argv, unsigned otherwise);
 /* From any memory into the exchange. */
 void start_up(void);
 
-/* The same, and inputs are handed over: cycle 1 may follow. */
+/* Set_Prm with a watchdog of that many ticks, the product of the two. */
+void put_parameters(uint8_t factor_1, uint8_t factor_2);
+
+/* From any memory into the exchange, and inputs are handed over: cycle 1 may follow. */
 void begin_exchange(void);
 
 /* The telegram that brings the outputs of a cycle. */
