@@ -69,7 +69,7 @@ $(PROCESSORS:%=$(X)/%/asked): $(X)/%/asked: FORCE
 	@echo '$(CARD_FLAGS)' | $(call keep_if_same,echo '$(CARD_FLAGS)')
 
 # The module's text, and the object for x86-64.
-$(X)/x86-64/card.ll: $(PROVED_LIB) $(X)/toolchain cross/toolchain cross/keep cross/widths.awk
+$(X)/x86-64/card.ll: $(PROVED_LIB) $(X)/toolchain cross/toolchain cross/keep cross/widths.awk cross/cross.mk
 	cross/keep $< $(@D)
 
 # The text names x86-64 in four places. In two of them the processor's own empty module tells what belongs there; the
@@ -80,7 +80,7 @@ $(PROCESSORS:%=$(X)/%/card.o): $(X)/%/card.o: $(X)/x86-64/card.ll $(X)/%/asked c
 	    -e "s|^target triple.*|$$(grep '^target triple' $(@D)/empty.ll)|" \
 	    -e 's/ "probe-stack"="inline-asm"//' -e 's/ "target-cpu"="x86-64"//' \
 	    -e '$(if $($*_TEXT),$$a $($*_TEXT))' $< >$(@D)/card.ll
-	! grep -i 'x86' $(@D)/card.ll
+	@! grep -in 'x86' $(@D)/card.ll || { echo "make: $(@D)/card.ll still names x86-64, as told above" >&2; exit 1; }
 	$(TOOLCHAIN)/clang $($*_FLAGS) $(CARD_FLAGS) $(IR_FLAGS) -fstack-usage -c -x ir $(@D)/card.ll -o $@
 
 $(PROCESSORS:%=$(X)/%/size): $(X)/%/size: $(X)/%/card.o cross/measure cross/stack.awk
@@ -94,8 +94,8 @@ check-objects: $(X)/x86-64/size $(PROCESSORS:%=$(X)/%/size)
 	@cross/refuse $(X)/x86-64/card.ll
 	@awk -f cross/table.awk $^
 
-# The library is there once the example firmware has printed what it has to and every list has its answers. With it lies
-# the library for x86-64 that it is of.
+# The library is there once the example firmware has printed what it has to and every list has its answers. With it lie
+# the library for x86-64 that it is of and the further words that it was built with.
 $(PROCESSORS:%=$(X)/%/libcard.a): $(X)/%/libcard.a: $(X)/%/card.o $(X)/%/size $(FIRMWARE) examples/card.expected \
     cross/lists.c $(X)/lists $(wildcard $(LISTS)/* cross/bare/*) cross/board
 	$(call require_tools,$*)
@@ -106,7 +106,8 @@ $(PROCESSORS:%=$(X)/%/libcard.a): $(X)/%/libcard.a: $(X)/%/card.o $(X)/%/size $(
 	$($*_CC) $(CPPFLAGS) $(CFLAGS) cross/lists.c $(@D)/new/libcard.a -o $(@D)/new/lists
 	$(LIMIT) $($*_RUN) $(@D)/new/lists $(X)/lists </dev/null >$(@D)/new/answers
 	cp $(PROVED_LIB) $(@D)/new/of.a
-	mv $(@D)/new/answers $(@D)/new/of.a $(@D)
+	cp $(@D)/asked $(@D)/new/flags
+	mv $(@D)/new/answers $(@D)/new/of.a $(@D)/new/flags $(@D)
 	mv $(@D)/new/libcard.a $@
 
 say-card:

@@ -47,7 +47,8 @@ static struct lending slice = {around_slice, sizeof around_slice, 0, 0};
 /* Octets that no stray zero, copy or shift repeats by chance. */
 static uint8_t pattern(size_t place)
 {
-    return (uint8_t)((place * 151 >> 3) ^ 0x5A);
+    uint8_t octet = (uint8_t)((place * 151 >> 3) ^ 0x5A);
+    return octet != 0 ? octet : 0xA5;
 }
 
 /* Lends octets on the next alignment, all of them the pattern; whatever was lent before is gone. Answers where. */
@@ -84,8 +85,8 @@ typedef int64_t run(uint8_t *lent, uint64_t lent_len, const struct arguments *a)
 static int64_t run_start(uint8_t *lent, uint64_t lent_len, const struct arguments *a)
 {
     const uint32_t *n = a->number;
-    uint8_t *get_cfg = memcpy(lend(&slice, a->slice_len), a->slice, a->slice_len);
-    return dp_start(lent, lent_len, n[1], (uint16_t)n[2], n[3], n[4], n[5], n[6], n[7], get_cfg, a->slice_len);
+    return dp_start(lent, lent_len, n[1], (uint16_t)n[2], n[3], n[4], n[5], n[6], n[7], slice.octets + slice.at,
+                    slice.length);
 }
 
 static int64_t run_octet(uint8_t *lent, uint64_t lent_len, const struct arguments *a)
@@ -307,7 +308,7 @@ static const char *misdeed(const struct call *call, const struct arguments *a, i
 {
     if (!is_kept_to(&memory) || !is_kept_to(&slice))
         return "changed an octet outside the memory";
-    if (call->run == run_start && memcmp(slice.octets + slice.at, a->slice, a->slice_len) != 0)
+    if (memcmp(slice.octets + slice.at, a->slice, a->slice_len) != 0)
         return "changed the slice";
     if ((answer < 0 || call->looks) && memcmp(memory.octets + memory.at, was, memory.length) != 0)
         return "changed the memory, which it has to leave as it was";
@@ -322,9 +323,9 @@ static int64_t answered(const struct call *call, const struct arguments *a, cons
     bool elsewhere = call->run == run_start && a->number[0] != kept_len;
     size_t length = elsewhere ? a->number[0] : kept_len;
     uint8_t *lent = lend(&memory, length);
-    lend(&slice, 0); /* so that no call finds an earlier one's slice */
     if (!elsewhere)
         memcpy(lent, kept, length);
+    memcpy(lend(&slice, a->slice_len), a->slice, a->slice_len);
     memcpy(was, lent, length);
     int64_t answer = call->run != NULL ? call->run(lent, length, a) : call->alone(lent, length);
     *wrong = misdeed(call, a, answer, was);
@@ -338,7 +339,7 @@ static int64_t answered(const struct call *call, const struct arguments *a, cons
 /* Whether one call is answered as it has to be. */
 static bool holds(const struct source *from, char *line, int64_t expected)
 {
-    struct arguments a;
+    struct arguments a = {{0}, {0}, 0};
     char text[LINE];
     const char *wrong;
     strcpy(text, line);
@@ -377,6 +378,20 @@ static bool list_holds(const char *name, unsigned *answers)
     return same;
 }
 
+/* A length has 64 bits: with more than 32 of them in use it is too long, whatever the lower ones say. */
+static bool lengths_are_whole(void)
+{
+    const uint64_t beyond = UINT64_C(1) << 32;
+    uint8_t *m = lend(&memory, DP_MEMORY_MIN), *get_cfg = lend(&slice, 1);
+    bool start = dp_start(m, beyond + DP_MEMORY_MIN, 5, 1, 1, 1, 7, 1, 6, get_cfg, 1) == -DP_REFUSED_MEMORY_LENGTH;
+    bool long_slice = dp_start(m, DP_MEMORY_MIN, 5, 1, 1, 1, 7, 1, 6, get_cfg, beyond + 1) == -DP_REFUSED_LENGTH;
+    bool started = dp_start(m, DP_MEMORY_MIN, 5, 1, 1, 1, 7, 1, 6, get_cfg, 1) == 0;
+    bool gap = dp_gap(m, beyond + DP_MEMORY_MIN) == -DP_REFUSED_DAMAGED;
+    if (!start || !long_slice || !started || !gap)
+        fprintf(stderr, "a length of more than 32 bits is not taken for what it is\n");
+    return start && long_slice && started && gap;
+}
+
 int main(int argc, char **argv)
 {
     unsigned lists = 0, answers = 0, differences = 0;
@@ -394,6 +409,7 @@ int main(int argc, char **argv)
     }
     if (lists == 0)
         stop(&names, "names no list", "");
+    differences += !lengths_are_whole();
     printf("%u lists, %u answers, %u differences\n", lists, answers, differences);
     return differences == 0 ? SAME : DIFFERENT;
 }

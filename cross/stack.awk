@@ -1,6 +1,6 @@
 # How much stack each exported call of an object can need: by the frame of each function, as the compiler tells it, and by
 # who calls whom, as the object's relocations tell it. Every function has a section of its own, so that each call of
-# another one has a relocation; widths.awk has seen to it that all are called by their names.
+# another one has a relocation; widths.awk has seen to it that all are called by their names, and none by itself.
 #
 #   readelf -rW FILE.o | awk -v call=OCTETS -v below=OCTETS -f stack.awk FILE.su -
 #
@@ -13,12 +13,11 @@ function fail(what) {
     exit 1
 }
 
-function depth_below(name, level,    callees, i, deepest, depth) {
+function depth_below(name,    callees, i, deepest, depth) {
     if (name in depth_of) return depth_of[name]
-    if (level > 100) fail("the calls from " name " do not end")
     split(calls[name], callees, " ")
     for (i in callees) {
-        depth = call + depth_below(callees[i], level + 1)
+        depth = call + depth_below(callees[i])
         if (depth > deepest) deepest = depth
     }
     return depth_of[name] = frame[name] + deepest
@@ -36,18 +35,18 @@ NR == FNR {
     sub(/'$/, "", caller)
     if (is_code && !(caller in frame)) fail("no frame is known of " caller)
 }
-# Any mention of another function counts as a call of it; of itself, the places in a table of jumps do not.
+# Any mention of another function counts as a call of it. Of itself a function has the places in a table of jumps.
 is_code && $5 != "" {
     callee = $5
     sub(/^[.]text[.]/, "", callee)
-    if (callee in frame && (callee != caller || $3 ~ /CALL|JUMP|PLT/)) calls[caller] = calls[caller] " " callee
+    if (callee in frame && callee != caller) calls[caller] = calls[caller] " " callee
 }
 
 END {
     if (failed) exit 1
     for (name in frame) {
         if (name !~ /^dp_/) continue
-        print call + depth_below(name, 0) + below, name
+        print call + depth_below(name) + below, name
         exported++
     }
     if (exported == 0) fail("no exported call has a frame")

@@ -10,7 +10,9 @@
 #   a slice    16 octets, a pointer and from octet 8 on a length: copied whole, handed over by its address, and never
 #              taken for anything else. The place of its length is stored to and loaded from as a number of 64 bits.
 # With a pointer of 32 bits, octets 4 to 7 of a slice are copied and never looked at. That a step stays inside what was
-# lent, so that 32 bits hold it, is proved of the program.
+# lent, so that 32 bits hold it, is proved of the program. How accesses are aligned is not looked at here.
+#
+# Beside that, no function calls itself, also not by way of others: stack.awk relies on it.
 
 function tell(n, what) {
     printf "%s:%d: %s:%s\n", FILENAME, n, what, line[n] >"/dev/stderr"
@@ -35,8 +37,8 @@ function related(a, b) {
     right[relations] = b
 }
 
-# The arguments of a call, or the parameters of a definition, each with its place. No name has ", " in it. What it gives
-# and takes, as types: a call has to have those of the definition.
+# The arguments of a call, or the parameters of a definition, each with its place; and what it gives and takes, as types,
+# since a call has to have those of the definition.
 function relate_arguments(text,    callee, argument, count, types, i) {
     callee = name_in(text)
     types = substr(text, 1, RSTART - 2)
@@ -47,8 +49,12 @@ function relate_arguments(text,    callee, argument, count, types, i) {
         types = types " " (match(argument[i], /^(ptr|i[0-9]+)/) ? substr(argument[i], 1, RLENGTH) : "")
         if (argument[i] ~ /^ptr / && variables_of(argument[i])) related(variable[1], callee i)
     }
-    if (text ~ /^define/) defined[callee] = types
-    else called[NR] = callee types
+    if (text ~ /^define/) {
+        defined[callee] = types
+    } else {
+        called[NR] = callee types
+        callees[within] = callees[within] " " callee
+    }
 }
 
 # A function's name with the parenthesis behind it.
@@ -133,12 +139,13 @@ BEGIN {
     type = "i(1|8|16|32|64)"
     var = "%[A-Za-z0-9._]+"
     value = "(" var "|-?[0-9]+|true|false)"
-    name = "@(\"[^\"]+\"|[A-Za-z0-9_]+|llvm[.]memmove[.]p0[.]p0[.]i64|llvm[.]cttz[.]" type ")"
+    name = "@(\"[a-z0-9_]+(::[A-Za-z0-9_]+)+\"|dp_[a-z_]+|llvm[.]memmove[.]p0[.]p0[.]i64|llvm[.]cttz[.]" type ")"
     given = "(ptr " var "|" type " " value ")"
     wanted = "(ptr|" type ")( noundef| zeroext)* " var
     aligned = ", ptr " var ", align [0-9]+"
+    plain = "([^@{}\"]|\"[^\"]*\")*"
 
-    inner[++inners] = "^  " var " = alloca (ptr|" type "|\\[[0-9]+ x i8\\]), align [0-9]+$"
+    inner[++inners] = "^  " var " = alloca (ptr|" type "|\\[[0-9]?[0-9]?[0-9]?[0-9] x i8\\]), align [0-9]+$"
     inner[++inners] = "^  " var " = load (ptr|" type ")" aligned "(, !range ![0-9]+)?(, !noundef ![0-9]+)?$"
     inner[++inners] = "^  store (ptr " var "|" type " " value ")" aligned "$"
     inner[++inners] = "^  " var " = getelementptr (inbounds )?(nuw )?i8, ptr " var ", i64 " value "$"
@@ -158,8 +165,8 @@ BEGIN {
     outer[++outers] = "^define (internal )?(noundef |zeroext )*(void|" type ") " name \
         "\\((" wanted "(, " wanted ")*)?\\) #[0-9]+ {$"
     outer[++outers] = "^declare (void|" type ") @llvm[.][a-z0-9.]+\\([a-z0-9 ,()]*\\) #[0-9]+$"
-    outer[++outers] = "^attributes #[0-9]+ = { [^@{}]* }$"
-    outer[++outers] = "^!(llvm[.]ident|[0-9]+) = !{[^@{}]*}$"
+    outer[++outers] = "^attributes #[0-9]+ = { " plain " }$"
+    outer[++outers] = "^!(llvm[.]ident|[0-9]+) = !{" plain "}$"
 }
 
 { line[NR] = $0 }
@@ -167,14 +174,29 @@ BEGIN {
 /^  / { relate($0) }
 !is_one_of(inner, inners) && !is_one_of(outer, outers) { tell(NR, "not a form that is known") }
 
-# An exported function takes its arguments as a C compiler hands them over, so no slice, and no number that is taken to be
-# widened already.
+# An exported function takes its arguments as a C compiler hands them over, so no slice, and no number that either side
+# would have to widen for the other.
 function check_definition(n,    count) {
     within = name_in(line[n])
     if (line[n] ~ /^define internal /) return
     count = variables_of(line[n])
     refuse_special(n, 1, count, "comes from outside")
-    if (line[n] ~ / zeroext /) tell(n, "an exported function relies on its caller to widen a number")
+    if (line[n] !~ /^define noundef i64 @dp_/ || line[n] ~ / zeroext /)
+        tell(n, "an exported function relies on who widens a number")
+}
+
+# Whether the calls from a function end; is_open: those on the way to it, ends: those of which it is known.
+function check_ends(n, callee,    list, count, i) {
+    if (callee in ends) return
+    if (callee in is_open) {
+        tell(n, "a function comes to call itself")
+        return
+    }
+    is_open[callee] = 1
+    count = split(callees[callee], list, " ")
+    for (i = 1; i <= count; i++) check_ends(n, list[i])
+    delete is_open[callee]
+    ends[callee] = 1
 }
 
 function check_calls(    n, callee) {
@@ -189,8 +211,12 @@ END {
     spread_slices()
     find_lengths()
     for (n = 1; n <= NR; n++) {
-        if (line[n] ~ /^define/) check_definition(n)
-        else if (line[n] ~ /^  /) check(n, line[n])
+        if (line[n] ~ /^define/) {
+            check_definition(n)
+            check_ends(n, within)
+        } else if (line[n] ~ /^  /) {
+            check(n, line[n])
+        }
     }
     check_calls()
     printf "%d lines, %d pointers' slots, %d complaints\n", NR, slots, complaints
