@@ -56,6 +56,11 @@ PLACE void gap_leaves(void)
     CALL(dp_gap(MEMORY));
 }
 
+PLACE void send_while_put_off(void)
+{
+    CALL(dp_send(MEMORY));
+}
+
 PLACE int64_t last_send_leaves(void)
 {
     return CALL(dp_send(MEMORY));
@@ -118,7 +123,7 @@ static void put_off_to_end_of_reply(void)
         octet_of_other_telegram(t[i]);
     CALL(dp_leave_master(MEMORY));
     for (unsigned i = 1; i < REPLY; i++)
-        CALL(dp_send(MEMORY));
+        send_while_put_off();
     expect("the last octet of the reply", last_send_leaves(), 0x16);
     expect("the outputs taken", CALL(dp_take_outputs(MEMORY)), 2);
 }

@@ -125,9 +125,10 @@ END {
     place_row("dp_new_diagnosis", "vat_has_diagnosis", "")
     place_row("dp_leave_master", "vat_leaves", "in the exchange")
     place_row("dp_tick", "tick_expires", "the watchdog expires")
+    place_row("dp_send", "send_while_put_off", "Leave master is put off")
+    place_row("dp_send", "last_send_leaves", "last, Leave master put off")
     place_row("dp_tick", "tick_leaves", "Leave master was put off")
     place_row("dp_gap", "gap_leaves", "Leave master was put off")
-    place_row("dp_send", "last_send_leaves", "Leave master was put off")
     # What the lent state costs once, however many octets follow.
     runs = calls["lent_exchange", "lent no_octets"]
     once = mean(cost["lent_exchange", "lent no_octets"], runs)
