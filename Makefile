@@ -5,8 +5,8 @@
 #   make cross    the library for the processors of cards, built and tried (see cross/cross.mk)
 #   make install  header, library, the libraries that make cross built, and a pkg-config file, below PREFIX
 #   make clean    removes what this file made; the libraries of x86-64 stay
-# LIB=path takes another library than the repository's for run, check and bench. LENT=path takes another one for the bench loop on the lent state;
-# with LENT= its column stays empty. LISTS=folder takes the lists of calls from another folder.
+# LIB=path takes another library than the repository's for run, check and bench. LENT=path takes another one for the bench
+# loop on the lent state; with LENT= its column stays empty. LISTS=folder takes the lists of calls from another folder.
 
 PROVED_LIB := target/staticlib/libcard.a
 LIB ?= $(PROVED_LIB)
