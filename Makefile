@@ -75,8 +75,8 @@ $(OUT)/lent: bench/lent.c bench/lent.h $(WORKLOAD) $(LIB) $(LENT) $(OUT)/library
 $(OUT)/lists: cross/lists.c $(HEADERS) $(LIB) $(OUT)/library | $(OUT)
 	$(CC) $(CPPFLAGS) $(CFLAGS) $< $(LIB) -o $@
 
-$(OUT)/lists-wrong: cross/lists.c cross/wrong.c $(HEADERS) $(LIB) $(OUT)/library | $(OUT)
-	$(CC) $(CPPFLAGS) $(CFLAGS) cross/lists.c cross/wrong.c $(LIB) \
+$(OUT)/lists-wrong: cross/lists.c cross/wrong-stations.c $(HEADERS) $(LIB) $(OUT)/library | $(OUT)
+	$(CC) $(CPPFLAGS) $(CFLAGS) cross/lists.c cross/wrong-stations.c $(LIB) \
 	    -Wl,--wrap=dp_read,--wrap=dp_write,--wrap=dp_start,--wrap=dp_gap -o $@
 
 check: check-example check-header check-prototypes check-lists
@@ -99,7 +99,7 @@ check-prototypes: | $(OUT)
 # The lists' answers, and that wrong stations are noticed.
 check-lists: $(OUT)/lists $(OUT)/lists-wrong $(X)/lists
 	$(OUT)/lists $(X)/lists
-	cross/notice $(OUT)/lists-wrong $(X)/lists
+	cross/try-wrong-stations $(OUT)/lists-wrong $(X)/lists
 
 bench: $(if $(CARD),cross-tools $(CARDS:%=bench-%),bench-native)
 

@@ -32,7 +32,7 @@ TRACED_CYCLES := 10
 
 # Ends the recipe if a package for one of the named processors is missing.
 define require_tools
-@missing=$$(cross/missing $(foreach card,$(1),$($(card)_TOOLS))); [ -z "$$missing" ] || { \
+@missing=$$(cross/missing-packages $(foreach card,$(1),$($(card)_TOOLS))); [ -z "$$missing" ] || { \
     echo "make: nothing was done. To try $(1) this machine lacks the Debian packages" >&2; \
     echo "    $$missing" >&2; exit 1; }
 endef
@@ -69,8 +69,8 @@ $(PROCESSORS:%=$(X)/%/asked): $(X)/%/asked: FORCE
 	@echo '$(CARD_FLAGS)' | $(call keep_if_same,echo '$(CARD_FLAGS)')
 
 # The module's text, and the object for x86-64.
-$(X)/x86-64/card.ll: $(PROVED_LIB) $(X)/toolchain cross/toolchain cross/keep cross/widths.awk cross/cross.mk
-	cross/keep $< $(@D)
+$(X)/x86-64/card.ll: $(PROVED_LIB) $(X)/toolchain cross/toolchain cross/keep-module cross/widths.awk cross/cross.mk
+	cross/keep-module $< $(@D)
 
 # The text names x86-64 in four places. In two of them the processor's own empty module tells what belongs there; the
 # processor's name and the probing of the stack, by x86-64's instructions, are left out.
@@ -91,7 +91,7 @@ $(X)/x86-64/size: $(X)/x86-64/card.ll cross/measure cross/stack.awk
 	cross/measure $(@D) 8 128 memset >$@
 
 check-objects: $(X)/x86-64/size $(PROCESSORS:%=$(X)/%/size)
-	@cross/refuse $(X)/x86-64/card.ll
+	@cross/try-wrong-modules $(X)/x86-64/card.ll
 	@awk -f cross/table.awk $^
 
 # The library is there once the example firmware has printed what it has to and every list has its answers. With it lie
@@ -111,12 +111,12 @@ $(PROCESSORS:%=$(X)/%/libcard.a): $(X)/%/libcard.a: $(X)/%/card.o $(X)/%/size $(
 	mv $(@D)/new/libcard.a $@
 
 say-card:
-	@missing=$$(cross/missing $(cortex-m4_TOOLS)); if [ -z "$$missing" ]; then \
+	@missing=$$(cross/missing-packages $(cortex-m4_TOOLS)); if [ -z "$$missing" ]; then \
 	    echo "The library for Cortex-M4 is tried too."; else \
 	    echo "The library for Cortex-M4 is not tried: this machine lacks the Debian packages $$missing."; fi
 
 check-card: say-card
-	@[ -n "$$(cross/missing $(cortex-m4_TOOLS))" ] || $(MAKE) cross CARD=cortex-m4
+	@[ -n "$$(cross/missing-packages $(cortex-m4_TOOLS))" ] || $(MAKE) cross CARD=cortex-m4
 
 $(PROCESSORS:%=bench-%): bench-%: $(X)/%/libcard.a bench/bench.c $(WORKLOAD)
 	@$($*_CC) $(CPPFLAGS) $(CFLAGS) bench/bench.c bench/workload.c $< -o $(X)/$*/bench

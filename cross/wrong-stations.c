@@ -1,6 +1,7 @@
 /*
- * Wrong stations, to try lists.c: the real one with the mistake that the environment's WRONG names. cross/notice has what
- * lists.c has to say of each. Linked with -Wl,--wrap=dp_read,--wrap=dp_write,--wrap=dp_start,--wrap=dp_gap.
+ * Wrong stations, to try lists.c: the real one with the mistake that the environment's WRONG names.
+ * cross/try-wrong-stations has what lists.c has to say of each. Linked with
+ * -Wl,--wrap=dp_read,--wrap=dp_write,--wrap=dp_start,--wrap=dp_gap.
  */
 #include "dp.h"
 
