@@ -1,6 +1,7 @@
 # The C side: the example firmware, the library for other processors and the benchmark. All that is made lies below target/.
 #   make run      the library if need be, the example, and its run
-#   make check    the example's output against examples/card.expected, the header in C99 and in C++17, lists of calls
+#   make check    the example's output against examples/card.expected, its GSD file, the header in C99 and in C++17, lists
+#                 of calls
 #   make bench    instructions for each call and on the lent state (needs valgrind), and octets per second
 #   make cross    the library for the processors of cards, built and tried (see cross/cross.mk)
 #   make install  header, library, the libraries that make cross built, and a pkg-config file, below PREFIX
@@ -15,7 +16,7 @@ LISTS ?= tests/vectors
 OUT := target/c
 
 # The base, document 01, is 1.0; with request n of document 02 it becomes 1.n.
-VERSION := 1.0
+VERSION := 1.1
 PREFIX ?= /usr/local
 
 CC := gcc
@@ -35,7 +36,7 @@ WORKLOAD := bench/workload.c bench/workload.h $(HEADERS)
 # The programs whose instructions are counted.
 COUNTED := bench $(if $(LENT),lent)
 
-.PHONY: run check check-example check-header check-prototypes check-lists bench bench-native install clean FORCE
+.PHONY: run check check-example check-gsd check-header check-prototypes check-lists bench bench-native install clean FORCE
 
 # Two runs of rt at once would write to the same files.
 .NOTPARALLEL:
@@ -79,12 +80,17 @@ $(OUT)/lists-wrong: cross/lists.c cross/wrong-stations.c $(HEADERS) $(LIB) $(OUT
 	$(CC) $(CPPFLAGS) $(CFLAGS) cross/lists.c cross/wrong-stations.c $(LIB) \
 	    -Wl,--wrap=dp_read,--wrap=dp_write,--wrap=dp_start,--wrap=dp_gap -o $@
 
-check: check-example check-header check-prototypes check-lists
+check: check-example check-gsd check-header check-prototypes check-lists
 	@echo "check: all as expected"
 
 check-example: $(OUT)/card
 	$(OUT)/card >$(OUT)/card.out
 	diff examples/card.expected $(OUT)/card.out
+
+# The GSD file says of the card what the example starts it with, and a wrong one is noticed.
+check-gsd:
+	awk -f examples/gsd.awk examples/card.h examples/card.gsd
+	examples/try-wrong-gsd
 
 check-header: $(OUT)/header-c99 $(OUT)/header-c++17
 	$(OUT)/header-c99

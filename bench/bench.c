@@ -34,6 +34,16 @@ PLACE void last_octet_of_slave_diag(uint8_t octet)
     CALL(dp_octet(MEMORY, octet, 0));
 }
 
+PLACE void last_octet_in_sync(uint8_t octet)
+{
+    CALL(dp_octet(MEMORY, octet, 0));
+}
+
+PLACE void last_octet_of_sync(uint8_t octet)
+{
+    CALL(dp_octet(MEMORY, octet, 0));
+}
+
 /* ---- Calls that end the exchange ---- */
 
 PLACE void vat_judges_bad(void)
@@ -128,6 +138,39 @@ static void put_off_to_end_of_reply(void)
     expect("the outputs taken", CALL(dp_take_outputs(MEMORY)), 2);
 }
 
+/* ---- Sync ---- */
+
+/* From WAIT_PRM into the exchange, with sync allowed. It goes by none of start_up's places, whose figures stay those of
+   start-ups alone. */
+static void allow_sync(void)
+{
+    static const uint8_t set_prm[] = {0x68, 0x0C, 0x0C, 0x68, 0x85, 0x82, 0x5D, 0x3D, 0x3E,
+                                      0xA8, 0xFF, 0xFF, 0x0B, 0x80, 0xB3, 0x00, 0xC3, 0x16};
+    static const uint8_t chk_cfg[] = {0x68, 0x09, 0x09, 0x68, 0x85, 0x82, 0x5D, 0x3E,
+                                      0x3E, 0x1F, 0x1F, 0x2F, 0x2F, 0x7C, 0x16};
+    other_telegram(set_prm, sizeof set_prm, octet_of_other_telegram);
+    expect("parameters", CALL(dp_judge_parameters(MEMORY, DP_GOOD)), 0);
+    other_telegram(chk_cfg, sizeof chk_cfg, octet_of_other_telegram);
+    expect("configuration", CALL(dp_judge_configuration(MEMORY, DP_GOOD)), 0);
+}
+
+/* Outputs that the first sync holds back and the second one publishes. The telegram finds new inputs, as in the
+   workload. */
+static void outputs_by_sync(void)
+{
+    static const uint8_t sync[] = {0x68, 0x07, 0x07, 0x68, 0xFF, 0x82, 0x46, 0x3A, 0x3E, 0x20, 0x00, 0x5F, 0x16};
+    uint8_t t[TELEGRAM];
+    fill_request(t, 1);
+    allow_sync();
+    other_telegram(sync, sizeof sync, octet_of_other_telegram);
+    CALL(dp_take_outputs(MEMORY));
+    CALL(dp_hand_over_inputs(MEMORY));
+    other_telegram(t, sizeof t, last_octet_in_sync);
+    expect("what is taken in sync", CALL(dp_take_outputs(MEMORY)), 0);
+    other_telegram(sync, sizeof sync, last_octet_of_sync);
+    expect("what is taken after the next sync", CALL(dp_take_outputs(MEMORY)), 1);
+}
+
 static void rare_calls(void)
 {
     for (int i = 0; i < 10; i++) {
@@ -140,6 +183,7 @@ static void rare_calls(void)
         put_off(tick_leaves);
         put_off(gap_leaves);
         put_off_to_end_of_reply();
+        outputs_by_sync(); /* in WAIT_PRM, where the Leave master that was put off ended */
     }
 }
 

@@ -115,6 +115,8 @@ END {
     place_row("dp_octet", "last_octet_of_slave_diag", "last, Slave_Diag")
     place_row("dp_octet", "last_octet_of_set_prm", "last, Set_Prm")
     place_row("dp_octet", "last_octet_of_chk_cfg", "last, Chk_Cfg")
+    place_row("dp_octet", "last_octet_in_sync", "last, Data_Exchange in sync")
+    place_row("dp_octet", "last_octet_of_sync", "last, sync publishes outputs")
     place_row("dp_start", "station_starts", "")
     place_row("dp_judge_parameters", "vat_judges", "good")
     place_row("dp_judge_parameters", "vat_judges_bad", "bad")

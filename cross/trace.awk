@@ -14,9 +14,10 @@ function fail(what) {
     exit failed = 1
 }
 
-# The functions that the library needs from outside count as its own; a jump to one of them may have no name.
+# The functions that the library needs from outside count as its own, and so do those that they call; a jump to one of them
+# may have no name.
 function is_of_library(symbol) {
-    return symbol ~ /^dp_|::|mem(set|clr|cpy|move)|^__|^\[/
+    return symbol ~ /^dp_|::|mem(set|clr|cpy|move)|^_wordcopy_|^__|^\[/
 }
 
 # ---- The disassembly: address, octets and text between tabulators

@@ -8,17 +8,13 @@
 
 #include <stdbool.h>
 
-/* The lengths that the buffers are set up for; those of the outputs and inputs are in card.h. */
-enum { PARAMETER_LEN = 10, CONFIGURATION_LEN = 8, DIAGNOSIS_LEN = 8 };
-
 /* The vat's own diagnosis behind the station's six octets. */
-enum { DIAGNOSIS_BLOCK = 2 };
+enum { DIAGNOSIS_BLOCK = CARD_DIAGNOSIS - DP_DIAGNOSIS_MIN };
 
-/* Set_Prm's octets 0 to 6 are the standard's; the one behind them is this vat's: the highest temperature allowed. */
-enum { PARAMETER_COUNT = 8, PARAMETER_LIMIT = 7 };
+/* The octet behind the standard's seven of Set_Prm is this vat's: the highest temperature allowed. */
+enum { PARAMETER_LIMIT = DP_PARAMETERS_MIN };
 
-/* The modules that this card has: two octets of inputs, two of outputs. */
-static const uint8_t configuration[] = {0x11, 0x21};
+static const uint8_t configuration[] = {CARD_MODULES};
 
 /* The station's whole world. It needs no more than the least length here. */
 static uint8_t memory[DP_MEMORY_MIN];
@@ -68,8 +64,8 @@ static int64_t finished(const char *call, int64_t answer, int64_t foreseen)
 
 void card_power_up(void)
 {
-    CALL(dp_start(MEMORY, CARD_ADDRESS, CARD_IDENT, CARD_OUTPUTS, CARD_INPUTS, PARAMETER_LEN, CONFIGURATION_LEN,
-                  DIAGNOSIS_LEN, configuration, sizeof configuration));
+    CALL(dp_start(MEMORY, CARD_ADDRESS, CARD_IDENT, CARD_OUTPUTS, CARD_INPUTS, CARD_PARAMETERS, CARD_CONFIGURATION,
+                  CARD_DIAGNOSIS, configuration, sizeof configuration));
 }
 
 void card_on_octet(uint8_t octet, uint8_t bad)
@@ -131,7 +127,8 @@ static void print_octets(const uint8_t *octets, size_t count)
         printf(" %02X", octets[i]);
 }
 
-/* The newest outputs; reads after a take are all of one telegram, whatever comes on the line meanwhile. */
+/* The newest outputs; reads after a take are all of one telegram, whatever comes on the line meanwhile. In sync the
+   newest are those that the master's last sync or unsync let through, or the station's zeros. */
 static void obey_outputs(void)
 {
     static const char *const news[] = {"has the same outputs:", "takes new outputs:", "takes the station's zeros:"};
@@ -145,7 +142,7 @@ static void obey_outputs(void)
     run_vat(outputs[OUTPUT_VALVES], outputs[OUTPUT_HEATING]);
 }
 
-/* All inputs are written before they go out together. */
+/* All inputs are written before they go out together. In freeze the newest wait for the next freeze or unfreeze. */
 static void give_inputs(void)
 {
     CALL(dp_write(MEMORY, DP_KIND_INPUTS, INPUT_TEMPERATURE, vat.temperature));
@@ -172,7 +169,7 @@ static void report_diagnosis(void)
     bool hot = vat.limit != 0 && vat.temperature > vat.limit;
     if (hot == vat.reported_hot || !write_diagnosis())
         return;
-    uint32_t count = hot ? DP_DIAGNOSIS_MIN + DIAGNOSIS_BLOCK : DP_DIAGNOSIS_MIN;
+    uint32_t count = hot ? CARD_DIAGNOSIS : DP_DIAGNOSIS_MIN;
     CALL(dp_new_diagnosis(MEMORY, count, hot ? DP_DIAGNOSIS_EXT : 0));
     vat.reported_hot = hot;
     printf("    vat      gives a new diagnosis: %s\n", hot ? "too hot" : "no fault");
@@ -192,7 +189,7 @@ static uint32_t read_set(uint32_t kind, uint8_t *octets, uint32_t set_length)
 
 static bool good_parameters(const uint8_t *octets, uint32_t count)
 {
-    return count == PARAMETER_COUNT && octets[PARAMETER_LIMIT] >= COLD;
+    return count == CARD_PARAMETERS && octets[PARAMETER_LIMIT] >= COLD;
 }
 
 static bool good_configuration(const uint8_t *octets, uint32_t count)
@@ -215,9 +212,9 @@ static void print_judgement(const char *what, const uint8_t *octets, uint32_t co
 /* Reading and judging are one piece: no telegram may put another set in the place of the one that is judged. */
 static void judge_parameters(void)
 {
-    uint8_t octets[PARAMETER_LEN];
+    uint8_t octets[CARD_PARAMETERS];
     lock();
-    uint32_t count = read_set(DP_KIND_PARAMETERS, octets, PARAMETER_LEN);
+    uint32_t count = read_set(DP_KIND_PARAMETERS, octets, CARD_PARAMETERS);
     bool good = good_parameters(octets, count);
     int64_t answer = CALL_UNLESS(DP_REFUSED_JUDGING, dp_judge_parameters(MEMORY, good ? DP_GOOD : DP_BAD));
     unlock();
@@ -228,9 +225,9 @@ static void judge_parameters(void)
 
 static void judge_configuration(void)
 {
-    uint8_t octets[CONFIGURATION_LEN];
+    uint8_t octets[CARD_CONFIGURATION];
     lock();
-    uint32_t count = read_set(DP_KIND_CONFIGURATION, octets, CONFIGURATION_LEN);
+    uint32_t count = read_set(DP_KIND_CONFIGURATION, octets, CARD_CONFIGURATION);
     bool good = good_configuration(octets, count);
     int64_t answer = CALL_UNLESS(DP_REFUSED_JUDGING, dp_judge_configuration(MEMORY, good ? DP_GOOD : DP_BAD));
     unlock();

@@ -4,7 +4,16 @@
 
 #include <stdint.h>
 
+/* What the station is started with. As much of it as a master has to know stands in card.gsd too; make check compares
+   the two. */
 enum { CARD_ADDRESS = 5, CARD_IDENT = 0x80B3, CARD_OUTPUTS = 2, CARD_INPUTS = 2 };
+
+/* The longest sets and the longest diagnosis. Of Set_Prm's octets the first seven are the standard's, of the diagnosis
+   the first six are the station's. */
+enum { CARD_PARAMETERS = 8, CARD_CONFIGURATION = 8, CARD_DIAGNOSIS = 8 };
+
+/* The modules, as Get_Cfg sends them and Chk_Cfg has to bring them: two octets of inputs, two of outputs. */
+#define CARD_MODULES 0x11, 0x21
 
 /* What the transmitter gets when there is nothing to send. */
 enum { CARD_SILENT = -1 };

@@ -24,6 +24,9 @@ static const on_number judgements[] = {dp_judge_parameters, dp_judge_configurati
 static const on_memory memory_alone[] = {dp_gap,    dp_send,    dp_tick,        dp_take_outputs, dp_hand_over_inputs,
                                          dp_events, dp_pending, dp_leave_master};
 
+/* The greatest length that all six can have in the shortest memory. */
+enum { SHORT = 88 };
+
 static uint8_t memory[DP_MEMORY_MAX];
 static const uint8_t get_cfg[DP_LENGTH_MAX] = {0x10};
 
@@ -56,13 +59,14 @@ static void expect_damaged(void)
 
 static void expect_start(void)
 {
-    expect("dp_start, memory too short", started(DP_MEMORY_MIN - DP_MEMORY_STEP, 5, 96), -DP_REFUSED_MEMORY_LENGTH);
-    expect("dp_start, odd memory", started(DP_MEMORY_MIN + 4, 5, 96), -DP_REFUSED_MEMORY_LENGTH);
-    expect("dp_start, address", started(DP_MEMORY_MIN, DP_ADDRESS_MAX + 1, 96), -DP_REFUSED_ADDRESS);
+    expect("dp_start, memory too short", started(DP_MEMORY_MIN - DP_MEMORY_STEP, 5, SHORT), -DP_REFUSED_MEMORY_LENGTH);
+    expect("dp_start, odd memory", started(DP_MEMORY_MIN + 4, 5, SHORT), -DP_REFUSED_MEMORY_LENGTH);
+    expect("dp_start, address", started(DP_MEMORY_MIN, DP_ADDRESS_MAX + 1, SHORT), -DP_REFUSED_ADDRESS);
     expect("dp_start, length", started(DP_MEMORY_MAX, 5, DP_LENGTH_MAX + 1), -DP_REFUSED_LENGTH);
-    expect("dp_start, room", started(DP_MEMORY_MIN, 5, 97), -DP_REFUSED_ROOM);
+    expect("dp_start, room", started(DP_MEMORY_MIN, 5, SHORT + 1), -DP_REFUSED_ROOM);
+    expect("dp_start, room", started(DP_MEMORY_MAX - DP_MEMORY_STEP, 5, DP_LENGTH_MAX), -DP_REFUSED_ROOM);
     expect("dp_start, all lengths 244", started(DP_MEMORY_MAX, DP_ADDRESS_MAX, DP_LENGTH_MAX), 0);
-    expect("dp_start, all lengths 96", started(DP_MEMORY_MIN, 5, 96), 0);
+    expect("dp_start, all lengths 88", started(DP_MEMORY_MIN, 5, SHORT), 0);
 }
 
 static void expect_fresh(void)
@@ -74,8 +78,8 @@ static void expect_fresh(void)
     expect("dp_judge_parameters", dp_judge_parameters(m, n, DP_GOOD), -DP_REFUSED_JUDGING);
     expect("dp_read", dp_read(m, n, DP_KIND_DIAGNOSIS, DP_DIAGNOSIS_MIN - 1), -DP_REFUSED_RANGE);
     expect("dp_read", dp_read(m, n, DP_KIND_PARAMETERS, 0), -DP_REFUSED_ABSENT);
-    expect("dp_write", dp_write(m, n, DP_KIND_INPUTS, 95, 0x21), 0);
-    expect("dp_read", dp_read(m, n, DP_KIND_INPUTS, 95), 0x21);
+    expect("dp_write", dp_write(m, n, DP_KIND_INPUTS, SHORT - 1, 0x21), 0);
+    expect("dp_read", dp_read(m, n, DP_KIND_INPUTS, SHORT - 1), 0x21);
     expect("dp_new_diagnosis", dp_new_diagnosis(m, n, DP_DIAGNOSIS_MIN, DP_DIAGNOSIS_EXT | DP_DIAGNOSIS_STAT), 0);
     expect("dp_events", dp_events(m, n), DP_EVENT_BIT(DP_EVENT_DIAGNOSIS));
     expect("dp_pending", dp_pending(m, n), DP_EVENT_DIAGNOSIS);

@@ -1,6 +1,7 @@
 /*
- * A master that takes the card of card.c through a start-up, some exchanges of data, a diagnosis, a clear, and then
- * falls silent. It prints each telegram; the vat program prints what it sees. Nothing depends on time or chance.
+ * A master that takes the card of card.c through a start-up, some exchanges of data, a diagnosis and a clear, falls
+ * silent, and comes back to run the vat in step with others, by sync and freeze. It prints each telegram; the vat
+ * program prints what it sees. Nothing depends on time or chance.
  */
 #include "card.h"
 
@@ -11,6 +12,12 @@ enum { MASTER = 2, EXTENSION = 0x80, SSAP = 62 };
 enum { SD1 = 0x10, SD2 = 0x68, ED = 0x16 };
 enum { FC_STATUS = 0x49, FC_REQUEST = 0x5D, FC_NO_ANSWER = 0x46 };
 enum { FC_DIAG_FLAG = 0x0A };
+
+/* Set_Prm's octet 0: the master takes the station, with a watchdog; and the commands that it allows itself. */
+enum { PRM_LOCK = 0x80, PRM_WATCHDOG = 0x08, PRM_SYNC = 0x20, PRM_FREEZE = 0x10 };
+
+/* Global_Control's octet 0. */
+enum { CLEAR = 0x02, UNFREEZE = 0x04, FREEZE = 0x08, UNSYNC = 0x10, SYNC = 0x20 };
 
 /* Set_Prm with the watchdog on: 3 x 2 ticks. */
 enum { WATCHDOG_FACTOR_1 = 3, WATCHDOG_FACTOR_2 = 2, WATCHDOG_TICKS = WATCHDOG_FACTOR_1 * WATCHDOG_FACTOR_2 };
@@ -103,23 +110,25 @@ static void slave_diag(void)
     ask_point(CARD_ADDRESS, FC_REQUEST, 60, NULL, 0);
 }
 
-static void set_prm(uint8_t limit)
+/* allowed: PRM_SYNC, PRM_FREEZE, both or 0; limit: the vat's own parameter. */
+static void set_prm(uint8_t allowed, uint8_t limit)
 {
-    const uint8_t data[] = {0x88, WATCHDOG_FACTOR_1, WATCHDOG_FACTOR_2, 0x0B, CARD_IDENT >> 8, CARD_IDENT & 0xFF, 0x01,
-                            limit};
+    const uint8_t status = PRM_LOCK | PRM_WATCHDOG | allowed;
+    const uint8_t data[] = {
+        status, WATCHDOG_FACTOR_1, WATCHDOG_FACTOR_2, 0x0B, CARD_IDENT >> 8, CARD_IDENT & 0xFF, 0x01, limit};
     ask_point(CARD_ADDRESS, FC_REQUEST, 61, data, sizeof data);
 }
 
 static void chk_cfg(void)
 {
-    const uint8_t data[] = {0x11, 0x21};
+    const uint8_t data[] = {CARD_MODULES};
     ask_point(CARD_ADDRESS, FC_REQUEST, 62, data, sizeof data);
 }
 
 /* To all stations of all groups; nobody answers. */
-static void global_control_clear(void)
+static void global_control(uint8_t commands)
 {
-    const uint8_t data[] = {0x02, 0x00};
+    const uint8_t data[] = {commands, 0x00};
     ask_point(127, FC_NO_ANSWER, 58, data, sizeof data);
 }
 
@@ -162,7 +171,7 @@ static void start_up(void)
     title("Slave_Diag: it waits for parameters and has no master (02 05 00 FF).");
     slave_diag();
     title("Set_Prm: a watchdog of 6 ticks, a limit of 1E degrees. The vat program judges.");
-    set_prm(0x1E);
+    set_prm(0, 0x1E);
     vat_cycle();
     title("Chk_Cfg. The vat program judges, and the exchange of data begins.");
     chk_cfg();
@@ -205,7 +214,7 @@ static void clear_and_silence(void)
     data_exchange(0x01, 0x08);
     vat_cycle();
     title("Global_Control: clear. Nobody answers; the station publishes zeros.");
-    global_control_clear();
+    global_control(CLEAR);
     vat_cycle();
     title("Data_Exchange: first valve open, heating 08.");
     data_exchange(0x01, 0x08);
@@ -221,6 +230,58 @@ static void clear_and_silence(void)
     slave_diag();
 }
 
+static void start_up_again(void)
+{
+    title("Set_Prm: sync and freeze are allowed (B8). Chk_Cfg. The exchange of data begins again.");
+    set_prm(PRM_SYNC | PRM_FREEZE, 0x1E);
+    vat_cycle();
+    chk_cfg();
+    vat_cycle();
+}
+
+static void sync_outputs(void)
+{
+    title("Global_Control: sync. From now on outputs are held back.");
+    global_control(SYNC);
+    vat_cycle();
+    title("Data_Exchange, twice: the vat program has the same outputs all the time.");
+    data_exchange(0x01, 0x20);
+    vat_cycle();
+    data_exchange(0x03, 0x10);
+    vat_cycle();
+    title("Global_Control: sync again. The newest outputs are published, both together.");
+    global_control(SYNC);
+    vat_cycle();
+}
+
+static void freeze_inputs(void)
+{
+    title("Global_Control: freeze. Data_Exchange, twice: the card sends the same inputs, and sync goes on.");
+    global_control(FREEZE);
+    data_exchange(0x02, 0x00);
+    vat_cycle();
+    data_exchange(0x02, 0x00);
+    vat_cycle();
+    title("Global_Control: freeze again. Data_Exchange: the card sends the newest inputs.");
+    global_control(FREEZE);
+    data_exchange(0x02, 0x00);
+    vat_cycle();
+    title("Slave_Diag: sync and freeze are on (00 3C 00 02).");
+    slave_diag();
+}
+
+static void end_sync_and_freeze(void)
+{
+    title("Global_Control: unsync and unfreeze. The outputs that were held back are published.");
+    global_control(UNSYNC | UNFREEZE);
+    vat_cycle();
+    title("Data_Exchange: outputs are published at once and the newest inputs are sent, as before.");
+    data_exchange(0x01, 0x08);
+    vat_cycle();
+    title("Slave_Diag: sync and freeze are off (00 0C 00 02).");
+    slave_diag();
+}
+
 int main(void)
 {
     card_power_up();
@@ -228,5 +289,9 @@ int main(void)
     exchange();
     diagnosis();
     clear_and_silence();
+    start_up_again();
+    sync_outputs();
+    freeze_inputs();
+    end_sync_and_freeze();
     return 0;
 }

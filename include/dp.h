@@ -19,6 +19,13 @@
  * are until the next take. The one thing that wants several calls in one piece is reading a set and judging it, see
  * dp_judge_parameters.
  *
+ * Sync and freeze. A master that allows itself these by Set_Prm (octet 0, bits 5 and 4) switches them by
+ * Global_Control, to run several stations in step; the vat program has no part in it. In sync the outputs of
+ * Data_Exchange are held back, later ones in place of earlier ones, until the master's next sync or its unsync
+ * publishes the newest. In freeze the inputs that are sent stay the same until its next freeze or its unfreeze brings
+ * the newest that were handed over. The master's clear publishes zeros at once and empties what is held back. Both
+ * modes end when the exchange of data does, and what is then held back is never published.
+ *
  * Answers. Every call answers an int64_t: 0 or a value as told below, or, refused, the number of the refusal negated.
  * So an answer below 0 is a refusal, and a refused call has changed nothing. If a call could be refused for several
  * reasons it is refused by the lowest number.
@@ -34,8 +41,8 @@ extern "C" {
 
 /* Limits. */
 enum {
-    DP_MEMORY_MIN = 1536,  /* least length of the memory, enough where all six lengths are at most 96 */
-    DP_MEMORY_MAX = 4096,  /* greatest length of the memory */
+    DP_MEMORY_MIN = 1536,  /* least length of the memory, enough where all six lengths are at most 88 */
+    DP_MEMORY_MAX = 4096,  /* greatest length of the memory, enough for all six lengths up to 244 */
     DP_MEMORY_STEP = 8,    /* its length is a multiple of this */
     DP_ADDRESS_MAX = 126,  /* station addresses are 0 to this */
     DP_LENGTH_MAX = 244,   /* greatest length of outputs, inputs, parameters, configuration, diagnosis, Get_Cfg */
@@ -65,11 +72,11 @@ enum dp_refusal {
 enum dp_event {
     DP_EVENT_DATA_EXCH = 1,      /* DATA_EXCH was entered or left */
     DP_EVENT_WATCHDOG = 3,       /* the watchdog expired */
-    DP_EVENT_CONTROL = 8,        /* Global_Control brought a new control octet */
+    DP_EVENT_CONTROL = 8,        /* Global_Control brought a new control octet; a repeated one acts without the event */
     DP_EVENT_CONFIGURATION = 10, /* a configuration set is open; cleared by judging it or when it is dropped */
     DP_EVENT_PARAMETERS = 11,    /* a parameter set is open; likewise */
     DP_EVENT_DIAGNOSIS = 12,     /* the diagnosis buffers changed: a new diagnosis is in effect */
-    DP_EVENT_OUTPUTS = 13        /* outputs were published, by Data_Exchange or as zeros by the station */
+    DP_EVENT_OUTPUTS = 13        /* outputs were published: by Data_Exchange, sync or unsync, or zeros by the station */
 };
 
 /* The bit of an event in the event word and in the mask of dp_acknowledge. */
@@ -98,8 +105,10 @@ enum dp_judgement { DP_BAD = 0, DP_GOOD = 1 };
  * Start: sets a fresh station up in the memory, whatever was there before. It waits for a gap and then for Set_Prm.
  * Data_Exchange brings output_len octets and is answered with input_len (1 to 244 each). A parameter set has at most
  * parameter_len octets (7 to 244), a configuration set configuration_len (1 to 244), a diagnosis diagnosis_len (6 to
- * 244). get_cfg are the get_cfg_len octets (1 to 244) that Get_Cfg sends; they are copied. DP_MEMORY_MIN is room enough
- * where all six lengths are at most 96; DP_MEMORY_MAX always is.
+ * 244). get_cfg are the get_cfg_len octets (1 to 244) that Get_Cfg sends; they are copied. The station needs 128 octets
+ * of the memory and, with each length rounded up to a multiple of 8, four times the outputs, three times the inputs,
+ * parameters and configuration, twice the diagnosis and once Get_Cfg's octets. So DP_MEMORY_MIN is room enough where
+ * all six lengths are at most 88, and DP_MEMORY_MAX always is.
  * Answers 0. Refused by 1, 2, 3, 4.
  */
 int64_t dp_start(uint8_t *memory, uint64_t memory_len, uint32_t address, uint16_t ident, uint32_t output_len,
@@ -135,7 +144,7 @@ int64_t dp_tick(uint8_t *memory, uint64_t memory_len);
 /*
  * Take outputs: the newest whole outputs are now the ones to be read, until the next take.
  * Answers 0 nothing new, and the same outputs stay; 1 new; 2 new, and they are zeros that the station published
- * itself. Refused by 5.
+ * itself. Outputs that sync holds back do not count until they are published. Refused by 5.
  */
 int64_t dp_take_outputs(uint8_t *memory, uint64_t memory_len);
 
@@ -156,7 +165,8 @@ int64_t dp_read(uint8_t *memory, uint64_t memory_len, uint32_t kind, uint32_t in
 int64_t dp_write(uint8_t *memory, uint64_t memory_len, uint32_t kind, uint32_t index, uint8_t octet);
 
 /*
- * Hand over inputs: all that was written goes out together, with the next Data_Exchange.
+ * Hand over inputs: all that was written goes out together, with the next Data_Exchange. In freeze it waits for the
+ * master's next freeze or unfreeze, which brings the newest that was handed over before it.
  * Answers 0. Refused by 5.
  */
 int64_t dp_hand_over_inputs(uint8_t *memory, uint64_t memory_len);

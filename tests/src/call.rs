@@ -17,10 +17,11 @@ pub struct StartValues {
 }
 
 impl StartValues {
-    /// Where the buffers end: document 01, section "The station and its memory".
+    /// Where the buffers end: document 01, section "The station and its memory", with the state part and the fourth
+    /// output buffer of document 02, Req 01.
     pub fn end_of_buffers(&self) -> u64 {
         let rounded = |length: u64| length.div_ceil(8) * 8;
-        64 + 3 * rounded(self.outputs.into())
+        128 + 4 * rounded(self.outputs.into())
             + 3 * rounded(self.inputs.into())
             + 3 * rounded(self.parameters.into())
             + 3 * rounded(self.configuration.into())
@@ -261,6 +262,25 @@ mod tests {
         ];
         for line in lines {
             assert_eq!(parse(line).unwrap().unwrap().to_string(), line);
+        }
+    }
+
+    /// The ends of document 01, each longer by an output buffer and by 64: document 02, Req 01.
+    #[test]
+    fn buffers_end_where_the_documents_say() {
+        for (length, end) in [(88, 1536), (96, 1664), (97, 1792), (244, 4096)] {
+            let values = StartValues {
+                memory: 4096,
+                address: 5,
+                ident: 0,
+                outputs: length,
+                inputs: length,
+                parameters: length,
+                configuration: length,
+                diagnosis: length,
+                get_cfg: vec![0; length as usize],
+            };
+            assert_eq!(values.end_of_buffers(), end, "all lengths {length}");
         }
     }
 

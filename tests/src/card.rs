@@ -37,8 +37,8 @@ mod library {
     }
 }
 
-/// The octets before the buffers: document 01, "The first 64 octets hold the state".
-pub const STATE: usize = 64;
+/// The octets before the buffers: document 02, Req 01, "the state part 128 octets".
+pub const STATE: usize = 128;
 
 const GUARD: usize = 128;
 

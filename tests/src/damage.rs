@@ -1,5 +1,5 @@
 //! Memories that somebody damaged, and lengths that are not the memory's. The second implementation has no memory, so
-//! these checks hold the C library to document 01 alone: an image that is no state's is refused with 5 by every call
+//! these checks hold the C library to the documents alone: an image that is no state's is refused with 5 by every call
 //! but Start and stays as it is; one that is a state's is never refused with 5, whatever is called. Which images are
 //! a state's is said by docs/memory.md (image.rs), and every image here is held to it. In all cases no octet outside
 //! the lent memory is touched and every answer is one that the call can have.
@@ -7,7 +7,7 @@
 use crate::call::{Call, StartValues};
 use crate::card::{call_library, first_change, is_possible, only_looks, Card, Memory, STATE};
 use crate::draft::{self, Draft};
-use crate::image::{is_state, LENGTHS};
+use crate::image::{is_state, FURTHER, LENGTHS};
 use crate::outcome::{Outcome, Tally};
 use crate::random::Random;
 
@@ -28,8 +28,17 @@ const LINES: [[usize; 3]; 2] = [[31, 32, 33], [17, 14, 15]];
 const SETS: [[usize; 2]; 2] = [[58, 59], [60, 61]];
 const DIAGNOSIS: [usize; 2] = [56, 57];
 
-/// Lengths at their limits, at the longest that needs no sum (96) and beside them.
-const LENGTHS_TRIED: [u8; 16] = [0, 1, 5, 6, 7, 32, 88, 95, 96, 97, 128, 200, 243, 244, 245, 255];
+/// The octets that know the four output buffers, each with the most it may be: the buffer that Read_Outputs leaves
+/// from, the roles, the marks; and the modes.
+const OUTPUTS: [(usize, u8); 4] = [(19, 3), (22, 23), (29, 7), (27, 15)];
+
+/// How far apart two octets are that stand at the same place in neighbouring words of eight octets.
+const WORD: usize = 8;
+
+/// Lengths at their limits, at the longest that fits every memory if all are (88) and beside them.
+const LENGTHS_TRIED: [u8; 18] = [
+    0, 1, 5, 6, 7, 32, 87, 88, 89, 95, 96, 97, 128, 200, 243, 244, 245, 255,
+];
 const LENGTHS_TRIALS: usize = 400;
 
 /// Every pair of these values.
@@ -87,7 +96,7 @@ pub struct Trial<'a> {
 }
 
 impl Trial<'_> {
-    /// Each of the 64 state octets in turn, changed to each of its 255 other values or to several of them.
+    /// Each of the 128 state octets in turn, changed to each of its 255 other values or to several of them.
     pub fn change_every_octet(&mut self, all_values: bool) -> Result<(), String> {
         let mut memory = self.card.memory.clone();
         for at in 0..STATE {
@@ -123,14 +132,18 @@ impl Trial<'_> {
         values
     }
 
-    /// Images of chance, and the two that memories have after power comes.
+    /// Images of chance, and the two that memories have after power comes. Half of those of chance have zeros where no
+    /// octet is used, or they would be refused for these alone.
     pub fn random_images(&mut self, count: usize) -> Result<(), String> {
         for number in 0..count {
-            let image = match number {
+            let mut image = match number {
                 0 => vec![0; STATE],
                 1 => vec![0xFF; STATE],
                 _ => self.random.octets(STATE),
             };
+            if number % 2 == 0 {
+                image[FURTHER].fill(0);
+            }
             let refused = self.judge_image(&image, "random image")?;
             if refused {
                 self.tally.add(Outcome::RandomRefused);
@@ -176,6 +189,34 @@ impl Trial<'_> {
         let length = self.values.diagnosis as u8;
         for (count, delayed) in pairs(&[0, 5, 6, length, length + 1]) {
             self.try_octets(&[(DIAGNOSIS[0], count), (DIAGNOSIS[1], delayed)])?;
+        }
+        Ok(())
+    }
+
+    /// The output buffers' octets and the modes, each at its limit and one past it, in every combination.
+    pub fn try_outputs(&mut self) -> Result<(), String> {
+        let tried = |(at, most)| [(at, 0), (at, most), (at, most + 1)];
+        let [sources, roles, marks, modes] = OUTPUTS.map(tried);
+        for source in sources {
+            for role in roles {
+                for mark in marks {
+                    for mode in modes {
+                        self.try_octets(&[source, role, mark, mode])?;
+                    }
+                }
+            }
+        }
+        Ok(())
+    }
+
+    /// Two of the octets that are not used, at the same place in two words: neither their sum nor their difference
+    /// may hide them from a check that takes several at once.
+    pub fn try_unused(&mut self) -> Result<(), String> {
+        for at in FURTHER.start..FURTHER.end - WORD {
+            for value in [0x01, 0x80, 0xFF] {
+                self.try_octets(&[(at, value), (at + WORD, value)])?;
+                self.try_octets(&[(at, value), (at + WORD, 0u8.wrapping_sub(value))])?;
+            }
         }
         Ok(())
     }
@@ -301,12 +342,14 @@ impl Trial<'_> {
         let station = self.values.address as u8;
         let master = self.random.pick(&[0, 1, 2, 3, 60, 125, 126]);
         let outputs = self.random.octets(self.values.outputs as usize);
-        let parameters = draft::good_parameters(self.values.ident, Some((1, 2)), 1);
-        let draft = match self.random.below(5) {
+        let parameters =
+            draft::good_parameters(self.values.ident, Some((1, 2)), 1, draft::ALLOW_BOTH);
+        let draft = match self.random.below(6) {
             0 => Draft::exchange(station, master, outputs),
             1 => Draft::to_point(station, master, draft::SET_PRM, parameters),
             2 => Draft::to_point(station, master, draft::SLAVE_DIAG, Vec::new()),
             3 => Draft::to_point(station, master, draft::GET_CFG, Vec::new()),
+            4 => Draft::global_control(station, master, self.random.octet(), 0),
             _ => Draft::to_point(station, master, draft::READ_OUTPUTS, Vec::new()),
         };
         let octets = draft.octets().into_iter();

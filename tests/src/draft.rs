@@ -17,6 +17,19 @@ pub const STATUS: u8 = 0x49;
 /// Data without acknowledgement, as Global_Control comes.
 pub const UNACKNOWLEDGED: u8 = 0x46;
 
+/// Bits of Set_Prm's octet 0: the pairs of commands that the master may use.
+pub const ALLOW_NONE: u8 = 0;
+pub const ALLOW_SYNC: u8 = 0x20;
+pub const ALLOW_FREEZE: u8 = 0x10;
+pub const ALLOW_BOTH: u8 = ALLOW_SYNC | ALLOW_FREEZE;
+
+/// Bits of Global_Control's octet 0.
+pub const SYNC: u8 = 0x20;
+pub const UNSYNC: u8 = 0x10;
+pub const FREEZE: u8 = 0x08;
+pub const UNFREEZE: u8 = 0x04;
+pub const CLEAR: u8 = 0x02;
+
 #[derive(Clone)]
 pub struct Draft {
     pub form: Form,
@@ -92,11 +105,11 @@ impl Draft {
     }
 }
 
-/// The seven octets of parameters that a station with this ident number finds good.
-pub fn good_parameters(ident: u16, watchdog: Option<(u8, u8)>, group: u8) -> Vec<u8> {
+/// The seven octets of parameters that a station with this ident number finds good; `allowed` are the pairs of commands.
+pub fn good_parameters(ident: u16, watchdog: Option<(u8, u8)>, group: u8, allowed: u8) -> Vec<u8> {
     let [high, low] = ident.to_be_bytes();
     match watchdog {
-        Some((first, second)) => vec![0x88, first, second, 11, high, low, group],
-        None => vec![0x80, 0, 0, 11, high, low, group],
+        Some((first, second)) => vec![0x88 | allowed, first, second, 11, high, low, group],
+        None => vec![0x80 | allowed, 0, 0, 11, high, low, group],
     }
 }

@@ -214,7 +214,7 @@ impl Generator {
     /// reach the limits; 8 outputs are what an SD3 carries.
     fn good_lengths(&mut self) -> [u32; 6] {
         let random = &mut self.random;
-        match random.weighted(&[30, 35, 12, 4, 4, 8, 4]) {
+        match random.weighted(&[30, 35, 12, 10, 4, 8, 4]) {
             0 => [1, 1, 7, 1, 6, 1],
             1 => [
                 random.between(1, 9) as u32,
@@ -225,7 +225,7 @@ impl Generator {
                 random.between(1, 9) as u32,
             ],
             2 => [8, 3, 10, 7, 9, 2],
-            3 => [96; 6],
+            3 => [random.pick(&[88, 88, 96, 96, 97]); 6],
             4 => [244; 6],
             5 => [
                 random.between(1, 244) as u32,
@@ -269,7 +269,10 @@ impl Generator {
             }
         };
         match random.below(9) {
-            0 => values.memory = random.pick(&[0, 8, 64, 1528, 1535, 1537, 2001, 4095, 4097, 4104]),
+            0 => {
+                values.memory =
+                    random.pick(&[0, 8, 64, 128, 1528, 1535, 1537, 2001, 4095, 4097, 4104])
+            }
             1 => values.address = random.pick(&[127, 128, 255, 256, 261, u32::MAX]),
             2 => values.outputs = bad(1),
             3 => values.inputs = bad(1),
@@ -322,7 +325,7 @@ impl Generator {
     fn scenario(&mut self) {
         match self
             .random
-            .weighted(&[10, 14, 22, 10, 10, 8, 10, 10, 6, 1, 6])
+            .weighted(&[10, 14, 22, 10, 10, 8, 10, 10, 6, 1, 6, 12, 10, 10])
         {
             0 => self.reach_exchange(),
             1 => self.delayed_diagnosis(),
@@ -334,7 +337,10 @@ impl Generator {
             7 => self.diagnosis_seen_by_all(),
             8 => self.owner_changes(),
             9 => self.restart(),
-            _ => self.controls(),
+            10 => self.controls(),
+            11 => self.outputs_in_sync(),
+            12 => self.inputs_frozen(),
+            _ => self.modes_that_end(),
         }
     }
 
@@ -559,7 +565,7 @@ impl Generator {
         let weights = match phase {
             Phase::WaitPrm => [45, 6, 6, 12, 5, 3, 3, 3, 4],
             Phase::WaitCfg => [14, 40, 8, 12, 4, 3, 3, 4, 4],
-            Phase::DataExch => [5, 5, 45, 12, 4, 8, 8, 12, 4],
+            Phase::DataExch => [5, 5, 45, 12, 4, 8, 8, 18, 4],
         };
         let mut draft = match self.random.weighted(&weights) {
             0 => self.set_prm(),
@@ -599,13 +605,26 @@ impl Generator {
 
     fn good_set_prm(&mut self, watchdog: Option<(u8, u8)>) -> Draft {
         let group = self.random.pick(&[0, 1, 2, 0x80, 0xFF, 0x55]);
-        let mut data = draft::good_parameters(self.ledger().values.ident, watchdog, group);
+        let allowed = self.allowed_pairs();
+        let ident = self.ledger().values.ident;
+        let mut data = draft::good_parameters(ident, watchdog, group, allowed);
         data[0] |= self.random.below(8) as u8;
         data[3] = self.random.octet();
         let extra = self.random_extra(data.len(), self.ledger().values.parameters as usize);
         data.extend(extra);
         let master = self.owner_or_any();
         Draft::to_point(self.address(), master, draft::SET_PRM, data)
+    }
+
+    /// Mostly both pairs: a station that allows nothing only ignores the commands.
+    fn allowed_pairs(&mut self) -> u8 {
+        let choices = [
+            draft::ALLOW_BOTH,
+            draft::ALLOW_SYNC,
+            draft::ALLOW_FREEZE,
+            draft::ALLOW_NONE,
+        ];
+        choices[self.random.weighted(&[64, 12, 12, 12])]
     }
 
     /// More octets, up to the limit; mostly few, for long telegrams use up the list.
@@ -643,18 +662,16 @@ impl Generator {
 
     fn spoil_parameters(&mut self, data: &mut Vec<u8>) {
         let longest = self.ledger().values.parameters as usize;
-        match self.random.below(13) {
+        match self.random.below(11) {
             0 => data.truncate(self.random.below(7)),
             1 => data.resize(longest + 1 + self.random.below(3), 0x55),
             2 | 3 => data[0] |= 0x40,
             4 => data[0] &= 0x7F,
-            5 => data[0] |= 0x20,
-            6 => data[0] |= 0x10,
-            7 => data[4] ^= 1 << self.random.below(8),
-            8 => data[5] ^= 1 << self.random.below(8),
-            9 => (data[0], data[1]) = (data[0] | 0x08, 0),
-            10 => (data[0], data[2]) = (data[0] | 0x08, 0),
-            11 => (data[0], data[1], data[2]) = (data[0] | 0x08, 1, 1),
+            5 => data[4] ^= 1 << self.random.below(8),
+            6 => data[5] ^= 1 << self.random.below(8),
+            7 => (data[0], data[1]) = (data[0] | 0x08, 0),
+            8 => (data[0], data[2]) = (data[0] | 0x08, 0),
+            9 => (data[0], data[1], data[2]) = (data[0] | 0x08, 1, 1),
             _ => (data[0], data[1], data[2]) = (data[0] & !0x08, 1, 1),
         }
     }
@@ -705,14 +722,11 @@ impl Generator {
     }
 
     fn global_control(&mut self) -> Draft {
-        let control = match self.random.chance(30) {
-            true => self.ledger().stored_control,
-            false => self.random.pick(&[0, 2, 8, 0x20, 0x22, 0xFF]),
-        };
-        let group = match self.random.below(4) {
-            0 => 0,
-            1 => self.ledger().group,
-            2 => !self.ledger().group,
+        let control = self.command();
+        let group = match self.random.below(8) {
+            0..=2 => 0,
+            3..=5 => self.ledger().group,
+            6 => !self.ledger().group,
             _ => self.random.octet(),
         };
         let master = self.likely_master();
@@ -724,6 +738,42 @@ impl Generator {
             _ => {}
         }
         draft
+    }
+
+    /// Octet 0 of Global_Control. Unsync and clear are rare, so that sync stays on for several exchanges and there is
+    /// something to publish.
+    fn command(&mut self) -> u8 {
+        match self.random.weighted(&[20, 30, 5, 16, 6, 4, 14, 5]) {
+            0 => self.ledger().stored_control,
+            1 => draft::SYNC,
+            2 => draft::UNSYNC,
+            3 => draft::FREEZE,
+            4 => draft::UNFREEZE,
+            5 => draft::CLEAR,
+            6 => self.combined_command(),
+            _ => self.random.octet(),
+        }
+    }
+
+    /// Several bits at once: of a pair, of both pairs, with clear.
+    fn combined_command(&mut self) -> u8 {
+        let of_sync = [0, draft::SYNC, draft::UNSYNC, draft::SYNC | draft::UNSYNC];
+        let of_freeze = [
+            0,
+            draft::FREEZE,
+            draft::UNFREEZE,
+            draft::FREEZE | draft::UNFREEZE,
+        ];
+        let sync = self.random.pick(&of_sync);
+        let freeze = self.random.pick(&of_freeze);
+        sync | freeze | self.random.pick(&[0, 0, draft::CLEAR])
+    }
+
+    /// A command of the owner to every station.
+    fn owners_command(&mut self, control: u8) -> Draft {
+        let master = self.owner_or_any();
+        let destination = self.random.pick(&[127, self.address()]);
+        Draft::global_control(destination, master, control, 0)
     }
 
     /// A telegram that is well formed but strange in one or more of its parts.
@@ -1408,5 +1458,177 @@ impl Generator {
                 self.call(Call::Acknowledge(mask));
             }
         }
+    }
+
+    /// Several rounds of sync: outputs are held back, looked for in vain, and published or emptied at last.
+    fn outputs_in_sync(&mut self) {
+        self.be_in_exchange();
+        let begin = self.owners_command(draft::SYNC);
+        self.put_quietly(&begin);
+        for _ in 0..self.random.between(1, 3) {
+            self.exchanges_in_sync();
+            self.look_for_outputs();
+            let control = match self.random.below(10) {
+                0..=4 => draft::SYNC,
+                5 => draft::CLEAR,
+                6 => draft::SYNC | draft::CLEAR,
+                _ => self.combined_command(),
+            };
+            let command = self.owners_command(control);
+            self.put_quietly(&command);
+            self.look_for_outputs();
+        }
+        if self.random.chance(30) {
+            let command = self.owners_command(draft::UNSYNC);
+            self.put_quietly(&command);
+            self.look_for_outputs();
+        }
+    }
+
+    fn be_in_exchange(&mut self) {
+        if self.ledger().phase != Phase::DataExch || self.random.chance(30) {
+            let watchdog = self.any_watchdog();
+            self.reach_exchange_with(watchdog);
+        }
+        self.settle();
+    }
+
+    /// None, one or more: a later one replaces the one before, and one that is spoiled must not touch it.
+    fn exchanges_in_sync(&mut self) {
+        for _ in 0..self.random.below(4) {
+            let mut draft = self.good_exchange();
+            if draft.data.len() == 8 && self.random.chance(40) {
+                draft.form = Form::Sd3;
+            }
+            match self.random.chance(20) {
+                true => self.put_spoiled(&draft.octets()),
+                false => self.put_quietly(&draft),
+            }
+            self.hear_reply();
+            if self.random.chance(20) {
+                self.look_for_outputs();
+            }
+            if self.random.chance(20) {
+                let draft = self.telegram_that_leaves_modes();
+                self.put_quietly(&draft);
+                self.hear_reply();
+            }
+        }
+    }
+
+    /// Commands of another master or to another group, and a Set_Prm with bit 7 clear, whatever it allows.
+    fn telegram_that_leaves_modes(&mut self) -> Draft {
+        let control = self.command();
+        let mut draft = self.owners_command(control);
+        match self.random.below(3) {
+            0 => draft.source = self.other_master(),
+            1 => draft.data[1] = !self.ledger().group,
+            _ => {
+                draft = self.good_set_prm(None);
+                draft.data[0] &= 0x7F;
+            }
+        }
+        draft
+    }
+
+    /// What the vat program and other masters see of the outputs while some are held back.
+    fn look_for_outputs(&mut self) {
+        if self.random.chance(60) {
+            self.call(Call::Events);
+            self.call(Call::Take);
+            let index = self.some_index(1);
+            self.call(Call::Read { kind: 1, index });
+        }
+        if self.random.chance(25) {
+            let draft = match self.random.chance(50) {
+                true => self.without_data(draft::READ_OUTPUTS),
+                false => self.diagnosis_request(),
+            };
+            self.put_quietly(&draft);
+            self.hear_reply();
+        }
+    }
+
+    /// Inputs are handed over while freeze keeps the ones that are sent.
+    fn inputs_frozen(&mut self) {
+        self.be_in_exchange();
+        for _ in 0..self.random.between(2, 4) {
+            self.some_new_inputs();
+            let control = match self.random.below(4) {
+                0 | 1 => draft::FREEZE,
+                2 => draft::UNFREEZE,
+                _ => self.combined_command(),
+            };
+            let command = self.owners_command(control);
+            self.put_quietly(&command);
+            self.some_new_inputs();
+            let draft = match self.random.chance(60) {
+                true => self.good_exchange(),
+                false => self.without_data(draft::READ_INPUTS),
+            };
+            self.put_quietly(&draft);
+            self.hear_quietly();
+        }
+    }
+
+    fn some_new_inputs(&mut self) {
+        if self.random.chance(60) {
+            let octet = self.random.octet();
+            let index = self.random.below(self.ledger().values.inputs as usize) as u32;
+            self.call(Call::Write {
+                kind: 4,
+                index,
+                octet,
+            });
+            self.call(Call::HandOver);
+        }
+    }
+
+    /// Both modes on and outputs held back; then the phase ends them, and the next exchange finds them ended.
+    fn modes_that_end(&mut self) {
+        let watchdog = self.short_watchdog();
+        self.reach_exchange_with(watchdog);
+        let begin = self.owners_command(draft::SYNC | draft::FREEZE);
+        self.put_quietly(&begin);
+        self.exchange_quietly();
+        self.some_new_inputs();
+        self.leave_exchange();
+        self.call(Call::Events);
+        self.call(Call::Take);
+        if self.random.chance(60) {
+            self.reach_exchange_with(None);
+            self.exchange_quietly();
+            self.call(Call::Take);
+            let index = self.some_index(1);
+            self.call(Call::Read { kind: 1, index });
+        }
+    }
+
+    fn exchange_quietly(&mut self) {
+        let draft = self.good_exchange();
+        self.put_quietly(&draft);
+        self.hear_quietly();
+    }
+
+    fn leave_exchange(&mut self) {
+        let draft = match self.random.below(7) {
+            0 | 1 => self.good_chk_cfg(),
+            2 => self.good_set_prm(None),
+            3 => self.spoiled_set_prm(),
+            4 => Draft {
+                form: Form::Sd1,
+                ..self.good_exchange()
+            },
+            5 => return self.call(Call::Leave),
+            _ => return self.ticks(),
+        };
+        self.put_quietly(&draft);
+        self.hear_quietly();
+    }
+
+    fn spoiled_set_prm(&mut self) -> Draft {
+        let mut draft = self.good_set_prm(None);
+        self.spoil_parameters(&mut draft.data);
+        draft
     }
 }

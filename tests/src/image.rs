@@ -1,22 +1,26 @@
 //! Which octets are the state part of a memory that is not damaged: docs/memory.md, octet by octet. The library has to refuse every
 //! other image with 5, and no image that is one.
 
+use crate::card::STATE;
+use std::ops::Range;
+
 /// The phase of reading and the stage of sending from which on data octets are counted.
 const READING_DATA: u8 = 9;
 const SENDING_DATA: u8 = 7;
 
 /// The most that the codes may be, octets 16 to 31.
-const CODES: [u8; 16] = [3, 10, 8, 2, 126, 2, 23, 11, 5, 5, 7, 1, 1, 0, 3, 12];
+const CODES: [u8; 16] = [3, 10, 8, 3, 126, 2, 23, 11, 5, 5, 7, 15, 1, 7, 3, 12];
 
 /// Where the lengths begin, and the least of each; they go to 244.
 pub const LENGTHS: usize = 48;
 const LEAST: [u8; 6] = [1, 1, 7, 1, 6, 1];
 
 /// How many buffers there are of each length.
-const BUFFERS: [usize; 6] = [3, 3, 3, 3, 2, 1];
+const BUFFERS: [usize; 6] = [4, 3, 3, 3, 2, 1];
 
-/// Octets that are not used, beside that among the codes.
+/// Octets that are not used: behind the lengths, behind the counts, and all that follow.
 const UNUSED: [usize; 4] = [54, 55, 62, 63];
+pub const FURTHER: Range<usize> = 64..STATE;
 
 /// Whether the image is a state's whose roles, lengths and counts keep the rules, with buffers that end in the memory.
 pub fn is_state(image: &[u8], memory_length: usize) -> bool {
@@ -30,7 +34,7 @@ pub fn is_state(image: &[u8], memory_length: usize) -> bool {
         && none_or(6, image[57], image[52])
         && set_counts(7, image[58], image[59], image[50])
         && set_counts(1, image[60], image[61], image[51])
-        && UNUSED.iter().all(|at| image[*at] == 0)
+        && UNUSED.into_iter().chain(FURTHER).all(|at| image[at] == 0)
 }
 
 fn lengths(image: &[u8]) -> bool {
@@ -40,9 +44,10 @@ fn lengths(image: &[u8]) -> bool {
 
 fn end_of_buffers(image: &[u8]) -> usize {
     let each = image[LENGTHS..].iter().zip(BUFFERS);
-    64 + each
-        .map(|(length, count)| usize::from(*length).div_ceil(8) * 8 * count)
-        .sum::<usize>()
+    STATE
+        + each
+            .map(|(length, count)| usize::from(*length).div_ceil(8) * 8 * count)
+            .sum::<usize>()
 }
 
 /// Of the telegram that is read or of the reply: no data octet is done before the data, and never more than there are.
@@ -59,5 +64,52 @@ fn set_counts(least: u8, shown: u8, waiting: u8, length: u8) -> bool {
     match shown {
         0 => waiting == 0,
         _ => (least..=length).contains(&shown) && none_or(least, waiting, length),
+    }
+}
+
+#[cfg(test)]
+mod tests {
+    use super::*;
+
+    /// Roles, codes and marks 0, the least lengths, diagnosis count 6.
+    fn fresh() -> Vec<u8> {
+        let mut image = vec![0; STATE];
+        image[LENGTHS..LENGTHS + LEAST.len()].copy_from_slice(&LEAST);
+        image[56] = 6;
+        image
+    }
+
+    fn is_state_with(octets: &[(usize, u8)]) -> bool {
+        let mut image = fresh();
+        for (at, octet) in octets {
+            image[*at] = *octet;
+        }
+        is_state(&image, 1536)
+    }
+
+    #[test]
+    fn codes_go_up_to_their_limits() {
+        assert!(is_state_with(&[]));
+        for (at, most) in (16..32).zip(CODES) {
+            assert!(is_state_with(&[(at, most)]), "octet {at}");
+            assert!(!is_state_with(&[(at, most + 1)]), "octet {at}");
+        }
+    }
+
+    #[test]
+    fn octets_that_are_not_used_are_zero() {
+        for at in UNUSED.into_iter().chain(FURTHER) {
+            assert!(!is_state_with(&[(at, 1)]), "octet {at}");
+            assert!(!is_state_with(&[(at, 0x80)]), "octet {at}");
+        }
+    }
+
+    #[test]
+    fn all_lengths_88_fit_the_shortest_memory_and_89_do_not() {
+        let all = |length| -> Vec<(usize, u8)> {
+            (LENGTHS..LENGTHS + 6).map(|at| (at, length)).collect()
+        };
+        assert!(is_state_with(&all(88)));
+        assert!(!is_state_with(&all(89)));
     }
 }

@@ -1,8 +1,9 @@
-//! A second implementation of the station: the ledger of document 01 (section "The ledger"), on lists.
+//! A second implementation of the station: the ledger of document 01 (section "The ledger") with Req 01 of document 02,
+//! on lists.
 //!
 //! It is fed the arguments of the calls alone and has no memory, no buffers and no roles. A telegram's octets are
-//! gathered and acted on whole at the last one; a reply is fixed whole when it is drawn. Where document 01 can be read
-//! in more than one way the comment at the place says which reading is taken.
+//! gathered and acted on whole at the last one; a reply is fixed whole when it is drawn. Where a document can be read in
+//! more than one way the comment at the place says which reading is taken.
 //!
 //! `notes` tells the table of outcomes what happened. No rule looks at it.
 
@@ -43,6 +44,17 @@ const NO_EVENT: i64 = 16;
 
 const NO_OCTET_LEFT: i64 = 256;
 
+/// Octet 0 of Set_Prm: the pairs of commands that the master may use.
+const ALLOW_SYNC: u8 = 0x20;
+const ALLOW_FREEZE: u8 = 0x10;
+
+/// Octet 0 of Global_Control.
+const COMMAND_SYNC: u8 = 0x20;
+const COMMAND_UNSYNC: u8 = 0x10;
+const COMMAND_FREEZE: u8 = 0x08;
+const COMMAND_UNFREEZE: u8 = 0x04;
+const COMMAND_CLEAR: u8 = 0x02;
+
 const FLAG_EXT_DIAG: u32 = 1;
 const FLAG_STAT_DIAG: u32 = 2;
 const FLAG_OVERFLOW: u32 = 4;
@@ -73,6 +85,8 @@ pub struct Outputs {
     pub held: Vec<u8>,
     pub next: Vec<u8>,
     pub news: News,
+    /// The outputs that sync holds back, if there are any.
+    pub held_back: Option<Vec<u8>>,
 }
 
 /// The controller sends `sent`, which document 01 calls the fill buffer of the inputs.
@@ -82,6 +96,21 @@ pub struct Inputs {
     pub next: Vec<u8>,
     pub held: Vec<u8>,
     pub next_is_new: bool,
+}
+
+/// Sync or freeze.
+#[derive(Clone, Copy, Default)]
+pub struct Mode {
+    /// By the last good Set_Prm. It outlives the mode: only the next good Set_Prm changes it.
+    pub allowed: bool,
+    pub on: bool,
+}
+
+/// What the bits of a pair come to.
+#[derive(Clone, Copy, PartialEq, Eq)]
+enum Command {
+    Begin,
+    End,
 }
 
 /// Sets of parameters or of configuration: one that the user judges, and one that waits behind it.
@@ -137,9 +166,10 @@ pub struct Ledger {
     pub watchdog: Option<Watchdog>,
     pub prm_fault: bool,
     pub cfg_fault: bool,
-    pub not_supported: bool,
     pub parameter_ok: bool,
     pub diag_flag: bool,
+    pub sync: Mode,
+    pub freeze: Mode,
     pub outputs: Outputs,
     pub inputs: Inputs,
     pub parameters: Sets,
@@ -193,7 +223,10 @@ fn accepted_start(values: &StartValues) -> Vec<Outcome> {
     if values.end_of_buffers() == values.memory as u64 {
         reached.push(Outcome::StartExactFit);
     }
-    if all_lengths_are(values, 96) && values.memory == 1536 {
+    if all_lengths_are(values, 88) && values.memory == 1536 {
+        reached.push(Outcome::StartAll88);
+    }
+    if all_lengths_are(values, 96) && values.memory == 1664 {
         reached.push(Outcome::StartAll96);
     }
     if all_lengths_are(values, 244) {
@@ -253,7 +286,7 @@ fn length_refusal(values: &StartValues) -> Option<Refusal> {
 /// Start, and the calls by their names.
 impl Ledger {
     /// Document 01, "The station and its memory": WAIT_PRM without publishing, no owner, nothing new or shown,
-    /// diagnosis count 6, no flags, no events; octets are ignored until a gap.
+    /// diagnosis count 6, no flags, no events; octets are ignored until a gap. No mode is on or allowed.
     fn start(values: &StartValues) -> Result<Ledger, Refusal> {
         if let Some(refusal) = start_refusal(values) {
             return Err(refusal);
@@ -267,13 +300,15 @@ impl Ledger {
             watchdog: None,
             prm_fault: false,
             cfg_fault: false,
-            not_supported: false,
             parameter_ok: false,
             diag_flag: false,
+            sync: Mode::default(),
+            freeze: Mode::default(),
             outputs: Outputs {
                 held: zeros(values.outputs),
                 next: zeros(values.outputs),
                 news: News::Nothing,
+                held_back: None,
             },
             inputs: Inputs {
                 sent: zeros(values.inputs),
@@ -459,7 +494,9 @@ impl Ledger {
             (Place::Last, _) => Outcome::BreakLast,
             (place, _) => unreachable!("no telegram breaks off at {place:?}"),
         };
+        let spoilt_in_sync = outcome == Outcome::BreakCheckSum && self.holds_back();
         self.note(outcome);
+        self.note_if(spoilt_in_sync, Outcome::BreakCheckSumInSync);
     }
 }
 
@@ -739,11 +776,11 @@ impl Ledger {
             return self.enter_wait_prm();
         }
         if !bit(7) {
+            let in_exchange = self.phase == Phase::DataExch;
+            let other_pairs = allowed_pairs(data) != (self.sync.allowed, self.freeze.allowed);
             self.note(Outcome::PrmBit7Clear);
+            self.note_if(in_exchange && other_pairs, Outcome::PrmBit7ClearOtherPairs);
             return self.reply_e5();
-        }
-        if bit(5) || bit(4) {
-            return self.prm_not_supported(bit(5), bit(4));
         }
         match prm_content_fault(&self.values, data) {
             Some(cause) => self.prm_fault(cause),
@@ -759,33 +796,27 @@ impl Ledger {
         self.enter_wait_prm();
     }
 
-    fn prm_not_supported(&mut self, bit5: bool, bit4: bool) {
-        self.note_if(bit5, Outcome::PrmBit5);
-        self.note_if(bit4, Outcome::PrmBit4);
-        self.reply_e5();
-        self.not_supported = true;
-        self.enter_wait_prm();
-    }
-
     fn prm_good(&mut self, telegram: &Telegram, data: &[u8]) {
         self.note_prm_good(telegram, data);
+        self.note_pairs_allowed(data);
+        self.note_modes_end(Outcome::SyncEndsSetPrm, Outcome::FreezeEndsSetPrm);
         self.reply_e5();
         self.owner = Some(source(telegram));
         self.last_owner = self.owner;
         self.enter_wait_cfg();
         self.prm_fault = false;
         self.cfg_fault = false;
-        self.not_supported = false;
         self.parameter_ok = false;
         self.drop_configuration();
         self.group = data[6];
+        (self.sync.allowed, self.freeze.allowed) = allowed_pairs(data);
         self.watchdog = prm_watchdog(data);
         self.show_parameters(data);
     }
 
     fn note_prm_good(&mut self, telegram: &Telegram, data: &[u8]) {
         let master = source(telegram);
-        let faulty = self.prm_fault || self.cfg_fault || self.not_supported;
+        let faulty = self.prm_fault || self.cfg_fault;
         let other_master = self.last_owner.is_some_and(|last| last != master);
         let full_length = data.len() == self.values.parameters as usize;
         let ticks = prm_watchdog(data).map_or(0, |watchdog| watchdog.period);
@@ -807,6 +838,23 @@ impl Ledger {
         self.note_if(self.clear_noted, Outcome::NotedOverSetPrm);
         self.note_if(self.configuration.shown.is_some(), Outcome::PrmDropsCfg);
     }
+
+    fn note_pairs_allowed(&mut self, data: &[u8]) {
+        let (sync, freeze) = allowed_pairs(data);
+        let withdrawn = self.sync.allowed && !sync || self.freeze.allowed && !freeze;
+        self.note(match (sync, freeze) {
+            (true, true) => Outcome::PrmAllowsBoth,
+            (true, false) => Outcome::PrmAllowsSync,
+            (false, true) => Outcome::PrmAllowsFreeze,
+            (false, false) => Outcome::PrmAllowsNone,
+        });
+        self.note_if(withdrawn, Outcome::PrmWithdraws);
+    }
+}
+
+/// Whether sync and freeze are allowed.
+fn allowed_pairs(data: &[u8]) -> (bool, bool) {
+    (data[0] & ALLOW_SYNC != 0, data[0] & ALLOW_FREEZE != 0)
 }
 
 fn prm_content_fault(values: &StartValues, data: &[u8]) -> Option<Outcome> {
@@ -857,6 +905,7 @@ impl Ledger {
             return self.enter_wait_prm();
         }
         self.note_cfg_good(telegram, data);
+        self.note_modes_end(Outcome::SyncEndsChkCfg, Outcome::FreezeEndsChkCfg);
         self.enter_wait_cfg();
         self.show_configuration(data);
     }
@@ -884,31 +933,57 @@ impl Ledger {
                 Form::Sd1 => Outcome::DxCountSd1,
                 _ => Outcome::DxCount,
             });
+            self.note_if(self.holds_back(), Outcome::DxCountInSync);
             self.reply_rs(telegram);
             self.cfg_fault = true;
             return self.enter_wait_prm();
         }
-        self.note_accepted(telegram);
-        self.publish(telegram.data.clone(), News::FromMaster);
-        self.send_new_inputs();
+        self.note_inputs_sent();
+        if self.sync.on {
+            self.note_held_back(telegram);
+            self.outputs.held_back = Some(telegram.data.clone());
+        } else {
+            self.note_published(telegram);
+            self.publish(telegram.data.clone(), News::FromMaster);
+        }
+        if !self.freeze.on {
+            self.bring_new_inputs();
+        }
         self.reply_inputs(telegram);
     }
 
-    fn note_accepted(&mut self, telegram: &Telegram) {
-        self.note(match self.inputs.next_is_new {
-            true => Outcome::DxNewInputs,
-            false => Outcome::DxOldInputs,
+    fn note_inputs_sent(&mut self) {
+        self.note(match (self.freeze.on, self.inputs.next_is_new) {
+            (false, true) => Outcome::DxNewInputs,
+            (false, false) => Outcome::DxOldInputs,
+            (true, true) => Outcome::DxFrozenNewInputs,
+            (true, false) => Outcome::DxFrozenOldInputs,
         });
         self.note(match self.diag_flag {
             true => Outcome::DxDiagFlag,
             false => Outcome::DxPlain,
         });
+    }
+
+    fn note_published(&mut self, telegram: &Telegram) {
         self.note_if(telegram.form == Form::Sd3, Outcome::DxBySd3);
         self.note_if(telegram.data.len() == 244, Outcome::Dx244);
         self.note_if(self.outputs.news != News::Nothing, Outcome::DxReplaces);
     }
 
-    fn send_new_inputs(&mut self) {
+    fn note_held_back(&mut self, telegram: &Telegram) {
+        self.note(match self.holds_back() {
+            true => Outcome::DxHeldBackReplaces,
+            false => Outcome::DxHeldBack,
+        });
+        let not_taken = self.outputs.news != News::Nothing;
+        self.note_if(not_taken, Outcome::DxHeldBackBehindNew);
+        self.note_if(self.freeze.on, Outcome::DxHeldBackFrozen);
+        self.note_if(telegram.form == Form::Sd3, Outcome::DxHeldBackBySd3);
+        self.note_if(telegram.data.len() == 244, Outcome::DxHeldBack244);
+    }
+
+    fn bring_new_inputs(&mut self) {
         if self.inputs.next_is_new {
             swap(&mut self.inputs.sent, &mut self.inputs.next);
             self.inputs.next_is_new = false;
@@ -955,9 +1030,19 @@ impl Ledger {
         self.note_if(self.diagnosis.count > DIAGNOSIS_HEAD, Outcome::DiagLong);
         self.note_if(self.cfg_fault, Outcome::DiagCfgFault);
         self.note_if(self.prm_fault, Outcome::DiagPrmFault);
-        self.note_if(self.not_supported, Outcome::DiagNotSupported);
         self.note_if(self.watchdog.is_some(), Outcome::DiagWatchdog);
         self.note_if(self.phase == Phase::DataExch, Outcome::DiagInExchange);
+        self.note_modes_shown();
+    }
+
+    /// The diagnosis shows the modes, not what is allowed.
+    fn note_modes_shown(&mut self) {
+        let only_allowed = |mode: Mode| mode.allowed && !mode.on;
+        self.note_if(self.sync.on && !self.freeze.on, Outcome::DiagSync);
+        self.note_if(self.freeze.on && !self.sync.on, Outcome::DiagFreeze);
+        self.note_if(self.sync.on && self.freeze.on, Outcome::DiagBothModes);
+        self.note_if(only_allowed(self.sync), Outcome::DiagSyncOnlyAllowed);
+        self.note_if(only_allowed(self.freeze), Outcome::DiagFreezeOnlyAllowed);
     }
 
     fn flag(&self, flag: u32) -> bool {
@@ -970,12 +1055,13 @@ impl Ledger {
         let octet0 = bit(1, self.phase != Phase::DataExch)
             | bit(2, self.cfg_fault)
             | bit(3, self.flag(FLAG_EXT_DIAG))
-            | bit(4, self.not_supported)
             | bit(6, self.prm_fault);
         let octet1 = bit(0, self.phase == Phase::WaitPrm)
             | bit(1, self.flag(FLAG_STAT_DIAG))
             | bit(2, true)
-            | bit(3, self.watchdog.is_some());
+            | bit(3, self.watchdog.is_some())
+            | bit(4, self.freeze.on)
+            | bit(5, self.sync.on);
         let octet2 = bit(7, self.flag(FLAG_OVERFLOW));
         let octet3 = self.owner.unwrap_or(0xFF);
         let [high, low] = self.values.ident.to_be_bytes();
@@ -996,7 +1082,9 @@ impl Ledger {
             self.note(Outcome::ReadInputsRs);
             return self.reply_rs(telegram);
         }
+        let frozen_new = self.freeze.on && self.inputs.next_is_new;
         self.note(Outcome::ReadInputs);
+        self.note_if(frozen_new, Outcome::ReadInputsFrozen);
         let data = self.inputs.sent.clone();
         self.reply_from_point(telegram, POINT_READ_INPUTS, &data, Drawn::Inputs);
     }
@@ -1007,37 +1095,95 @@ impl Ledger {
             return self.reply_rs(telegram);
         }
         self.note(Outcome::ReadOutputs);
+        self.note_if(self.holds_back(), Outcome::ReadOutputsHeldBack);
         let data = self.outputs.held.clone();
         self.reply_from_point(telegram, POINT_READ_OUTPUTS, &data, Drawn::ReadOutputs);
     }
+}
 
-    /// Bit 1 publishes zeros whenever the telegram passes the group test, whether octet 0 is new or not.
+/// Global_Control, with the commands of document 02, Req 01.
+impl Ledger {
+    /// The commands act whenever the telegram passes the group test, whether octet 0 is new or not. Octet 0 is compared
+    /// and stored whole, with the bits of a pair that is not allowed.
     fn global_control(&mut self, telegram: &Telegram, extended: &Extended) {
         let [control, addressed] = extended.data else {
             return self.note(Outcome::GcCount);
         };
         if !self.is_owner(telegram) {
+            self.note_if(self.holds_back(), Outcome::GcNotOwnerInSync);
             return self.note(Outcome::GcNotOwner);
         }
         if self.phase != Phase::DataExch {
             return self.note(Outcome::GcNotExchange);
         }
         if *addressed != 0 && addressed & self.group == 0 {
+            self.note_if(self.holds_back(), Outcome::GcGroupInSync);
             return self.note(Outcome::GcGroup);
         }
         self.note_global_control(telegram, *control, *addressed);
+        self.note_pairs_commanded(*control);
         if *control != self.stored_control {
             self.stored_control = *control;
             self.set_event(EVENT_CONTROL);
         }
-        if control & 0x02 != 0 {
+        if let Some(command) = self.sync_command(*control) {
+            self.carry_out_sync(command);
+        }
+        if let Some(command) = self.freeze_command(*control) {
+            self.carry_out_freeze(command);
+        }
+        if control & COMMAND_CLEAR != 0 {
+            self.outputs.held_back = None;
             self.publish_zeros();
         }
     }
 
+    fn sync_command(&self, control: u8) -> Option<Command> {
+        let command = commanded(control, COMMAND_SYNC, COMMAND_UNSYNC);
+        command.filter(|_| self.sync.allowed)
+    }
+
+    fn freeze_command(&self, control: u8) -> Option<Command> {
+        let command = commanded(control, COMMAND_FREEZE, COMMAND_UNFREEZE);
+        command.filter(|_| self.freeze.allowed)
+    }
+
+    /// Sync and unsync publish what is held back; with nothing held back they publish nothing.
+    fn carry_out_sync(&mut self, command: Command) {
+        self.note(match (command, self.sync.on, self.holds_back()) {
+            (Command::Begin, _, true) => Outcome::GcSyncPublishes,
+            (Command::Begin, true, false) => Outcome::GcSyncNothing,
+            (Command::Begin, false, false) => Outcome::GcSyncBegins,
+            (Command::End, _, true) => Outcome::GcUnsyncPublishes,
+            (Command::End, true, false) => Outcome::GcUnsyncNothing,
+            (Command::End, false, false) => Outcome::GcUnsyncWithoutSync,
+        });
+        if let Some(outputs) = self.outputs.held_back.take() {
+            self.publish(outputs, News::FromMaster);
+        }
+        self.sync.on = command == Command::Begin;
+    }
+
+    /// Freeze and unfreeze bring new inputs, also where freeze is on already or was never on.
+    fn carry_out_freeze(&mut self, command: Command) {
+        let new = self.inputs.next_is_new;
+        self.note(match (command, self.freeze.on, new) {
+            (Command::Begin, false, true) => Outcome::GcFreezeNewInputs,
+            (Command::Begin, false, false) => Outcome::GcFreezeOldInputs,
+            (Command::Begin, true, true) => Outcome::GcFreezeAgainNewInputs,
+            (Command::Begin, true, false) => Outcome::GcFreezeAgainOldInputs,
+            (Command::End, true, true) => Outcome::GcUnfreezeNewInputs,
+            (Command::End, true, false) => Outcome::GcUnfreezeOldInputs,
+            (Command::End, false, true) => Outcome::GcUnfreezeWithoutFreezeNewInputs,
+            (Command::End, false, false) => Outcome::GcUnfreezeWithoutFreezeOldInputs,
+        });
+        self.bring_new_inputs();
+        self.freeze.on = command == Command::Begin;
+    }
+
     fn note_global_control(&mut self, telegram: &Telegram, control: u8, addressed: u8) {
         let same = control == self.stored_control;
-        let clears = control & 0x02 != 0;
+        let clears = control & COMMAND_CLEAR != 0;
         self.note(match addressed {
             0 => Outcome::GcZero,
             _ => Outcome::GcShares,
@@ -1053,10 +1199,90 @@ impl Ledger {
         self.note_if(clears, Outcome::GcClear);
         self.note_if(clears && same, Outcome::GcClearSame);
     }
+
+    fn note_pairs_commanded(&mut self, control: u8) {
+        let sync = self.sync_command(control);
+        let freeze = self.freeze_command(control);
+        let both_bits = |begin: u8, end: u8| control & begin != 0 && control & end != 0;
+        let both_sync_bits = sync.is_some() && both_bits(COMMAND_SYNC, COMMAND_UNSYNC);
+        let both_freeze_bits = freeze.is_some() && both_bits(COMMAND_FREEZE, COMMAND_UNFREEZE);
+        self.note_if(both_sync_bits, Outcome::GcBothSyncBits);
+        self.note_if(both_freeze_bits, Outcome::GcBothFreezeBits);
+        self.note_if(sync.is_some() && freeze.is_some(), Outcome::GcBothPairs);
+        self.note_pairs_not_allowed(control);
+        self.note_clear_in_sync(sync, control & COMMAND_CLEAR != 0);
+        self.note_commanded_again(sync, freeze, control);
+    }
+
+    fn note_pairs_not_allowed(&mut self, control: u8) {
+        let sync_bits = control & (COMMAND_SYNC | COMMAND_UNSYNC) != 0;
+        let freeze_bits = control & (COMMAND_FREEZE | COMMAND_UNFREEZE) != 0;
+        let sync_ignored = sync_bits && !self.sync.allowed;
+        let freeze_ignored = freeze_bits && !self.freeze.allowed;
+        let sync_alone = sync_bits && !sync_ignored && freeze_ignored;
+        let freeze_alone = freeze_bits && !freeze_ignored && sync_ignored;
+        self.note_if(sync_ignored, Outcome::GcSyncNotAllowed);
+        self.note_if(freeze_ignored, Outcome::GcFreezeNotAllowed);
+        self.note_if(sync_alone, Outcome::GcBothPairsSyncAllowed);
+        self.note_if(freeze_alone, Outcome::GcBothPairsFreezeAllowed);
+    }
+
+    fn note_clear_in_sync(&mut self, sync: Option<Command>, clears: bool) {
+        if clears && self.holds_back() {
+            self.note(match sync {
+                None => Outcome::GcClearHeldBack,
+                Some(Command::Begin) => Outcome::GcSyncAndClear,
+                Some(Command::End) => Outcome::GcUnsyncAndClear,
+            });
+        }
+        let nothing_held_back = clears && self.sync.on && !self.holds_back();
+        self.note_if(nothing_held_back, Outcome::GcClearNothingHeldBack);
+    }
+
+    /// The same octet 0 again is not stored and sets no event 8, but it acts.
+    fn note_commanded_again(
+        &mut self,
+        sync: Option<Command>,
+        freeze: Option<Command>,
+        control: u8,
+    ) {
+        let same = control == self.stored_control;
+        let publishes = sync.is_some() && self.holds_back();
+        let brings = freeze.is_some() && self.inputs.next_is_new;
+        self.note_if(same && publishes, Outcome::GcSamePublishes);
+        self.note_if(same && brings, Outcome::GcSameBrings);
+    }
 }
 
-/// Publishing, phases and clears.
+/// "Both bits of a pair: the ending one acts."
+fn commanded(control: u8, begin: u8, end: u8) -> Option<Command> {
+    if control & end != 0 {
+        Some(Command::End)
+    } else if control & begin != 0 {
+        Some(Command::Begin)
+    } else {
+        None
+    }
+}
+
+/// Publishing, modes, phases and clears.
 impl Ledger {
+    fn holds_back(&self) -> bool {
+        self.outputs.held_back.is_some()
+    }
+
+    /// Nothing that is held back is published by this, and what is allowed stays.
+    fn end_modes(&mut self) {
+        self.sync.on = false;
+        self.freeze.on = false;
+        self.outputs.held_back = None;
+    }
+
+    fn note_modes_end(&mut self, sync: Outcome, freeze: Outcome) {
+        self.note_if(self.holds_back(), sync);
+        self.note_if(self.freeze.on, freeze);
+    }
+
     fn publish(&mut self, outputs: Vec<u8>, news: News) {
         self.outputs.next = outputs;
         self.outputs.news = news;
@@ -1081,10 +1307,12 @@ impl Ledger {
         self.note_if(self.clear_noted, Outcome::NotedOverWaitPrm);
         self.note_if(self.parameters.shown.is_some(), Outcome::PrmDropped);
         self.note_if(self.configuration.shown.is_some(), Outcome::CfgDropped);
+        self.note_modes_end(Outcome::SyncEndsWaitPrm, Outcome::FreezeEndsWaitPrm);
         if self.phase == Phase::DataExch {
             self.set_event(EVENT_EXCHANGE);
         }
         self.phase = Phase::WaitPrm;
+        self.end_modes();
         self.owner = None;
         self.watchdog = None;
         self.group = 0;
@@ -1099,6 +1327,7 @@ impl Ledger {
         if self.phase == Phase::DataExch {
             self.note(Outcome::WaitCfgFromExchange);
             self.set_event(EVENT_EXCHANGE);
+            self.end_modes();
             self.publish_zeros();
         }
         self.phase = Phase::WaitCfg;
@@ -1314,6 +1543,7 @@ impl Ledger {
         let answer = match self.outputs.news {
             News::Nothing => {
                 self.note(Outcome::Take0);
+                self.note_if(self.holds_back(), Outcome::Take0HeldBack);
                 return 0;
             }
             News::FromMaster => 1,
@@ -1321,6 +1551,7 @@ impl Ledger {
         };
         let under_reply = self.reply_is_unfinished() && self.reply.drawn_by == Drawn::ReadOutputs;
         self.note([Outcome::Take1, Outcome::Take2][answer as usize - 1]);
+        self.note_if(self.holds_back(), Outcome::TakeNewHeldBack);
         self.note_if(under_reply, Outcome::ReadOutputsTake);
         self.note_if(self.telegram_is_begun(), Outcome::TakeInTelegram);
         swap(&mut self.outputs.held, &mut self.outputs.next);
@@ -1397,6 +1628,7 @@ impl Ledger {
         let under_reply = self.reply_is_unfinished() && self.reply.drawn_by == Drawn::Inputs;
         self.note(Outcome::HandOver);
         self.note_if(self.inputs.next_is_new, Outcome::HandOverAgain);
+        self.note_if(self.freeze.on, Outcome::HandOverFrozen);
         self.note_if(under_reply, Outcome::ReplyHandOver);
         swap(&mut self.inputs.held, &mut self.inputs.next);
         self.inputs.next_is_new = true;

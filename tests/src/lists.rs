@@ -12,7 +12,7 @@ use std::sync::Mutex;
 const DAMAGED_STATES: usize = 3;
 /// One list in this many has a state in which every octet takes every value.
 const ALL_VALUES_EVERY: u64 = 10;
-/// One list in this many has a state in which every length of the memory is tried, and counts and lengths at their limits.
+/// One list in this many has a state in which every length of the memory is tried, and codes, counts and lengths at their limits.
 const LENGTHS_EVERY: u64 = 20;
 
 #[derive(Clone, Copy)]
@@ -103,6 +103,8 @@ fn damage(
     if thorough && number % LENGTHS_EVERY == 0 {
         trial.try_every_length()?;
         trial.try_counts()?;
+        trial.try_outputs()?;
+        trial.try_unused()?;
         trial.try_lengths()?;
     }
     Ok(())

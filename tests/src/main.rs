@@ -1,4 +1,5 @@
-//! Compares the C library of the station with a second implementation of document 01. See tests/README.md.
+//! Compares the C library of the station with a second implementation of document 01 and of Req 01 of document 02. See
+//! tests/README.md.
 
 #[cfg(test)]
 mod bench;
@@ -11,6 +12,8 @@ mod generator;
 mod image;
 mod ledger;
 mod lists;
+#[cfg(test)]
+mod modes;
 mod outcome;
 mod random;
 mod systematic;

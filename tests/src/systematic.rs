@@ -5,6 +5,7 @@
 use crate::call::{Call, StartValues};
 use crate::compare::{Difference, Pair};
 use crate::draft::{self, Draft};
+use crate::ledger::Phase;
 use crate::random::Random;
 use crate::telegram::{self, Form};
 use std::sync::atomic::{AtomicU64, AtomicUsize, Ordering};
@@ -45,7 +46,12 @@ impl Walker<'_> {
         self.run(&mut pair, calls)?;
         self.hear(&mut pair)?;
         self.run(&mut pair, &look_around())?;
-        self.hear(&mut pair)
+        self.hear(&mut pair)?;
+        if is_exchanging(&pair) {
+            self.run(&mut pair, &look_behind_the_modes())?;
+            self.hear(&mut pair)?;
+        }
+        Ok(())
     }
 
     fn run(&mut self, pair: &mut Pair, calls: &[Call]) -> Compared {
@@ -79,6 +85,28 @@ fn look_around() -> Vec<Call> {
     let diagnosis = Draft::to_point(STATION, OTHER_MASTER, draft::SLAVE_DIAG, vec![]);
     calls.extend(telegram_calls(&diagnosis.octets()));
     calls
+}
+
+fn is_exchanging(pair: &Pair) -> bool {
+    let ledger = pair.station.ledger.as_ref();
+    ledger.is_some_and(|ledger| ledger.phase == Phase::DataExch)
+}
+
+/// What is held back and which inputs are new: both modes are ended, a take shows the one, Read_Inputs the other.
+fn look_behind_the_modes() -> Vec<Call> {
+    let end = control(draft::UNSYNC | draft::UNFREEZE, 0);
+    let inputs = Draft::to_point(STATION, OTHER_MASTER, draft::READ_INPUTS, vec![]);
+    [
+        telegram_calls(&end),
+        vec![
+            Call::Events,
+            Call::Take,
+            Call::Read { kind: 1, index: 0 },
+            Call::Read { kind: 1, index: 1 },
+        ],
+        telegram_calls(&inputs.octets()),
+    ]
+    .concat()
 }
 
 fn octet(octet: u8) -> Call {
@@ -116,7 +144,15 @@ fn request(point: u8, data: &[u8]) -> Vec<u8> {
 }
 
 fn good_parameters(watchdog: Option<(u8, u8)>) -> Vec<u8> {
-    draft::good_parameters(IDENT, watchdog, GROUP)
+    parameters_allowing(draft::ALLOW_BOTH, watchdog)
+}
+
+fn parameters_allowing(allowed: u8, watchdog: Option<(u8, u8)>) -> Vec<u8> {
+    draft::good_parameters(IDENT, watchdog, GROUP, allowed)
+}
+
+fn control(control: u8, group: u8) -> Vec<u8> {
+    Draft::global_control(127, MASTER, control, group).octets()
 }
 
 fn exchange(data: &[u8]) -> Vec<u8> {
@@ -126,7 +162,7 @@ fn exchange(data: &[u8]) -> Vec<u8> {
 /// The telegrams that are tried in every state.
 fn telegrams() -> Vec<(&'static str, Vec<u8>)> {
     let unlock = [&[0xC0], &good_parameters(None)[1..]].concat();
-    let control = |station| Draft::global_control(station, MASTER, 0x02, 0x01).octets();
+    let clear = |station| Draft::global_control(station, MASTER, draft::CLEAR, 0x01).octets();
     let sd3 = |control, data: &[u8]| telegram::sd3(STATION, MASTER, control, data);
     vec![
         ("status", Draft::status(STATION, MASTER).octets()),
@@ -135,8 +171,11 @@ fn telegrams() -> Vec<(&'static str, Vec<u8>)> {
             request(draft::SET_PRM, &good_parameters(Some((1, 3)))),
         ),
         (
-            "Set_Prm without a watchdog",
-            request(draft::SET_PRM, &good_parameters(None)),
+            "Set_Prm without a watchdog, sync or freeze",
+            request(
+                draft::SET_PRM,
+                &parameters_allowing(draft::ALLOW_NONE, None),
+            ),
         ),
         ("Set_Prm that unlocks", request(draft::SET_PRM, &unlock)),
         ("Chk_Cfg", request(draft::CHK_CFG, &[0x21, 0x12])),
@@ -151,8 +190,8 @@ fn telegrams() -> Vec<(&'static str, Vec<u8>)> {
         ("Get_Cfg", request(draft::GET_CFG, &[])),
         ("Read_Inputs", request(draft::READ_INPUTS, &[])),
         ("Read_Outputs", request(draft::READ_OUTPUTS, &[])),
-        ("Global_Control", control(STATION)),
-        ("Global_Control to 127", control(127)),
+        ("Global_Control", clear(STATION)),
+        ("Global_Control to 127", clear(127)),
         ("SD4", telegram::sd4(STATION, MASTER)),
     ]
 }
@@ -189,10 +228,10 @@ fn other_calls() -> Vec<Call> {
     ]
 }
 
-/// The states from which everything is tried, each reached by a list of its own.
-fn bases() -> Result<Vec<Base>, String> {
+/// The states that these lists lead to.
+fn bases(ways: Vec<(&'static str, Vec<Call>)>) -> Result<Vec<Base>, String> {
     let mut bases = Vec::new();
-    for (name, calls) in ways() {
+    for (name, calls) in ways {
         let mut pair = Pair::new(Random::new(bases.len() as u64));
         pair.run(&calls)
             .map_err(|difference| format!("DIFFERENCE on the way to '{name}', {difference}"))?;
@@ -201,6 +240,7 @@ fn bases() -> Result<Vec<Base>, String> {
     Ok(bases)
 }
 
+/// The ways to the states from which everything is tried.
 fn ways() -> Vec<(&'static str, Vec<Call>)> {
     let fresh = vec![start()];
     let parametrised = |watchdog| {
@@ -256,6 +296,21 @@ fn ways() -> Vec<(&'static str, Vec<Call>)> {
         sends(5),
     ]
     .concat();
+    let synchronised = [
+        exchanging(Some((1, 2))),
+        telegram_calls(&exchange(&[0x11, 0x12])),
+        telegram_calls(&control(draft::SYNC, 0)),
+        telegram_calls(&exchange(&[0x13, 0x14])),
+        sends(9),
+    ]
+    .concat();
+    let frozen = [
+        exchanging(None),
+        new_inputs(0x31),
+        telegram_calls(&control(draft::FREEZE, 0)),
+        new_inputs(0x32),
+    ]
+    .concat();
     vec![
         ("fresh", fresh.clone()),
         ("parameters shown", parametrised(Some((1, 2)))),
@@ -267,13 +322,68 @@ fn ways() -> Vec<(&'static str, Vec<Call>)> {
         ("diagnosis delayed", delayed),
         ("diagnosis delayed and clear noted", noted),
         ("Read_Outputs reply under way", outputs_on_the_way),
+        (
+            "sync with outputs held back, others not taken",
+            synchronised,
+        ),
+        ("frozen with new inputs", frozen),
     ]
+}
+
+fn new_inputs(octet: u8) -> Vec<Call> {
+    let write = Call::Write {
+        kind: 4,
+        index: 0,
+        octet,
+    };
+    vec![write, Call::HandOver]
+}
+
+/// The ways to the states from which every Global_Control is tried: sync and freeze are commanded, outputs are sent
+/// and inputs handed over before and behind it, and what becomes of them depends on the pairs that are allowed.
+fn ways_to_modes() -> Vec<(&'static str, Vec<Call>)> {
+    let way = |allowed| {
+        [
+            vec![start()],
+            exchange_entered(&parameters_allowing(allowed, None)),
+            telegram_calls(&exchange(&[0x11, 0x12])),
+            vec![Call::Take],
+            new_inputs(0x31),
+            telegram_calls(&control(draft::SYNC | draft::FREEZE, 0)),
+            telegram_calls(&exchange(&[0x13, 0x14])),
+            new_inputs(0x32),
+        ]
+        .concat()
+    };
+    vec![
+        ("both modes commanded, none allowed", way(draft::ALLOW_NONE)),
+        ("both modes commanded, sync allowed", way(draft::ALLOW_SYNC)),
+        (
+            "both modes commanded, freeze allowed",
+            way(draft::ALLOW_FREEZE),
+        ),
+        ("both modes commanded, both allowed", way(draft::ALLOW_BOTH)),
+    ]
+}
+
+/// From WAIT_PRM to DATA_EXCH with these parameters; if they are not good the calls behind them are refused.
+fn exchange_entered(parameters: &[u8]) -> Vec<Call> {
+    [
+        telegram_calls(&request(draft::SET_PRM, parameters)),
+        sends(1),
+        vec![Call::JudgeParameters(1)],
+        telegram_calls(&request(draft::CHK_CFG, &[0x33])),
+        sends(1),
+        vec![Call::JudgeConfiguration(1)],
+    ]
+    .concat()
 }
 
 /// Runs everything; answers the number of calls compared.
 pub fn run(threads: usize) -> Result<u64, String> {
-    let bases = bases()?;
-    let tasks = tasks(&bases);
+    let all = bases(ways())?;
+    let modes = bases(ways_to_modes())?;
+    let tasks = tasks(&all, &modes);
     let next = AtomicUsize::new(0);
     let failures: Mutex<Vec<(usize, String)>> = Mutex::new(Vec::new());
     let compared = AtomicU64::new(0);
@@ -315,7 +425,7 @@ fn run_task(task: &Task) -> Result<u64, String> {
     Ok(walker.calls)
 }
 
-fn tasks(bases: &[Base]) -> Vec<Task<'_>> {
+fn tasks<'a>(bases: &'a [Base], modes: &'a [Base]) -> Vec<Task<'a>> {
     let mut tasks = Vec::new();
     for base in bases {
         for (name, octets) in telegrams() {
@@ -349,7 +459,21 @@ fn tasks(bases: &[Base]) -> Vec<Task<'_>> {
             every_global_control,
         );
     }
+    for base in modes {
+        push(
+            &mut tasks,
+            base,
+            "every Global_Control".into(),
+            every_global_control,
+        );
+    }
     let fresh = &bases[0];
+    push(
+        &mut tasks,
+        fresh,
+        "every octet 0 of Set_Prm, then sync and freeze".into(),
+        every_permission,
+    );
     push(&mut tasks, fresh, "every pair of LE".into(), every_lengths);
     push(
         &mut tasks,
@@ -514,12 +638,37 @@ fn every_first_parameter(walker: &mut Walker) -> Compared {
     Ok(())
 }
 
+/// Once, to see what it leaves; twice with a take between, and twice with an exchange between, which a mode may hold
+/// back: the second time octet 0 is no longer new.
 fn every_global_control(walker: &mut Walker) -> Compared {
-    for control in 0..=255 {
+    let look = vec![Call::Events, Call::Take];
+    let between = [telegram_calls(&exchange(&[0x15, 0x16])), new_inputs(0x33)].concat();
+    for octet in 0..=255 {
         for group in [0, 0x01, 0x10, 0xF0, 0xFF] {
-            let octets = Draft::global_control(127, MASTER, control, group).octets();
-            let twice = [telegram_calls(&octets), vec![Call::Events, Call::Take]].concat();
-            walker.variant(&[twice.clone(), twice].concat())?;
+            let commanded = telegram_calls(&control(octet, group));
+            let looked = [commanded.clone(), look.clone()].concat();
+            walker.variant(&commanded)?;
+            walker.variant(&[looked.clone(), looked.clone()].concat())?;
+            walker.variant(&[looked.clone(), between.clone(), looked].concat())?;
+        }
+    }
+    Ok(())
+}
+
+/// Every octet 0 of Set_Prm on the way to DATA_EXCH, and what sync and freeze come to then.
+fn every_permission(walker: &mut Walker) -> Compared {
+    for first in 0..=255 {
+        let mut parameters = good_parameters(Some((9, 9)));
+        parameters[0] = first;
+        let way = exchange_entered(&parameters);
+        for command in [draft::SYNC, draft::FREEZE, draft::SYNC | draft::FREEZE] {
+            let calls = [
+                way.clone(),
+                telegram_calls(&control(command, 0)),
+                new_inputs(0x34),
+                telegram_calls(&exchange(&[0x17, 0x18])),
+            ];
+            walker.variant(&calls.concat())?;
         }
     }
     Ok(())

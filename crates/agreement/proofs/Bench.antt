@@ -16,8 +16,8 @@ use Rattle.steps.proofs.Guarded.{begins-started}
 use Rattle.agreement.specs.Bench.{BenchOnEveryMemory}
 use Rattle.agreement.proofs.Agreement.{demand-3}
 
--- its buffers end at 184
-bench-end : endOf benchSetup ≡ 184
+-- its buffers end at 256
+bench-end : endOf benchSetup ≡ 256
 unfolding rowBase roundedUp
 bench-end = refl
 

@@ -7,7 +7,7 @@ use mathlib.Core.List.{List}
 use lib.Dec.{eqb, leb}
 use lib.ListN.{getD, set}
 use borrow.Author.Tests.{not-false}
-use Rattle.buffers.specs.Triple.{taken}
+use Rattle.buffers.specs.Quad.{taken}
 use Rattle.telegram.specs.Reading.{start, off, readerAfter, status, datumOf}
 use Rattle.telegram.specs.Sending.{left, sent}
 use Rattle.telegram.proofs.Run.{no-true}
@@ -53,7 +53,7 @@ quiet-allows {g} {c} {o} r q f w h = go (inExchange (o .control)) refl
   where
     go : (t : Bool) → inExchange (o .control) ≡ t → t ≡ true
     go true e = refl
-    go false e = absurd (subst (Publishes (⊥ × (0 ≡ g .«output_len»)) (Spared r)) (q .leaves (f w h) e) (q .outputs-come) w h)
+    go false e = absurd (subst (Publishes (⊥ × (0 ≡ g .«output_len»)) ⊥ (Spared r)) (q .leaves (f w h) e) (q .outputs-come) w h)
 
 -- no reply is allowed everywhere
 none-allowed : (c : Control) → Allows c noReply

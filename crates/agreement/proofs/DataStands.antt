@@ -8,7 +8,8 @@ use mathlib.Core.Logic.{_⊎_, inl, inr}
 use lib.ListN.{length}
 use lib.Seq.{take-nil}
 use borrow.Author.Tests.{lt-ltb, le-ltb, eq-eqb}
-use Rattle.buffers.specs.Triple.{fillOf}
+use Rattle.buffers.specs.Roles.{fillOf}
+use Rattle.buffers.specs.Roles as role
 use Rattle.telegram.specs.declared.reader.Reader.{Reader}
 use Rattle.telegram.specs.declared.reader.Status.the-variants.{Broken}
 use Rattle.telegram.specs.Reading.{start, readerStep, run, status, takesData, gathered}
@@ -54,17 +55,17 @@ gathered-more s m q ds b f o g =
     record {
       outputs = λ h.
           let plain : r .da < 128 = omega arith in
-          rw (lt-ltb (r .da) 128 plain) (begins-more m _ _ ds b (fits outputRow (fillOf (s .outputs .set .place)) (f .outputs .fill-in)) (g .outputs plain));
+          rw (lt-ltb (r .da) 128 plain) (begins-more m _ _ ds b (fits outputRow (fillOf (s .outputs .set .place)) (f .outputs .within role.fill (omega arith))) (g .outputs plain));
       parameters = λ h e.
           let marked : 128 ≤ r .da = omega arith in
           let point : r .dsap ≡ 61 = omega arith in
           rw (le-ltb (r .da) 128 marked, eq-eqb (r .dsap) 61 point)
-          (begins-more m _ _ ds b (fits parameterRow (fillOf (s .parameters .set .place)) (f .parameters .fill-in)) (g .parameters marked point));
+          (begins-more m _ _ ds b (fits parameterRow (fillOf (s .parameters .set .place)) (f .parameters .within role.fill (omega arith))) (g .parameters marked point));
       configuration = λ h e.
           let marked : 128 ≤ r .da = omega arith in
           let point : r .dsap ≡ 62 = omega arith in
           rw (le-ltb (r .da) 128 marked, point)
-          (begins-more m _ _ ds b (fits configurationRow (fillOf (s .configuration .set .place)) (f .configuration .fill-in)) (g .configuration marked point));
+          (begins-more m _ _ ds b (fits configurationRow (fillOf (s .configuration .set .place)) (f .configuration .within role.fill (omega arith))) (g .configuration marked point));
       first = kept-octet ds b 0 (s .incoming .first) (g .first);
       second = kept-octet ds b 1 (s .incoming .second) (g .second);
     }

@@ -6,7 +6,8 @@ use mathlib.Core.Path.{_≡_, refl, sym, ap, _∙_, subst}
 use mathlib.Core.Bool.{true, false}
 use mathlib.Core.List.{List, []}
 use lib.ListN.{length, getD}
-use Rattle.buffers.specs.Triple.{fillOf, heldOf}
+use Rattle.buffers.specs.Roles.{fillOf, heldOf}
+use Rattle.buffers.specs.Roles as role
 use Rattle.octets.specs.Part.{part}
 use Rattle.octets.proofs.Parts.{part-at}
 use Rattle.telegram.specs.Telegram.{Telegram, payloadOf}
@@ -26,7 +27,7 @@ use Rattle.rules.specs.Replies.{diagnoses}
 use Rattle.ledger.specs.Outcome as ledger
 use Rattle.ledger.specs.Bus as bus
 use Rattle.ledger.specs.Bus.{requestBy}
-use Rattle.steps.specs.Outcome.{openSets, carried}
+use Rattle.steps.specs.Outcome.{occupied, carried}
 use Rattle.steps.specs.Replies.{replyFor}
 use Rattle.steps.specs.Reading.{isIgnored, readBy, prmIn, dataIn, outcomeOf, answered, completed}
 use Rattle.agreement.proofs.Relation.{Gathered, Agrees, After}
@@ -74,16 +75,16 @@ module _ {s : State} {m : List ℕ} {l : Ledger} (a : Agrees s m l) (d : Steady 
       let r = requestBy t in
       let ds = payloadOf t in
       let at = parametersAt (s .setup) (fillOf (s .parameters .set .place)) in
-      same-outcome (s .setup) (s .control) (openSets s) r (dataIn (reading s t) m) (bus.dataBy ds)
+      same-outcome (s .setup) (s .control) (occupied s) r (dataIn (reading s t) m) (bus.dataBy ds)
       (λ to fits. prm-same (reading s t) m ds (fits .0) (begins-whole m at (s .setup .«parameter_len») ds (fits .1) (g .parameters (to .0) (to .1))))
       (λ two. (g .first (omega arith), g .second (omega arith)))
-      ∙ (λ i. outcomeBy (a .setup i) (a .control i) (record { parameters = open-agrees (a .parameters) i; configuration = open-agrees (a .configuration) i }) r (bus.dataBy ds))
+      ∙ (λ i. outcomeBy (a .setup i) (a .control i) (record { parameters = open-agrees (a .parameters) i; configuration = open-agrees (a .configuration) i; outputs = a .outputs .withheld i }) r (bus.dataBy ds))
 
   -- octets are ignored from here on
   ignores : Agrees (reading s t) m (withLine l (bus.brokenOff (l .line)))
   ignores = reading-changed a (finished t) true [] (ignored-agrees (ap isIgnored (finished-complete t)) refl refl)
 
-  module _ (o : Outcome) (v : Served (s .setup) (s .control) (requestBy t) o) where
+  module _ (o : Outcome) (v : Served (s .setup) (s .control) (s .outputs .set .withheld) (requestBy t) o) where
     -- the outcome carried out
     done : After (carried (reading s t) m o (length (payloadOf t))) (ledger.carried (withLine l (bus.brokenOff (l .line))) o (payloadOf t))
     done = received-agrees ignores (requestBy t) (payloadOf t) refl refl refl g v refl still
@@ -101,7 +102,7 @@ module _ {s : State} {m : List ℕ} {l : Ledger} (a : Agrees s m l) (d : Steady 
         let master = masterOf (requestBy t) in
         let b = ledger.onBuffers o (l .setup) ds (l .buffers) in
         let xs = replyOf (o .drawn) (l .setup) (l .slice) (o .control) b master in
-        let place : heldOf (carried (reading s t) m o (length (payloadOf t)) .state .outputs .set .place) < 3 = h .safe .outputs .held-in in
+        let place : heldOf (carried (reading s t) m o (length (payloadOf t)) .state .outputs .set .place) < 4 = h .safe .outputs .within role.held (omega arith) in
         let low : 6 ≤ o .control .diagnosis .count = rw counts (d .order .count .0) in
         let high : o .control .diagnosis .count ≤ s .setup .«diagnosis_len» = rw (counts, a .setup) (d .order .count .1) in
         reply-changed h (replyFor (o .drawn) (x .state) master) xs (diagnoses (o .drawn)) (omega arith)

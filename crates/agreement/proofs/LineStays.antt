@@ -7,7 +7,7 @@ use mathlib.Core.List.{List, [], _∷_}
 use lib.Dec.{eqb, ltb}
 use lib.ListN.{length, getD, take, length-take}
 use lib.Seq.{take-all}
-use Rattle.buffers.specs.Triple.{fillOf}
+use Rattle.buffers.specs.Roles.{fillOf}
 use Rattle.octets.specs.Part.{part}
 use Rattle.telegram.specs.Reading.{start, run, gathered, status}
 use Rattle.telegram.specs.Sending.{left}

@@ -6,7 +6,7 @@ use mathlib.Core.Path.{_≡_, refl, sym, ap, _∙_}
 use mathlib.Core.Bool.{Bool, true, false, not, _&&_}
 use mathlib.Core.List.{List, []}
 use Rattle.buffers.specs.declared.triple.Triple.{Triple}
-use Rattle.buffers.specs.Triple.{fillOf, Permutation}
+use Rattle.buffers.specs.Roles.{fillOf, Permutation}
 use Rattle.octets.specs.Part.{part}
 use Rattle.telegram.specs.declared.reader.Reader.{Reader}
 use Rattle.telegram.specs.Sending.{empty, left}
@@ -108,7 +108,7 @@ module _ {s : State} {m : List ℕ} {l : Ledger} (a : Agrees s m l) where
   -- the roles of outputs and inputs, where the buffers that are filled and sent from stay
   pub roles-changed : (o : Outputs) (t : Triple) (x : lists.Outputs) (y : lists.Inputs)
       → fillOf (o .set .place) ≡ fillOf (s .outputs .set .place) → fillOf (t .place) ≡ fillOf (s .inputs .place)
-      → Permutation (o .set .place) → Permutation (t .place) → OutputsAgree (s .setup) m o x → InputsAgree (s .setup) m t y
+      → Permutation 4 (o .set .place) → Permutation 3 (t .place) → OutputsAgree (s .setup) m o x → InputsAgree (s .setup) m t y
       → Agrees (withInputs (withOutputs s o) t) m (ledger.withBuffers l (lists.withInputs (lists.withOutputs (l .buffers) x) y))
   roles-changed o t x y e f p q h k =
       let s′ : State = withInputs (withOutputs s o) t in
@@ -133,7 +133,7 @@ module _ {s : State} {m : List ℕ} {l : Ledger} (a : Agrees s m l) where
       }
 
   -- the reading and the reply, with the line
-  line-changed : (i : Incoming) (x : Reply) (n : Line) → x .place ≤ 2 → ReadingAgrees (withReply (withIncoming s i) x) m n
+  line-changed : (i : Incoming) (x : Reply) (n : Line) → x .place ≤ 3 → ReadingAgrees (withReply (withIncoming s i) x) m n
       → (ds : List ℕ) × ReplyAgrees (withReply (withIncoming s i) x) m n ds → Agrees (withReply (withIncoming s i) x) m (withLine l n)
   line-changed i x n h reading reply = record {
     setup = a .setup;
@@ -161,7 +161,7 @@ module _ {s : State} {m : List ℕ} {l : Ledger} (a : Agrees s m l) where
       (a .reply)) _ refl refl)
 
   -- the reply alone
-  pub reply-changed : (x : Reply) (xs : List ℕ) (t : Bool) → x .place ≤ 2 → (ds : List ℕ) × ReplyAgrees (withReply s x) m (replied (l .line) xs t) ds
+  pub reply-changed : (x : Reply) (xs : List ℕ) (t : Bool) → x .place ≤ 3 → (ds : List ℕ) × ReplyAgrees (withReply s x) m (replied (l .line) xs t) ds
       → Agrees (withReply s x) m (withLine l (replied (l .line) xs t))
   reply-changed x xs t h r =
       line-changed (s .incoming) x (replied (l .line) xs t) h

@@ -5,19 +5,21 @@ use mathlib.Core.Path.{_≡_, refl, sym, ap, _∙_}
 use mathlib.Core.Bool.{Bool}
 use mathlib.Core.Logic.{_⊎_, inl, inr}
 use mathlib.Core.List.{List}
-use lib.ListN.{length, set, length-set}
+use lib.ListN.{length, set, length-set, getD}
 use Rattle.buffers.specs.declared.triple.Triple.{Triple}
-use Rattle.buffers.specs.Triple.{fillOf, nextOf, heldOf, Permutation}
+use Rattle.buffers.specs.Roles.{fillOf, nextOf, heldOf, Permutation}
+use Rattle.buffers.specs.Roles as role
 use Rattle.octets.specs.Part.{part, pasted}
 use Rattle.octets.proofs.Parts.{pasted-length, pasted-apart, part-set-outside}
 use Rattle.state.specs.declared.setup.Setup.{Setup}
+use Rattle.state.specs.declared.state.Outputs as station-outputs
 use Rattle.state.specs.declared.state.Sets as station-sets
-use Rattle.state.specs.Layout.{inputRow, diagnosisRow, getCfgRow, rowCount, rowLength, startOf, endOf, inputsAt, diagnosisAt, getCfgAt}
+use Rattle.state.specs.Layout.{inputRow, diagnosisRow, getCfgRow, rowCount, rowLength, startOf, endOf, inputsAt, diagnosisAt, getCfgAt, outputsAt}
 use Rattle.state.proofs.Places.{first-start, in-front, inside, apart}
-use Rattle.ledger.specs.Lists.{Inputs, Sets, Diagnoses}
+use Rattle.ledger.specs.Lists.{Inputs, Sets, Diagnoses, Outputs}
 use Rattle.steps.specs.Replies.{ownPlace, userPlace}
 use Rattle.steps.proofs.KeepsSafe.{own-in, user-in}
-use Rattle.agreement.proofs.Relation.{InputsAgree, SetsAgree, DiagnosesAgree}
+use Rattle.agreement.proofs.Relation.{InputsAgree, SetsAgree, DiagnosesAgree, OutputsAgree}
 
 -- m′ is m but for the buffer i of the row a
 pub record Elsewhere (g : Setup) (a i : ℕ) (m m′ : List ℕ) : Type 0 where
@@ -63,13 +65,13 @@ module _ (g : Setup) (m : List ℕ) (a i : ℕ) (room : endOf g ≤ length m) (t
 -- ---- the parts of the relation that lie in other buffers
 
 module _ {g : Setup} {a i : ℕ} {m m′ : List ℕ} (e : Elsewhere g a i m m′) where
-  pub inputs-stay : {t : Triple} {l : Inputs} → Permutation (t .place) → (a ≡ inputRow → ⊥) → InputsAgree g m t l → InputsAgree g m′ t l
+  pub inputs-stay : {t : Triple} {l : Inputs} → Permutation 3 (t .place) → (a ≡ inputRow → ⊥) → InputsAgree g m t l → InputsAgree g m′ t l
   inputs-stay {t} p n h =
       let other : (j : ℕ) → j < 3 → part m′ (inputsAt g j) (g .«input_len») ≡ part m (inputsAt g j) (g .«input_len») = λ j o. e .other inputRow j (g .«input_len») o (omega arith) (λ z _. n z) in
       record {
-        sending = other (fillOf (t .place)) (p .fill-in) ∙ h .sending;
-        next = other (nextOf (t .place)) (p .next-in) ∙ h .next;
-        held = other (heldOf (t .place)) (p .held-in) ∙ h .held;
+        sending = other (fillOf (t .place)) (p .within role.fill (omega arith)) ∙ h .sending;
+        next = other (nextOf (t .place)) (p .within role.next (omega arith)) ∙ h .next;
+        held = other (heldOf (t .place)) (p .within role.held (omega arith)) ∙ h .held;
         fresh = h .fresh;
       }
 
@@ -84,6 +86,19 @@ module _ {g : Setup} {a i : ℕ} {m m′ : List ℕ} (e : Elsewhere g a i m m′
       ap (λ (x : ℕ). part m′ x (g .«get_cfg_len»)) (sym at)
       ∙ e .other getCfgRow 0 (g .«get_cfg_len») (omega arith) (omega arith) (λ z _. n z)
       ∙ ap (λ (x : ℕ). part m x (g .«get_cfg_len»)) at
+
+-- outputs where the octets of next, held and back are as they were
+pub outputs-stay : {g : Setup} {m m′ : List ℕ} {o : station-outputs.Outputs} {l : Outputs}
+    → ((j : ℕ) → role.fill < j → j < 4 → part m′ (outputsAt g (getD (o .set .place) j 0)) (g .«output_len») ≡ part m (outputsAt g (getD (o .set .place) j 0)) (g .«output_len»))
+    → OutputsAgree g m o l → OutputsAgree g m′ o l
+outputs-stay same h = record {
+  held = same role.held (omega arith) (omega arith) ∙ h .held;
+  next = same role.next (omega arith) (omega arith) ∙ h .next;
+  back = λ e. same role.back (omega arith) (omega arith) ∙ h .back e;
+  fresh = h .fresh;
+  zeros = h .zeros;
+  withheld = h .withheld;
+}
 
 -- sets whose octets are as they were
 pub sets-stay : {base : ℕ → ℕ} {m m′ : List ℕ} {x : station-sets.Sets} {l : Sets}

@@ -7,7 +7,9 @@ use mathlib.Core.Bool.{true, false}
 use mathlib.Core.List.{List, [], _∷_}
 use lib.ListN.{length, replicate, length-replicate}
 use Rattle.buffers.specs.declared.triple.Triple.{Triple}
-use Rattle.buffers.specs.Triple.{fillOf, nextOf, heldOf, published, brought, shown}
+use Rattle.buffers.specs.Roles.{fillOf, nextOf, heldOf}
+use Rattle.buffers.specs.Roles as role
+use Rattle.buffers.specs.Triple.{published, brought, shown}
 use Rattle.octets.specs.Part.{part, pasted}
 use Rattle.octets.proofs.Parts.{pasted-part}
 use Rattle.telegram.specs.Sending.{left}
@@ -24,11 +26,13 @@ use Rattle.state.proofs.Places.{inside}
 use Rattle.rules.specs.declared.request.Request.{Request}
 use Rattle.rules.specs.declared.outcome.OutputsDeed.{OutputsDeed}
 use Rattle.rules.specs.declared.outcome.OutputsDeed.the-variants as outputs-deed
+use Rattle.rules.specs.declared.outcome.InputsDeed.{InputsDeed}
+use Rattle.rules.specs.declared.outcome.InputsDeed.the-variants as inputs-deed
 use Rattle.rules.specs.declared.outcome.SetDeed.{SetDeed}
 use Rattle.rules.specs.declared.outcome.SetDeed.the-variants as set-deed
 use Rattle.rules.specs.declared.outcome.Outcome.{Outcome}
 use Rattle.rules.proofs.Headed.{Plain, To}
-use Rattle.rules.proofs.Served.{Publishes, Receives, Lawful, Quiet, Served}
+use Rattle.rules.proofs.Served.{Publishes, Brings, Receives, Lawful, Quiet, Served}
 use Rattle.ledger.specs.Lists.{some, Outputs, Inputs, Sets}
 use Rattle.ledger.specs.Ledger.{Ledger}
 use Rattle.ledger.specs.Outcome as ledger
@@ -47,47 +51,77 @@ use Rattle.agreement.proofs.SameLine.{open-agrees}
 deed-elsewhere : (d : OutputsDeed) (s : State) (m : List ℕ) → Safe s m → Elsewhere (s .setup) outputRow (nextOf (s .outputs .set .place)) m (onMemory d s m)
 deed-elsewhere outputs-deed.Keep s m f = same-elsewhere
 deed-elsewhere outputs-deed.Publish s m f = same-elsewhere
+deed-elsewhere outputs-deed.HoldBack s m f = same-elsewhere
+deed-elsewhere outputs-deed.Release s m f = same-elsewhere
 deed-elsewhere outputs-deed.Zeros s m f =
-    pasted-elsewhere (s .setup) m outputRow (nextOf (s .outputs .set .place)) (f .room) (f .outputs .next-in) (replicate (s .setup .«output_len») 0)
+    pasted-elsewhere (s .setup) m outputRow (nextOf (s .outputs .set .place)) (f .room) (f .outputs .within role.next (omega arith)) (replicate (s .setup .«output_len») 0)
     (rw (length-replicate {A = ℕ} (s .setup .«output_len») 0) (omega arith))
 
--- what is published stands in fill
-outputs-carried : (Given Clear : Type 0) (d : OutputsDeed) (s : State) (m : List ℕ) (y : Outputs) (n : ℕ) (ds : List ℕ) → Safe s m → s .setup .«output_len» ≡ n
-    → Publishes (Given × (length ds ≡ s .setup .«output_len»)) Clear d
-    → (Given → BeginsWith m (outputsAt (s .setup) (fillOf (s .outputs .set .place))) (s .setup .«output_len») ds)
-    → OutputsAgree (s .setup) m (s .outputs) y → OutputsAgree (s .setup) (onMemory d s m) (onOutputs d (s .outputs)) (ledger.onOutputs d y n ds)
-outputs-carried Given Clear outputs-deed.Keep s m y n ds f e p b h = h
-outputs-carried Given Clear outputs-deed.Publish s m y n ds f e p b h =
+-- as many data octets as there are outputs are all of what fill holds
+in-fill : (s : State) (m ds : List ℕ) → length ds ≡ s .setup .«output_len»
+    → BeginsWith m (outputsAt (s .setup) (fillOf (s .outputs .set .place))) (s .setup .«output_len») ds
+    → part m (outputsAt (s .setup) (fillOf (s .outputs .set .place))) (s .setup .«output_len») ≡ ds
+in-fill s m ds k b =
     let at = outputsAt (s .setup) (fillOf (s .outputs .set .place)) in
-    let k = p .1 in
+    ap (part m at) (sym k) ∙ begins-whole m at (s .setup .«output_len») ds (omega arith) b
+
+-- what is published or held back stands in fill, and what is released is held back
+outputs-carried : (Given Held Clear : Type 0) (d : OutputsDeed) (s : State) (m : List ℕ) (y : Outputs) (n : ℕ) (ds : List ℕ) → Safe s m → s .setup .«output_len» ≡ n
+    → Publishes (Given × (length ds ≡ s .setup .«output_len»)) Held Clear d
+    → (Given → BeginsWith m (outputsAt (s .setup) (fillOf (s .outputs .set .place))) (s .setup .«output_len») ds)
+    → (Held → s .outputs .set .withheld ≡ true)
+    → OutputsAgree (s .setup) m (s .outputs) y → OutputsAgree (s .setup) (onMemory d s m) (onOutputs d (s .outputs)) (ledger.onOutputs d y n ds)
+outputs-carried Given Held Clear outputs-deed.Keep s m y n ds f e p b c h = h
+outputs-carried Given Held Clear outputs-deed.Publish s m y n ds f e p b c h =
     record {
       held = h .held;
-      next = ap (part m at) (sym k) ∙ begins-whole m at (s .setup .«output_len») ds (omega arith) (b (p .0));
+      next = in-fill s m ds (p .1) (b (p .0));
+      back = h .back;
       fresh = refl;
       zeros = refl;
+      withheld = h .withheld;
     }
-outputs-carried Given Clear outputs-deed.Zeros s m y n ds f e p b h =
+outputs-carried Given Held Clear outputs-deed.HoldBack s m y n ds f e p b c h =
+    record {
+      held = h .held;
+      next = h .next;
+      back = λ _. in-fill s m ds (p .1) (b (p .0));
+      fresh = h .fresh;
+      zeros = h .zeros;
+      withheld = refl;
+    }
+outputs-carried Given Held Clear outputs-deed.Release s m y n ds f e p b c h =
+    record {
+      held = h .held;
+      next = h .back (sym (h .withheld) ∙ c p);
+      back = λ z. no-true z;
+      fresh = refl;
+      zeros = refl;
+      withheld = refl;
+    }
+outputs-carried Given Held Clear outputs-deed.Zeros s m y n ds f e p b c h =
     let q = f .outputs in
     let k = s .setup .«output_len» in
     let zs : List ℕ = replicate (s .setup .«output_len») 0 in
     let at = outputsAt (s .setup) (nextOf (s .outputs .set .place)) in
-    let i = inside (s .setup) outputRow (nextOf (s .outputs .set .place)) (s .setup .«output_len») (q .next-in) (omega arith) in
+    let i = inside (s .setup) outputRow (nextOf (s .outputs .set .place)) (s .setup .«output_len») (q .within role.next (omega arith)) (omega arith) in
     let r = f .room in
     record {
-      held = deed-elsewhere outputs-deed.Zeros s m f .other outputRow (heldOf (s .outputs .set .place)) k (q .held-in) (omega arith) (λ _ z. q .next-held z) ∙ h .held;
+      held = deed-elsewhere outputs-deed.Zeros s m f .other outputRow (heldOf (s .outputs .set .place)) k (q .within role.held (omega arith)) (omega arith) (λ _ z. q .apart role.next role.held (omega arith) (omega arith) (λ z. omega arith) z) ∙ h .held;
       next = ap (part (pasted m at zs) at) (sym (length-replicate {A = ℕ} k 0)) ∙ pasted-part m at zs (omega arith) ∙ ap (λ (x : ℕ). replicate x 0) e;
+      back = λ z. no-true z;
       fresh = refl;
       zeros = refl;
+      withheld = refl;
     }
 
 -- new inputs come to the buffer that is sent from
-inputs-carried : (d : OutputsDeed) (g : Setup) (m : List ℕ) (t : Triple) (y : Inputs) → InputsAgree g m t y → InputsAgree g m (onInputs d t) (ledger.onInputs d y)
-inputs-carried outputs-deed.Keep g m t y h = h
-inputs-carried outputs-deed.Publish g m t y h =
+inputs-carried : (d : InputsDeed) (g : Setup) (m : List ℕ) (t : Triple) (y : Inputs) → InputsAgree g m t y → InputsAgree g m (onInputs d t) (ledger.onInputs d y)
+inputs-carried inputs-deed.Keep g m t y h = h
+inputs-carried inputs-deed.Bring g m t y h =
     both (λ u v. InputsAgree g m u v) (t .fresh) (y .fresh) (brought t) t (record { sending = y .next; next = y .sending; held = y .held; fresh = false }) y (h .fresh)
     (λ _. record { sending = h .next; next = h .sending; held = h .held; fresh = refl })
     (λ _. h)
-inputs-carried outputs-deed.Zeros g m t y h = h
 
 -- ---- the sets
 
@@ -117,9 +151,10 @@ sets-carried Given low n set-deed.Drop base m x y ds u p b h = record { shown = 
 -- ---- the whole
 
 -- the data may be published or received where it stands in fill
-module _ {s : State} {m : List ℕ} {l : Ledger} {o : Outcome} {Given Clear : Type 0} {At : ℕ → Type 0} (ds : List ℕ) (a : Agrees s m l)
-    (v : Lawful (s .setup) (s .control) (length ds) Given Clear At o)
+module _ {s : State} {m : List ℕ} {l : Ledger} {o : Outcome} {Given Held Moved Clear : Type 0} {At : ℕ → Type 0} (ds : List ℕ) (a : Agrees s m l)
+    (v : Lawful (s .setup) (s .control) (length ds) Given Held Moved Clear At o)
     (outputs-stand : Given → BeginsWith m (outputsAt (s .setup) (fillOf (s .outputs .set .place))) (s .setup .«output_len») ds)
+    (withheld : Held → s .outputs .set .withheld ≡ true)
     (parameters-stand : At 61 → BeginsWith m (parametersAt (s .setup) (fillOf (s .parameters .set .place))) (s .setup .«parameter_len») ds)
     (configuration-stand : At 62 → BeginsWith m (configurationAt (s .setup) (fillOf (s .configuration .set .place))) (s .setup .«configuration_len») ds) where
   abbrev memory : List ℕ
@@ -145,8 +180,8 @@ module _ {s : State} {m : List ℕ} {l : Ledger} {o : Outcome} {Given Clear : Ty
   carried-with reading reply = record {
     setup = a .setup;
     control = refl;
-    outputs = outputs-carried Given Clear (o .outputs) s m (l .buffers .outputs) (l .setup .«output_len») ds (a .safe) (ap (λ (g : Setup). g .«output_len») (a .setup)) (v .outputs-come) outputs-stand (a .outputs);
-    inputs = inputs-carried (o .outputs) (s .setup) memory (s .inputs) (l .buffers .inputs) (inputs-stay elsewhere (a .safe .inputs) (λ z. absurd (omega arith)) (a .inputs));
+    outputs = outputs-carried Given Held Clear (o .outputs) s m (l .buffers .outputs) (l .setup .«output_len») ds (a .safe) (ap (λ (g : Setup). g .«output_len») (a .setup)) (v .outputs-come) outputs-stand withheld (a .outputs);
+    inputs = inputs-carried (o .inputs) (s .setup) memory (s .inputs) (l .buffers .inputs) (inputs-stay elsewhere (a .safe .inputs) (λ z. absurd (omega arith)) (a .inputs));
     parameters = behind parameterRow 7 (s .setup .«parameter_len») (At 61) (s .parameters) (l .buffers .parameters) (o .parameters) (omega arith) (omega arith) (v .parameters-come) parameters-stand (a .parameters);
     configuration = behind configurationRow 1 (s .setup .«configuration_len») (At 62) (s .configuration) (l .buffers .configuration) (o .configuration) (omega arith) (omega arith) (v .configuration-come) configuration-stand (a .configuration);
     diagnosis = diagnoses-stay elsewhere (λ z. absurd (omega arith)) (a .diagnosis);
@@ -162,17 +197,19 @@ module _ {s : State} {m : List ℕ} {l : Ledger} {o : Outcome} {Given Clear : Ty
 abbrev pub Spared : Reply → Type 0
 Spared r = r .drawn ≡ drawn.Outputs → left (r .sender) ≡ true → ⊥
 
--- with nothing published or received fill stays, and so does the buffer that is sent from
+-- with nothing brought the buffer that is sent from stays
+inputs-place : (d : InputsDeed) (s : State) → Brings ⊥ d → onInputs d (s .inputs) ≡ s .inputs
+inputs-place inputs-deed.Keep s p = refl
+inputs-place inputs-deed.Bring s p = absurd p
+
+-- with nothing published or received fill stays
 module _ (Other : Type 0) where
-  outputs-fill : (Clear : Type 0) (d : OutputsDeed) (s : State) → Publishes (⊥ × Other) Clear d → fillOf (onOutputs d (s .outputs) .set .place) ≡ fillOf (s .outputs .set .place)
+  outputs-fill : (Clear : Type 0) (d : OutputsDeed) (s : State) → Publishes (⊥ × Other) ⊥ Clear d → fillOf (onOutputs d (s .outputs) .set .place) ≡ fillOf (s .outputs .set .place)
   outputs-fill Clear outputs-deed.Keep s p = refl
   outputs-fill Clear outputs-deed.Publish s p = absurd (p .0)
+  outputs-fill Clear outputs-deed.HoldBack s p = absurd (p .0)
+  outputs-fill Clear outputs-deed.Release s p = absurd p
   outputs-fill Clear outputs-deed.Zeros s p = refl
-
-  inputs-place : (Clear : Type 0) (d : OutputsDeed) (s : State) → Publishes (⊥ × Other) Clear d → onInputs d (s .inputs) ≡ s .inputs
-  inputs-place Clear outputs-deed.Keep s p = refl
-  inputs-place Clear outputs-deed.Publish s p = absurd (p .0)
-  inputs-place Clear outputs-deed.Zeros s p = refl
 
   sets-fill : (d : SetDeed) (x : station-sets.Sets) (n : ℕ) → Receives (⊥ × Other) d → fillOf (onSets d x n .set .place) ≡ fillOf (x .set .place)
   sets-fill set-deed.Keep x n p = refl
@@ -181,10 +218,12 @@ module _ (Other : Type 0) where
   sets-fill set-deed.Drop x n p = refl
 
   -- and zeros are not written under the reply
-  spared : (d : OutputsDeed) (s : State) (m : List ℕ) → Publishes (⊥ × Other) (Spared (s .reply)) d → s .reply .drawn ≡ drawn.Outputs → left (s .reply .sender) ≡ true
+  spared : (d : OutputsDeed) (s : State) (m : List ℕ) → Publishes (⊥ × Other) ⊥ (Spared (s .reply)) d → s .reply .drawn ≡ drawn.Outputs → left (s .reply .sender) ≡ true
       → part (onMemory d s m) (outputsAt (s .setup) (s .reply .place)) (s .setup .«output_len») ≡ part m (outputsAt (s .setup) (s .reply .place)) (s .setup .«output_len»)
   spared outputs-deed.Keep s m p w h = refl
   spared outputs-deed.Publish s m p w h = absurd (p .0)
+  spared outputs-deed.HoldBack s m p w h = absurd (p .0)
+  spared outputs-deed.Release s m p w h = absurd p
   spared outputs-deed.Zeros s m p w h = absurd (p w h)
 
 module _ {s : State} {m : List ℕ} {l : Ledger} {o : Outcome} (a : Agrees s m l) (q : Quiet (s .setup) (s .control) (Spared (s .reply)) o) where
@@ -199,7 +238,7 @@ module _ {s : State} {m : List ℕ} {l : Ledger} {o : Outcome} (a : Agrees s m l
     setup = refl;
     outputs =
         λ k h. ap (λ (p : ℕ). part after (outputsAt (s .setup) p) k) (outputs-fill _ _ (o .outputs) s (q .outputs-come))
-        ∙ written .other outputRow (fillOf (s .outputs .set .place)) k (a .safe .outputs .fill-in) h (λ _ z. a .safe .outputs .fill-next (sym z));
+        ∙ written .other outputRow (fillOf (s .outputs .set .place)) k (a .safe .outputs .within role.fill (omega arith)) h (λ _ z. a .safe .outputs .apart role.fill role.next (omega arith) (omega arith) (λ z. omega arith) (sym z));
     parameters =
         λ k h. ap (λ (p : ℕ). part after (parametersAt (s .setup) p) k) (sets-fill _ (o .parameters) (s .parameters) 0 (q .parameters-come))
         ∙ written .later parameterRow (fillOf (s .parameters .set .place)) k (omega arith);
@@ -212,7 +251,7 @@ module _ {s : State} {m : List ℕ} {l : Ledger} {o : Outcome} (a : Agrees s m l
   source e = record {
     ident = refl;
     inputs =
-        ap (λ (t : Triple). part after (inputsAt (s .setup) (fillOf (t .place))) (s .setup .«input_len»)) (inputs-place _ _ (o .outputs) s (q .outputs-come))
+        ap (λ (t : Triple). part after (inputsAt (s .setup) (fillOf (t .place))) (s .setup .«input_len»)) (inputs-place (o .inputs) s (q .inputs-come))
         ∙ written .later inputRow (fillOf (s .inputs .place)) (s .setup .«input_len») (omega arith);
     outputs = λ w. spared _ (o .outputs) s m (q .outputs-come) w e;
     slice = slice-stays written (λ z. absurd (omega arith));
@@ -223,7 +262,7 @@ module _ {s : State} {m : List ℕ} {l : Ledger} {o : Outcome} (a : Agrees s m l
   pub quiet-agrees : (p : Outcome) → o ≡ p → After (carried s m o 0) (ledger.carried l p [])
   quiet-agrees p e =
       subst (λ (x : Outcome). After (carried s m o 0) (ledger.carried l x [])) e
-      (carried-with [] a q (λ z. absurd z) (λ z. absurd z) (λ z. absurd z)
+      (carried-with [] a q (λ z. absurd z) (λ z. absurd z) (λ z. absurd z) (λ z. absurd z)
       (reading-stays s (onState s o 0) m after refl fills (l .line) (a .reading))
       (reply-stays s (onState s o 0) m after refl (l .line) source (a .reply)))
 
@@ -231,11 +270,11 @@ module _ {s : State} {m : List ℕ} {l : Ledger} {o : Outcome} (a : Agrees s m l
 
 module _ {s : State} {m : List ℕ} {l : Ledger} {o : Outcome} (a : Agrees s m l) (r : Request) (ds : List ℕ)
     (count : r .count ≡ length ds) (da : r .da ≡ s .incoming .reader .da) (dsap : r .dsap ≡ s .incoming .reader .dsap)
-    (g : Gathered s m ds) (v : Served (s .setup) (s .control) r o)
+    (g : Gathered s m ds) (v : Served (s .setup) (s .control) (s .outputs .set .withheld) r o)
     (ignored : l .line .ignored ≡ true) (still : left (s .reply .sender) ≡ false) where
   pub received-agrees : After (carried s m o (length ds)) (ledger.carried l o ds)
   received-agrees =
-      carried-with ds a (subst (λ (n : ℕ). Lawful (s .setup) (s .control) n (Plain r) Unit (To r) o) count (v .lawful))
-      (λ h. g .outputs (omega arith)) (λ h. g .parameters (omega arith) (omega arith)) (λ h. g .configuration (omega arith) (omega arith))
+      carried-with ds a (subst (λ (n : ℕ). Lawful (s .setup) (s .control) n (Plain r) (s .outputs .set .withheld ≡ true) Unit Unit (To r) o) count (v .lawful))
+      (λ h. g .outputs (omega arith)) (λ h. h) (λ h. g .parameters (omega arith) (omega arith)) (λ h. g .configuration (omega arith) (omega arith))
       (ignored-agrees (a .reading .ignoring ∙ ignored) ignored (a .reading .empty ignored))
       (reply-stays s (onState s o (length ds)) m (onMemory (o .outputs) s m) refl (l .line) (λ h. no-true (sym still ∙ h)) (a .reply))

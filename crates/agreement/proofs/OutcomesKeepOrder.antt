@@ -76,8 +76,8 @@ stays-unjudged set-deed.Advance x ds w f e = absurd w
 stays-unjudged set-deed.Drop x ds w f e = no-true e
 
 -- what comes of a telegram
-pub served-order : {g : Setup} {c : Control} {p q : Sets} {r : Request} {o : Outcome} (ds : List ℕ) → r .count ≡ length ds → InOrder g c p q → Served g c r o → Orders g p q ds o
-served-order {g} {c} {p} {q} {r} {o} ds counted h v = record {
+pub served-order : {g : Setup} {c : Control} {withheld : Bool} {p q : Sets} {r : Request} {o : Outcome} (ds : List ℕ) → r .count ≡ length ds → InOrder g c p q → Served g c withheld r o → Orders g p q ds o
+served-order {g} {c} {withheld} {p} {q} {r} {o} ds counted h v = record {
   parameters-closed = λ e. let w = v .in-exchange e in ap (λ (d : SetDeed). onSets d p ds .shown) (w .1) ∙ h .parameters-closed (w .0);
   configuration-closed = λ e. let w = v .in-exchange e in ap (λ (d : SetDeed). onSets d q ds .shown) (w .2) ∙ h .configuration-closed (w .0);
   unjudged = stays-unjudged (o .parameters) p ds (v .judges) (h .unjudged);

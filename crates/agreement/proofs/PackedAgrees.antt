@@ -3,8 +3,9 @@ use Prim.Native.Nat.{ℕ, _≤_, _<_}
 use native.Mathlib.Omega.{arith}
 use mathlib.Core.Path.{_≡_, refl, _∙_}
 use mathlib.Core.List.{List}
-use lib.ListN.{length}
-use Rattle.buffers.specs.Triple.{fillOf, nextOf, heldOf}
+use lib.ListN.{length, getD}
+use Rattle.buffers.specs.Roles.{fillOf, nextOf, heldOf}
+use Rattle.buffers.specs.Roles as role
 use Rattle.octets.specs.Part.{part}
 use Rattle.state.specs.declared.setup.Setup.{Setup}
 use Rattle.state.specs.declared.state.State.{State}
@@ -14,6 +15,7 @@ use Rattle.state.proofs.Places.{inside, get-cfg-inside}
 use Rattle.state.proofs.Front.{kept-part, kept-length}
 use Rattle.ledger.specs.Ledger.{Ledger}
 use Rattle.steps.specs.Replies.{ownPlace, userPlace}
+use Rattle.agreement.proofs.OtherBuffersStay.{outputs-stay}
 use Rattle.agreement.proofs.Relation.{Agrees}
 use Rattle.agreement.proofs.LineStays.{SameSource, SameFills, reply-stays, reading-stays}
 use Rattle.steps.proofs.KeepsSafe.{own-in, user-in, safe-length}
@@ -23,28 +25,23 @@ pub kept-agrees : {s : State} {m : List ℕ} {l : Ledger} → stateLength ≤ le
 kept-agrees {s} {m} {l} long a = record {
   setup = a .setup;
   control = a .control;
-  outputs = record {
-    held = same outputRow (heldOf (s .outputs .set .place)) (s .setup .«output_len») (a .safe .outputs .held-in) ∙ a .outputs .held;
-    next = same outputRow (nextOf (s .outputs .set .place)) (s .setup .«output_len») (a .safe .outputs .next-in) ∙ a .outputs .next;
-    fresh = a .outputs .fresh;
-    zeros = a .outputs .zeros;
-  };
+  outputs = outputs-stay (λ j _ h. same outputRow (getD (s .outputs .set .place) j 0) (s .setup .«output_len») (a .safe .outputs .within j h)) (a .outputs);
   inputs = record {
-    sending = same inputRow (fillOf (s .inputs .place)) (s .setup .«input_len») (a .safe .inputs .fill-in) ∙ a .inputs .sending;
-    next = same inputRow (nextOf (s .inputs .place)) (s .setup .«input_len») (a .safe .inputs .next-in) ∙ a .inputs .next;
-    held = same inputRow (heldOf (s .inputs .place)) (s .setup .«input_len») (a .safe .inputs .held-in) ∙ a .inputs .held;
+    sending = same inputRow (fillOf (s .inputs .place)) (s .setup .«input_len») (a .safe .inputs .within role.fill (omega arith)) ∙ a .inputs .sending;
+    next = same inputRow (nextOf (s .inputs .place)) (s .setup .«input_len») (a .safe .inputs .within role.next (omega arith)) ∙ a .inputs .next;
+    held = same inputRow (heldOf (s .inputs .place)) (s .setup .«input_len») (a .safe .inputs .within role.held (omega arith)) ∙ a .inputs .held;
     fresh = a .inputs .fresh;
   };
   parameters = record {
-    shown = same parameterRow (heldOf (s .parameters .set .place)) (s .parameters .shown) (a .safe .parameters .held-in) ∙ a .parameters .shown;
-    waiting = same parameterRow (nextOf (s .parameters .set .place)) (s .parameters .waiting) (a .safe .parameters .next-in) ∙ a .parameters .waiting;
+    shown = same parameterRow (heldOf (s .parameters .set .place)) (s .parameters .shown) (a .safe .parameters .within role.held (omega arith)) ∙ a .parameters .shown;
+    waiting = same parameterRow (nextOf (s .parameters .set .place)) (s .parameters .waiting) (a .safe .parameters .within role.next (omega arith)) ∙ a .parameters .waiting;
     shown-count = a .parameters .shown-count;
     waiting-count = a .parameters .waiting-count;
     fresh = a .parameters .fresh;
   };
   configuration = record {
-    shown = same configurationRow (heldOf (s .configuration .set .place)) (s .configuration .shown) (a .safe .configuration .held-in) ∙ a .configuration .shown;
-    waiting = same configurationRow (nextOf (s .configuration .set .place)) (s .configuration .waiting) (a .safe .configuration .next-in) ∙ a .configuration .waiting;
+    shown = same configurationRow (heldOf (s .configuration .set .place)) (s .configuration .shown) (a .safe .configuration .within role.held (omega arith)) ∙ a .configuration .shown;
+    waiting = same configurationRow (nextOf (s .configuration .set .place)) (s .configuration .waiting) (a .safe .configuration .within role.next (omega arith)) ∙ a .configuration .waiting;
     shown-count = a .configuration .shown-count;
     waiting-count = a .configuration .waiting-count;
     fresh = a .configuration .fresh;
@@ -71,15 +68,15 @@ kept-agrees {s} {m} {l} long a = record {
     fills : SameFills s m s (kept s m)
     fills = record {
       setup = refl;
-      outputs = λ k _. same outputRow (fillOf (s .outputs .set .place)) k (a .safe .outputs .fill-in);
-      parameters = λ k _. same parameterRow (fillOf (s .parameters .set .place)) k (a .safe .parameters .fill-in);
-      configuration = λ k _. same configurationRow (fillOf (s .configuration .set .place)) k (a .safe .configuration .fill-in);
+      outputs = λ k _. same outputRow (fillOf (s .outputs .set .place)) k (a .safe .outputs .within role.fill (omega arith));
+      parameters = λ k _. same parameterRow (fillOf (s .parameters .set .place)) k (a .safe .parameters .within role.fill (omega arith));
+      configuration = λ k _. same configurationRow (fillOf (s .configuration .set .place)) k (a .safe .configuration .within role.fill (omega arith));
     }
 
     source : SameSource s m s (kept s m)
     source = record {
       ident = refl;
-      inputs = same inputRow (fillOf (s .inputs .place)) (g .«input_len») (a .safe .inputs .fill-in);
+      inputs = same inputRow (fillOf (s .inputs .place)) (g .«input_len») (a .safe .inputs .within role.fill (omega arith));
       outputs = λ _. same outputRow (s .reply .place) (g .«output_len») (let h = a .safe .reply in omega arith);
       slice = in-slice;
       diagnosis = λ _. same diagnosisRow (ownPlace (s .swapped)) (g .«diagnosis_len») (own-in (s .swapped));

@@ -7,7 +7,8 @@ use mathlib.Core.List.{List}
 use lib.Dec.{eqb, leb, ltb}
 use lib.ListN.{getD, set}
 use borrow.Author.Tests.{ltb-true, leb-false, eqb-true, not-false}
-use Rattle.buffers.specs.Triple.{fillOf, nextOf, heldOf}
+use Rattle.buffers.specs.Roles.{fillOf, nextOf, heldOf}
+use Rattle.buffers.specs.Roles as role
 use Rattle.octets.specs.Part.{part}
 use Rattle.octets.proofs.Parts.{part-at, part-set-inside}
 use Rattle.telegram.proofs.Run.{no-true}
@@ -31,7 +32,7 @@ use Rattle.steps.specs.User.{absent, kindAt, readOctet, writeOctet}
 use Rattle.steps.specs.Step.{step}
 use Rattle.agreement.proofs.Relation.{InputsAgree, SetsAgree, DiagnosesAgree, Agrees, Matches}
 use Rattle.agreement.proofs.Steady.{SetsFit, Steady, Related}
-use Rattle.agreement.proofs.OtherBuffersStay.{Elsewhere, set-elsewhere, inputs-stay, diagnoses-stay, slice-stays, sets-stay}
+use Rattle.agreement.proofs.OtherBuffersStay.{Elsewhere, set-elsewhere, inputs-stay, diagnoses-stay, slice-stays, sets-stay, outputs-stay}
 use Rattle.agreement.proofs.LineStays.{reading-stays, reply-stays}
 use Rattle.steps.proofs.KeepsSafe.{own-in, user-in, safe-length}
 use Rattle.state.proofs.Choice.{both, and-left, and-right, or-left}
@@ -107,7 +108,7 @@ own-not-user false e = omega arith
 module _ {s : State} {m m′ : List ℕ} {l : Ledger} (r : Agrees s m l) (t : Steady l) (a i : ℕ) (e : Elsewhere (s .setup) a i m m′)
     (not-outputs : a ≡ outputRow → ⊥) (not-parameters : a ≡ parameterRow → ⊥) (not-configuration : a ≡ configurationRow → ⊥) (not-slice : a ≡ getCfgRow → ⊥)
     (not-sending : a ≡ inputRow → i ≡ fillOf (s .inputs .place) → ⊥) (not-own : a ≡ diagnosisRow → i ≡ ownPlace (s .swapped) → ⊥) where
-  output : (j k : ℕ) → j < 3 → k ≤ s .setup .«output_len» → part m′ (outputsAt (s .setup) j) k ≡ part m (outputsAt (s .setup) j) k
+  output : (j k : ℕ) → j < 4 → k ≤ s .setup .«output_len» → part m′ (outputsAt (s .setup) j) k ≡ part m (outputsAt (s .setup) j) k
   output j k hj hk = e .other outputRow j k hj hk (λ z _. not-outputs z)
 
   parameter : (j k : ℕ) → j < 3 → k ≤ s .setup .«parameter_len» → part m′ (parametersAt (s .setup) j) k ≡ part m (parametersAt (s .setup) j) k
@@ -136,35 +137,30 @@ module _ {s : State} {m m′ : List ℕ} {l : Ledger} (r : Agrees s m l) (t : St
       record {
         setup = r .setup;
         control = r .control;
-        outputs = record {
-          held = output (heldOf (s .outputs .set .place)) (s .setup .«output_len») (f .outputs .held-in) (omega arith) ∙ r .outputs .held;
-          next = output (nextOf (s .outputs .set .place)) (s .setup .«output_len») (f .outputs .next-in) (omega arith) ∙ r .outputs .next;
-          fresh = r .outputs .fresh;
-          zeros = r .outputs .zeros;
-        };
+        outputs = outputs-stay (λ j _ h. output (getD (s .outputs .set .place) j 0) (s .setup .«output_len») (f .outputs .within j h) (omega arith)) (r .outputs);
         inputs = hx;
         parameters =
-            sets-stay (parameter (heldOf (s .parameters .set .place)) (s .parameters .shown) (f .parameters .held-in) (p .0))
-            (parameter (nextOf (s .parameters .set .place)) (s .parameters .waiting) (f .parameters .next-in) (p .1)) (r .parameters);
+            sets-stay (parameter (heldOf (s .parameters .set .place)) (s .parameters .shown) (f .parameters .within role.held (omega arith)) (p .0))
+            (parameter (nextOf (s .parameters .set .place)) (s .parameters .waiting) (f .parameters .within role.next (omega arith)) (p .1)) (r .parameters);
         configuration =
-            sets-stay (configured (heldOf (s .configuration .set .place)) (s .configuration .shown) (f .configuration .held-in) (q .0))
-            (configured (nextOf (s .configuration .set .place)) (s .configuration .waiting) (f .configuration .next-in) (q .1)) (r .configuration);
+            sets-stay (configured (heldOf (s .configuration .set .place)) (s .configuration .shown) (f .configuration .within role.held (omega arith)) (q .0))
+            (configured (nextOf (s .configuration .set .place)) (s .configuration .waiting) (f .configuration .within role.next (omega arith)) (q .1)) (r .configuration);
         diagnosis = hy;
         slice = slice-stays e not-slice ∙ r .slice;
         reading =
             reading-stays s s m m′ refl
             (record {
               setup = refl;
-              outputs = λ k h. output (fillOf (s .outputs .set .place)) k (f .outputs .fill-in) h;
-              parameters = λ k h. parameter (fillOf (s .parameters .set .place)) k (f .parameters .fill-in) h;
-              configuration = λ k h. configured (fillOf (s .configuration .set .place)) k (f .configuration .fill-in) h;
+              outputs = λ k h. output (fillOf (s .outputs .set .place)) k (f .outputs .within role.fill (omega arith)) h;
+              parameters = λ k h. parameter (fillOf (s .parameters .set .place)) k (f .parameters .within role.fill (omega arith)) h;
+              configuration = λ k h. configured (fillOf (s .configuration .set .place)) k (f .configuration .within role.fill (omega arith)) h;
             })
             (l .line) (r .reading);
         reply =
             reply-stays s s m m′ refl (l .line)
             (λ _. record {
               ident = refl;
-              inputs = e .other inputRow (fillOf (s .inputs .place)) (s .setup .«input_len») (f .inputs .fill-in) (omega arith) not-sending;
+              inputs = e .other inputRow (fillOf (s .inputs .place)) (s .setup .«input_len») (f .inputs .within role.fill (omega arith)) (omega arith) not-sending;
               outputs = λ _. output (s .reply .place) (s .setup .«output_len») (let u = f .reply in omega arith) (omega arith);
               slice = slice-stays e not-slice;
               diagnosis = λ _. e .other diagnosisRow (ownPlace (s .swapped)) (s .setup .«diagnosis_len») (own-in (s .swapped)) (omega arith) not-own;
@@ -183,13 +179,13 @@ module _ {s : State} {m : List ℕ} {l : Ledger} (r : Related s m l) (index x : 
   written-input h =
       let f = a .safe in
       let held = heldOf (s .inputs .place) in
-      let e = set-elsewhere (s .setup) m inputRow held (f .room) (f .inputs .held-in) index x h in
+      let e = set-elsewhere (s .setup) m inputRow held (f .room) (f .inputs .within role.held (omega arith)) index x h in
       written a (r .steady) inputRow held e (λ z. omega arith) (λ z. omega arith) (λ z. omega arith) (λ z. omega arith)
-      (λ _ z. f .inputs .fill-held (sym z)) (λ z _. omega arith)
+      (λ _ z. f .inputs .apart role.fill role.held (omega arith) (omega arith) (λ z. omega arith) (sym z)) (λ z _. omega arith)
       (lists.writtenInput (l .buffers .inputs) index x) (l .buffers .diagnosis)
       (record {
-        sending = e .other inputRow (fillOf (s .inputs .place)) (s .setup .«input_len») (f .inputs .fill-in) (omega arith) (λ _ z. f .inputs .fill-held (sym z)) ∙ a .inputs .sending;
-        next = e .other inputRow (nextOf (s .inputs .place)) (s .setup .«input_len») (f .inputs .next-in) (omega arith) (λ _ z. f .inputs .next-held (sym z)) ∙ a .inputs .next;
+        sending = e .other inputRow (fillOf (s .inputs .place)) (s .setup .«input_len») (f .inputs .within role.fill (omega arith)) (omega arith) (λ _ z. f .inputs .apart role.fill role.held (omega arith) (omega arith) (λ z. omega arith) (sym z)) ∙ a .inputs .sending;
+        next = e .other inputRow (nextOf (s .inputs .place)) (s .setup .«input_len») (f .inputs .within role.next (omega arith)) (omega arith) (λ _ z. f .inputs .apart role.next role.held (omega arith) (omega arith) (λ z. omega arith) (sym z)) ∙ a .inputs .next;
         held = part-set-inside m (inputsAt (s .setup) held) (s .setup .«input_len») index x h ∙ ap (λ (xs : List ℕ). set xs index x) (a .inputs .held);
         fresh = a .inputs .fresh;
       })

@@ -4,8 +4,10 @@ use native.Mathlib.Omega.{arith}
 use mathlib.Core.Path.{_≡_, refl, sym, _∙_}
 use mathlib.Core.Bool.{Bool, true, false, cond}
 use mathlib.Core.List.{List}
+use lib.ListN.{getD}
 use lib.Dec.{ltb, eqb}
-use Rattle.buffers.specs.Triple.{fillOf, nextOf, heldOf, Permutation}
+use Rattle.buffers.specs.Roles.{fillOf, nextOf, heldOf, Permutation}
+use Rattle.buffers.specs.Roles as role
 use Rattle.octets.specs.Part.{storedIn}
 use Rattle.state.specs.declared.setup.Setup.{Setup}
 use Rattle.state.specs.declared.state.Sets as station-sets
@@ -19,7 +21,7 @@ use Rattle.state.specs.With.{withIncoming}
 use Rattle.steps.specs.Reading.{storedData}
 use Rattle.agreement.proofs.Relation.{SetsAgree, ReadingAgrees, ReplyAgrees, Agrees}
 use Rattle.steps.proofs.KeepsSafe.{safe-length, safe-incoming}
-use Rattle.agreement.proofs.OtherBuffersStay.{Elsewhere, same-elsewhere, inputs-stay, diagnoses-stay, slice-stays, sets-stay}
+use Rattle.agreement.proofs.OtherBuffersStay.{Elsewhere, same-elsewhere, inputs-stay, diagnoses-stay, slice-stays, sets-stay, outputs-stay}
 use Rattle.agreement.proofs.Steady.{SetsFit, Steady}
 use Rattle.agreement.proofs.DataOctetStored.{stored-elsewhere}
 
@@ -63,13 +65,13 @@ data-beside s m k b f =
         (cond p (storedIn m (startOf (s .setup) outputRow (fillOf (s .outputs .set .place))) (s .setup .«output_len») k b)
         (cond q (storedIn m (startOf (s .setup) parameterRow (fillOf (s .parameters .set .place))) (s .setup .«parameter_len») k b)
         (cond t (storedIn m (startOf (s .setup) configurationRow (fillOf (s .configuration .set .place))) (s .setup .«configuration_len») k b) m)))
-    go true q t = into outputRow (fillOf (s .outputs .set .place)) (f .outputs .fill-in) (fills-outputs s)
-    go false true t = into parameterRow (fillOf (s .parameters .set .place)) (f .parameters .fill-in) (fills-parameters s)
-    go false false true = into configurationRow (fillOf (s .configuration .set .place)) (f .configuration .fill-in) (fills-configuration s)
+    go true q t = into outputRow (fillOf (s .outputs .set .place)) (f .outputs .within role.fill (omega arith)) (fills-outputs s)
+    go false true t = into parameterRow (fillOf (s .parameters .set .place)) (f .parameters .within role.fill (omega arith)) (fills-parameters s)
+    go false false true = into configurationRow (fillOf (s .configuration .set .place)) (f .configuration .within role.fill (omega arith)) (fills-configuration s)
     go false false false = nowhere s m
 
 -- the sets shown and waiting are in the buffers held and next
-sets-beside : {g : Setup} {a i : ℕ} {m m′ : List ℕ} (e : Elsewhere g a i m m′) (b : ℕ) (x : station-sets.Sets) (y : Sets) → rowCount b ≡ 3 → Permutation (x .set .place)
+sets-beside : {g : Setup} {a i : ℕ} {m m′ : List ℕ} (e : Elsewhere g a i m m′) (b : ℕ) (x : station-sets.Sets) (y : Sets) → rowCount b ≡ 3 → Permutation 3 (x .set .place)
     → (a ≡ b → i ≡ fillOf (x .set .place)) → SetsFit (rowLength g b) y
     → SetsAgree (startOf g b) m x y → SetsAgree (startOf g b) m′ x y
 sets-beside e b x y c p f u r =
@@ -78,8 +80,8 @@ sets-beside e b x y c p f u r =
     let k = r .shown-count in
     let w = r .waiting-count in
     sets-stay
-    (e .other b (heldOf (x .set .place)) (x .shown) (omega arith) (omega arith) (λ z h. p .fill-held (sym (f z) ∙ h)))
-    (e .other b (nextOf (x .set .place)) (x .waiting) (omega arith) (omega arith) (λ z h. p .fill-next (sym (f z) ∙ h)))
+    (e .other b (heldOf (x .set .place)) (x .shown) (rw c (p .within role.held (omega arith))) (omega arith) (λ z h. p .apart role.fill role.held (omega arith) (omega arith) (λ z. omega arith) (sym (f z) ∙ h)))
+    (e .other b (nextOf (x .set .place)) (x .waiting) (rw c (p .within role.next (omega arith))) (omega arith) (λ z h. p .apart role.fill role.next (omega arith) (omega arith) (λ z. omega arith) (sym (f z) ∙ h)))
     r
 
 -- all parts but reading and reply agree as before
@@ -94,12 +96,9 @@ reread {s} {m} {m′} {l} i n d w r reading reply =
     record {
       setup = r .setup;
       control = r .control;
-      outputs = record {
-        held = e .other outputRow (heldOf (s .outputs .set .place)) k (f .outputs .held-in) (omega arith) (λ z v. f .outputs .fill-held (sym (h .of-outputs z) ∙ v)) ∙ r .outputs .held;
-        next = e .other outputRow (nextOf (s .outputs .set .place)) k (f .outputs .next-in) (omega arith) (λ z v. f .outputs .fill-next (sym (h .of-outputs z) ∙ v)) ∙ r .outputs .next;
-        fresh = r .outputs .fresh;
-        zeros = r .outputs .zeros;
-      };
+      outputs =
+          outputs-stay (λ j hj hk. e .other outputRow (getD (s .outputs .set .place) j 0) k (f .outputs .within j hk) (omega arith)
+          (λ z v. f .outputs .apart role.fill j (omega arith) hk (λ q. omega arith) (sym (h .of-outputs z) ∙ v))) (r .outputs);
       inputs = inputs-stay e (f .inputs) (h .no-inputs) (r .inputs);
       parameters =
           sets-beside e parameterRow (s .parameters) (l .buffers .parameters) refl (f .parameters) (h .of-parameters)

@@ -6,7 +6,7 @@ use mathlib.Core.Bool.{Bool, true, false}
 use mathlib.Core.List.{List, []}
 use lib.ListN.{length, take, getD}
 use Rattle.buffers.specs.declared.triple.Triple.{Triple}
-use Rattle.buffers.specs.Triple.{fillOf, nextOf, heldOf}
+use Rattle.buffers.specs.Roles.{fillOf, nextOf, heldOf, backOf}
 use Rattle.octets.specs.Part.{part}
 use Rattle.telegram.specs.Reading.{start, run, status, gathered}
 use Rattle.telegram.specs.ToSend.{toSend}
@@ -24,12 +24,14 @@ use Rattle.rules.specs.Replies.{diagnoses}
 use Rattle.steps.specs.Replies.{ownPlace, userPlace, datumAt}
 use Rattle.steps.specs.Reading.{isIgnored}
 
--- the outputs held and next, with their marks
+-- the outputs held and next, and those held back where something is, with their marks
 pub record OutputsAgree (g : Setup) (m : List ℕ) (o : station-outputs.Outputs) (l : Outputs) : Type 0 where
   pub held : part m (outputsAt g (heldOf (o .set .place))) (g .«output_len») ≡ l .held
   pub next : part m (outputsAt g (nextOf (o .set .place))) (g .«output_len») ≡ l .next
+  pub back : l .withheld ≡ true → part m (outputsAt g (backOf (o .set .place))) (g .«output_len») ≡ l .back
   pub fresh : o .set .fresh ≡ l .fresh
   pub zeros : o .zeros ≡ l .zeros
+  pub withheld : o .set .withheld ≡ l .withheld
 
 -- the three inputs
 pub record InputsAgree (g : Setup) (m : List ℕ) (t : Triple) (l : Inputs) : Type 0 where

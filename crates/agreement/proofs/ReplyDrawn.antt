@@ -10,7 +10,8 @@ use lib.Dec.{eqb, ltb}
 use lib.ListN.{length, getD, take, drop, length-append, length-take, length-drop}
 use lib.Seq.{getD-take, getD-drop, getD-append-add}
 use borrow.Author.Tests.{ltb-true, ltb-false, ne-eqb}
-use Rattle.buffers.specs.Triple.{fillOf, heldOf}
+use Rattle.buffers.specs.Roles.{fillOf, heldOf}
+use Rattle.buffers.specs.Roles as role
 use Rattle.octets.specs.Part.{part}
 use Rattle.octets.proofs.Parts.{part-length}
 use Rattle.telegram.specs.declared.Kind.the-variants.{Sd2}
@@ -139,7 +140,7 @@ module _ (s : State) (m : List ℕ) (slice : List ℕ) (b : Buffers) (master : �
   draw-exchange : Replies s m slice b master Exchange
   unfolding replyFor datumAt
   draw-exchange =
-      let e : length (b .inputs .sending) ≡ s .setup .«input_len» = fills inputRow (fillOf (s .inputs .place)) (b .inputs .sending) (f .inputs .fill-in) sent in (
+      let e : length (b .inputs .sending) ≡ s .setup .«input_len» = fills inputRow (fillOf (s .inputs .place)) (b .inputs .sending) (f .inputs .within role.fill (omega arith)) sent in (
         b .inputs .sending,
         record {
           count = e;
@@ -155,7 +156,7 @@ module _ (s : State) (m : List ℕ) (slice : List ℕ) (b : Buffers) (master : �
   unfolding replyFor datumAt
   draw-inputs =
       let xs = b .inputs .sending in
-      let e : length xs ≡ s .setup .«input_len» = fills inputRow (fillOf (s .inputs .place)) xs (f .inputs .fill-in) sent in (
+      let e : length xs ≡ s .setup .«input_len» = fills inputRow (fillOf (s .inputs .place)) xs (f .inputs .within role.fill (omega arith)) sent in (
         0x3E ∷ 56 ∷ xs,
         record {
           count = service-count (s .setup .«input_len») xs 56 e (w .input-len .1);
@@ -170,7 +171,7 @@ module _ (s : State) (m : List ℕ) (slice : List ℕ) (b : Buffers) (master : �
   draw-outputs =
       let xs = b .outputs .held in
       let n = s .setup .«output_len» in
-      let e : length xs ≡ s .setup .«output_len» = fills outputRow (heldOf (s .outputs .set .place)) xs (f .outputs .held-in) held in (
+      let e : length xs ≡ s .setup .«output_len» = fills outputRow (heldOf (s .outputs .set .place)) xs (f .outputs .within role.held (omega arith)) held in (
         0x3E ∷ 57 ∷ xs,
         record {
           count = service-count n xs 57 e (w .output-len .1);

@@ -4,7 +4,8 @@ use native.Mathlib.Omega.{arith}
 use mathlib.Core.Path.{_≡_, refl, ap, _∙_}
 use mathlib.Core.List.{List, []}
 use lib.ListN.{length}
-use Rattle.buffers.proofs.Roles.{initial-permutation}
+use Rattle.buffers.proofs.Triples.{initial-permutation}
+use Rattle.buffers.proofs.Quads as quads
 use Rattle.octets.specs.Part.{part}
 use Rattle.telegram.specs.Sending.{empty}
 use Rattle.telegram.proofs.Run.{no-true, off-broken}
@@ -29,7 +30,7 @@ module _ (m : List ℕ) (s : Setup) (slice : List ℕ) (long : s .«get_cfg_len�
       record {
         setup = refl;
         control = refl;
-        outputs = record { held = zeros outputRow 2 (omega arith) (omega arith); next = zeros outputRow 1 (omega arith) (omega arith); fresh = refl; zeros = refl };
+        outputs = record { held = zeros outputRow 2 (omega arith) (omega arith); next = zeros outputRow 1 (omega arith) (omega arith); back = λ e. no-true e; fresh = refl; zeros = refl; withheld = refl };
         inputs = record {
           sending = zeros inputRow 0 (omega arith) (omega arith);
           next = zeros inputRow 1 (omega arith) (omega arith);
@@ -43,7 +44,7 @@ module _ (m : List ℕ) (s : Setup) (slice : List ℕ) (long : s .«get_cfg_len�
         reading = ignored-agrees (ap isIgnored off-broken) refl refl;
         reply = ([], record { count = refl; octets = λ k g. absurd (omega arith); unsent = none empty [] refl; diagnosis = refl });
         safe = record {
-          outputs = initial-permutation;
+          outputs = quads.initial-permutation;
           inputs = initial-permutation;
           parameters = initial-permutation;
           configuration = initial-permutation;

@@ -7,7 +7,9 @@ use lib.Dec.{eqb, leb}
 use borrow.Author.Tests.{not-false}
 use Rattle.buffers.specs.Events.{acknowledged, pendingOf}
 use Rattle.buffers.specs.Triple as triple
-use Rattle.buffers.proofs.Roles.{taken-permutes, handed-over-permutes}
+use Rattle.buffers.specs.Quad as quad
+use Rattle.buffers.proofs.Triples.{handed-over-permutes}
+use Rattle.buffers.proofs.Quads.{taken-permutes}
 use Rattle.telegram.proofs.Run.{no-true}
 use Rattle.state.specs.declared.answer.Answer.the-variants.{Value}
 use Rattle.state.specs.declared.answer.Refusal.{Refusal}
@@ -80,7 +82,7 @@ module _ {s : State} {m : List ℕ} {l : Ledger} (a : Agrees s m l) where
   take-matches =
       both Matches (not (s .outputs .set .fresh)) (not (l .buffers .outputs .fresh))
       (told 0 s m)
-      (told (cond (s .outputs .zeros) 2 1) (withOutputs s (record { set = triple.taken (s .outputs .set); zeros = s .outputs .zeros })) m)
+      (told (cond (s .outputs .zeros) 2 1) (withOutputs s (record { set = quad.taken (s .outputs .set); zeros = s .outputs .zeros })) m)
       (ledger-user.told 0 l)
       (ledger-user.told (cond (l .buffers .outputs .zeros) 2 1) (withBuffers l (lists.withOutputs (l .buffers) (lists.takenOutputs (l .buffers .outputs)))))
       (ap not (a .outputs .fresh))
@@ -88,9 +90,16 @@ module _ {s : State} {m : List ℕ} {l : Ledger} (a : Agrees s m l) where
       (λ _. record {
         answers = ap (λ (z : Bool). Value (cond z 2 1)) (a .outputs .zeros);
         agrees =
-            roles-changed a (record { set = triple.taken (s .outputs .set); zeros = s .outputs .zeros }) (s .inputs) (lists.takenOutputs (l .buffers .outputs)) (l .buffers .inputs) refl refl
+            roles-changed a (record { set = quad.taken (s .outputs .set); zeros = s .outputs .zeros }) (s .inputs) (lists.takenOutputs (l .buffers .outputs)) (l .buffers .inputs) refl refl
             (taken-permutes (s .outputs .set) (a .safe .outputs)) (a .safe .inputs)
-            (record { held = a .outputs .next; next = a .outputs .held; fresh = refl; zeros = a .outputs .zeros }) (a .inputs);
+            (record {
+              held = a .outputs .next;
+              next = a .outputs .held;
+              back = a .outputs .back;
+              fresh = refl;
+              zeros = a .outputs .zeros;
+              withheld = a .outputs .withheld;
+            }) (a .inputs);
       })
 
   pub hand-over-matches : Matches (step s m hand-over) (ledger-calls.step l hand-over)

@@ -1,5 +1,8 @@
 pub mod Below
 pub mod Roles
+pub mod Triples
+pub mod Quads
 pub mod Numbers
+pub mod Flag
 pub mod Bits
 pub mod Word

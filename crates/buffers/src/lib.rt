@@ -1,3 +1,4 @@
-// What the station's buffers are kept by: the set of three, and the event word.
+// What the station's buffers are kept by: the sets of three and of four, and the event word.
 pub mod events;
+pub mod quad;
 pub mod triple;

@@ -1,6 +1,7 @@
 // A set of three has the roles fill, next, held, always a permutation.
 ghost use mathlib.Core.Path.{_≡_};
-ghost use Rattle.buffers.specs.Triple.{initial, fillOf, nextOf, heldOf, published, taken, handedOver, brought, shown, marked, dropped};
+ghost use Rattle.buffers.specs.Roles.{fillOf, nextOf, heldOf};
+ghost use Rattle.buffers.specs.Triple.{initial, published, taken, handedOver, brought, shown, dropped};
 ghost use Rattle.buffers.specs.Number.{numberOf, placesOf, numbered};
 
 // One value holding its roles: the places of fill, next and held in this order, and whether next is new.
@@ -88,14 +89,6 @@ impl Triple {
     {
         let place = [self.place[2], self.place[1], self.place[0]];
         self.place = place;
-        self
-    }
-
-    // Next is new where it lies: it was written in place.
-    pub fn mark(mut self) -> Self
-        ensures { λ r. ⌜ r ≡ marked self ⌝ }
-    {
-        self.fresh = true;
         self
     }
 

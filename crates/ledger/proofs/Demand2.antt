@@ -5,8 +5,9 @@ use Rattle.telegram.proofs.Sends.{sending}
 use Rattle.ledger.specs.Demand2.{Demand2}
 use Rattle.ledger.proofs.ByGrammar.{by-grammar, sd4-without-effect}
 use Rattle.ledger.proofs.Hearing.{hears, dialogue}
-use Rattle.ledger.proofs.History.{deeds-make}
+use Rattle.ledger.proofs.History.{deeds-make, withheld-told, clear-last, takes-told}
 use Rattle.ledger.proofs.EventsFollow.{events-open, publishing-raises}
+use Rattle.ledger.proofs.ModesKept.{modes-always}
 use Rattle.ledger.proofs.Fit.{replies-read}
 use Rattle.ledger.proofs.Octets.{sent-octets}
 
@@ -20,7 +21,11 @@ demand-2 = record {
   dialogue = dialogue;
   events-open = events-open;
   deeds-make = deeds-make;
+  withheld-told = withheld-told;
+  clear-last = clear-last;
+  takes-told = takes-told;
   publishing-raises = publishing-raises;
+  modes-kept = modes-always;
   sending = sending;
   reading-back = replies-read;
   sent-octets = sent-octets;

@@ -10,7 +10,7 @@ use Rattle.buffers.specs.Events.{diagnosisEvent, outputsEvent, parametersEvent,
 use Rattle.state.specs.declared.control.Control.{Control}
 use Rattle.state.specs.declared.state.Drawn.the-variants.{Nothing}
 use Rattle.state.specs.Sound.{Within}
-use Rattle.rules.specs.declared.request.OpenSets.{OpenSets}
+use Rattle.rules.specs.declared.request.Occupied.{Occupied}
 use Rattle.rules.specs.declared.outcome.OutputsDeed.{OutputsDeed}
 use Rattle.rules.specs.declared.outcome.OutputsDeed.the-variants as outputs-deed
 use Rattle.rules.specs.declared.outcome.SetDeed.{SetDeed}
@@ -21,26 +21,31 @@ use Rattle.rules.specs.Phases.{drawing}
 use Rattle.rules.specs.Line.{clearing, clearNoted}
 use Rattle.rules.proofs.Served.{Receives, Lawful, Quiet, clear-noted-quiet}
 use Rattle.rules.proofs.ByCases.{another-raised}
-use Rattle.rules.proofs.EventsFollow.{publishing, EventShows, EventsAfter, noted-follows}
+use Rattle.rules.proofs.EventsFollow.{publishing, EventShows, Waiting, EventsAfter, noted-follows}
 use Rattle.ledger.specs.Lists.{some, Sets}
-use Rattle.ledger.specs.Ledger.{Ledger, busy, diagnosisLeaves, parametersOpen, configurationOpen, openSets}
+use Rattle.ledger.specs.Ledger.{Ledger, busy, diagnosisLeaves, parametersOpen, configurationOpen, occupied}
 use Rattle.ledger.specs.Outcome.{onSets, carried, diagnosisChanged, afterReply, settle}
-use Rattle.ledger.specs.History.{Deed, accepted, zeroed, outputsTaken, publishes, clears}
+use Rattle.ledger.specs.History.{Deed, accepted, withheld, released, emptied, zeroed, outputsTaken, deedsBy, clears}
 use Rattle.ledger.specs.EventsFollow.{eventSet, publishesIn}
 
 -- ---------------------------------------------------------------------------------------------------
 -- What is published, by the deeds.
 
 -- by an outcome
-publishes-in : (d : OutputsDeed) (ds : List ℕ) → publishesIn (publishes d ds) ≡ publishing d
+publishes-in : (d : OutputsDeed) (ds : List ℕ) → publishesIn (deedsBy d ds) ≡ publishing d
 publishes-in outputs-deed.Keep ds = refl
 publishes-in outputs-deed.Publish ds = refl
+publishes-in outputs-deed.HoldBack ds = refl
+publishes-in outputs-deed.Release ds = refl
 publishes-in outputs-deed.Zeros ds = refl
 
 -- by one or the other
 publishes-either : (g h : List Deed) → publishesIn (g ++ h) ≡ (publishesIn g || publishesIn h)
 publishes-either [] h = refl
 publishes-either (accepted ds ∷ g) h = refl
+publishes-either (withheld ds ∷ g) h = publishes-either g h
+publishes-either (released ∷ g) h = refl
+publishes-either (emptied ∷ g) h = publishes-either g h
 publishes-either (zeroed ∷ g) h = refl
 publishes-either (outputsTaken ∷ g) h = publishes-either g h
 
@@ -105,15 +110,15 @@ sets-go Given set-deed.Advance x low high ds before later h r s e = s .2 ∙ e �
 sets-go Given set-deed.Drop x low high ds before later h r s e = s
 
 -- the sets that wait
-abbrev pub waitingSets : Ledger → OpenSets
+abbrev pub waitingSets : Ledger → Waiting
 waitingSets l = record { parameters = some (l .buffers .parameters .waiting); configuration = some (l .buffers .configuration .waiting) }
 
 -- the events go with what the outcome does
-pub carried-goes : (l : Ledger) {Given Clear : Type 0} {At : ℕ → Type 0} (o : Outcome) (ds : List ℕ) → Lawful (l .setup) (l .control) (length ds) Given Clear At o
-    → EventsAfter (l .control .events) (openSets l) (waitingSets l) o → Goes l false (publishes (o .outputs) ds) (carried l o ds)
-carried-goes l {Given} {Clear} {At} o ds w f = (
+pub carried-goes : (l : Ledger) {Given Held Moved Clear : Type 0} {At : ℕ → Type 0} (o : Outcome) (ds : List ℕ) → Lawful (l .setup) (l .control) (length ds) Given Held Moved Clear At o
+    → EventsAfter (l .control .events) (occupied l) (waitingSets l) o → Goes l false (deedsBy (o .outputs) ds) (carried l o ds)
+carried-goes l {Given} {Held} {Moved} {Clear} {At} o ds w f = (
   f .outputs-raise ∙ ap (λ (t : Bool). eventSet l outputsEvent || t) (sym (publishes-in (o .outputs) ds))
-      ∙ kept-or (eventSet l outputsEvent) (publishesIn (publishes (o .outputs) ds)),
+      ∙ kept-or (eventSet l outputsEvent) (publishesIn (deedsBy (o .outputs) ds)),
   λ e. (
     sets-go (At 61) (o .parameters) (l .buffers .parameters) 7 (l .setup .«parameter_len») ds (eventSet l parametersEvent) (eventSet (carried l o ds) parametersEvent)
         (omega arith) (w .parameters-come) (f .parameters-show) (e .0),
@@ -123,8 +128,8 @@ carried-goes l {Given} {Clear} {At} o ds w f = (
 )
 
 -- one without data
-pub quiet-goes : (l : Ledger) (o : Outcome) → Quiet (l .setup) (l .control) Unit o → EventsAfter (l .control .events) (openSets l) (waitingSets l) o
-    → Goes l false (publishes (o .outputs) []) (carried l o [])
+pub quiet-goes : (l : Ledger) (o : Outcome) → Quiet (l .setup) (l .control) Unit o → EventsAfter (l .control .events) (occupied l) (waitingSets l) o
+    → Goes l false (deedsBy (o .outputs) []) (carried l o [])
 quiet-goes l o w f = carried-goes l o [] w f
 
 -- a new diagnosis raises event 12 alone
@@ -150,12 +155,12 @@ clear-goes : (m n : Ledger) → n .control .noted ≡ m .control .noted → Goes
     → Goes m false (clears m) (carried n (clearNoted (busy m) (n .control)) [])
 clear-goes m n e v =
     let o = clearNoted (busy m) (n .control) in
-    let g = publishes (o .outputs) [] in
+    let g = deedsBy (o .outputs) [] in
     let k = carried n o [] in
     alike m k (g ++ []) (clears m)
-    (publishes-either g [] ∙ or-false (publishesIn g) ∙ ap (λ (d : OutputsDeed). publishesIn (publishes d [])) (noted-alike (busy m) (m .control) (n .control) e))
+    (publishes-either g [] ∙ or-false (publishesIn g) ∙ ap (λ (d : OutputsDeed). publishesIn (deedsBy d [])) (noted-alike (busy m) (m .control) (n .control) e))
     (then m n k g [] v
-    (quiet-goes n o (clear-noted-quiet (n .setup) (n .control) (busy m) (λ _. tt)) (noted-follows (openSets n) (waitingSets n) (n .control) (busy m))))
+    (quiet-goes n o (clear-noted-quiet (n .setup) (n .control) (busy m) (λ _. tt)) (noted-follows (occupied n) (waitingSets n) (n .control) (busy m))))
 
 -- a delayed diagnosis, then a noted clear
 pub settle-goes : (m : Ledger) → Goes m false (clears m) (settle m)

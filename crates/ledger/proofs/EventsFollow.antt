@@ -20,13 +20,13 @@ use Rattle.rules.specs.User.{judgedParameters, judgedConfiguration}
 use Rattle.rules.proofs.Served.{clear-quiet, ticked-quiet, parameters-quiet, configuration-quiet}
 use Rattle.rules.proofs.EventsFollow.{clear-follows, ticked-follows, parameters-follow, configuration-follows, telegram-follows}
 use Rattle.ledger.specs.Lists.{some, writtenInput, writtenDiagnosis, withInputs, withDiagnoses}
-use Rattle.ledger.specs.Ledger.{Ledger, withBuffers, withLine, begun, busy, parametersOpen, configurationOpen, openSets, fresh}
+use Rattle.ledger.specs.Ledger.{Ledger, withBuffers, withLine, begun, busy, parametersOpen, configurationOpen, occupied, fresh}
 use Rattle.ledger.specs.Outcome.{carried, settle}
 use Rattle.ledger.specs.Bus.{telegramOn, requestBy, dataBy, outcomeOf, answered, completed, brokenOff, lengthened, beginning, sendLeft, silenced, heardAs, heard, paused, afterSend, elapsed, gapped}
 use Rattle.ledger.specs.User.{handOver, acknowledgeEvents, leaveMaster}
 use Rattle.rules.specs.Call.{Call, octet, gap, send, tick, take, read, write, hand-over, new-diagnosis, judge-parameters, judge-configuration, events, acknowledge, pending, leave}
 use Rattle.ledger.specs.Calls.{step, after}
-use Rattle.ledger.specs.History.{outputsTaken, publishes, clears, heardDeeds, deedsOf}
+use Rattle.ledger.specs.History.{outputsTaken, deedsBy, clears, heardDeeds, deedsOf}
 use Rattle.ledger.specs.EventsFollow.{EventsOpen, publishesIn, acknowledgesOutputs, PublishingRaises}
 use Rattle.ledger.proofs.ByCases.{take-cases, read-cases, write-cases, diagnosis-cases, parameters-cases, configuration-cases}
 use Rattle.ledger.proofs.Fit.{outcome-served}
@@ -39,16 +39,16 @@ use Rattle.ledger.proofs.EventsCarried.{Open, Goes, waitingSets, quiet,
 begins : (l : Ledger) (b : ℕ) → publishesIn (clears (withLine l (beginning b))) ≡ false
 begins l b = go (l .control .noted)
   where
-    go : (t : Bool) → publishesIn (publishes (cond (t && false) (clearing (l .control)) (drawing (l .control) Nothing) .outputs) []) ≡ false
+    go : (t : Bool) → publishesIn (deedsBy (cond (t && false) (clearing (l .control)) (drawing (l .control) Nothing) .outputs) []) ≡ false
     go true = refl
     go false = refl
 
 -- a complete telegram
-completed-goes : (l : Ledger) (t : Telegram) → Goes l false (publishes (outcomeOf l (requestBy t) (payloadOf t) .outputs) (payloadOf t)) (completed l t)
+completed-goes : (l : Ledger) (t : Telegram) → Goes l false (deedsBy (outcomeOf l (requestBy t) (payloadOf t) .outputs) (payloadOf t)) (completed l t)
 unfolding answered
 completed-goes l t =
     carried-goes l (outcomeOf l (requestBy t) (payloadOf t)) (payloadOf t) (outcome-served l t .lawful)
-    (telegram-follows (openSets l) (waitingSets l) (l .setup) (l .control) (requestBy t) (dataBy (payloadOf t)))
+    (telegram-follows (occupied l) (waitingSets l) (l .setup) (l .control) (requestBy t) (dataBy (payloadOf t)))
 
 -- an octet, by what the octets are with it
 heard-goes : (l : Ledger) (b : ℕ) (s : Status) → Goes l false (heardDeeds s l b) (heardAs s l b)
@@ -63,7 +63,7 @@ heard-goes l b Inside = go (begun l)
 heard-goes l b Complete =
     let t = telegramOn (l .line .telegram ++ b ∷ []) in
     let m = completed l t in
-    then l m (settle m) (clears m) (publishes (outcomeOf l (requestBy t) (payloadOf t) .outputs) (payloadOf t)) (completed-goes l t) (settle-goes m)
+    then l m (settle m) (clears m) (deedsBy (outcomeOf l (requestBy t) (payloadOf t) .outputs) (payloadOf t)) (completed-goes l t) (settle-goes m)
 heard-goes l b Broken = settle-goes (withLine l (brokenOff (l .line)))
 
 -- every call
@@ -84,9 +84,9 @@ step-goes l tick = go (l .control .noted)
     o : Outcome
     o = ticked (busy l) (l .control)
 
-    go : (t : Bool) → Goes l false (cond t (clears (withLine l (silenced l))) (publishes (o .outputs) [])) (cond t (settle (withLine l (silenced l))) (carried l o []))
+    go : (t : Bool) → Goes l false (cond t (clears (withLine l (silenced l))) (deedsBy (o .outputs) [])) (cond t (settle (withLine l (silenced l))) (carried l o []))
     go true = settle-goes (withLine l (silenced l))
-    go false = quiet-goes l o (ticked-quiet (l .setup) (l .control) (busy l) (λ _. tt)) (ticked-follows (openSets l) (waitingSets l) (l .control) (busy l))
+    go false = quiet-goes l o (ticked-quiet (l .setup) (l .control) (busy l) (λ _. tt)) (ticked-follows (occupied l) (waitingSets l) (l .control) (busy l))
 step-goes l take = take-cases (λ t. Goes l false (outputsTaken ∷ []) (t .ledger)) l (λ _. quiet l) (λ _. quiet l)
 step-goes l (read kind index) = read-cases (λ t. Goes l false [] (t .ledger)) l kind index (λ _. quiet l) (quiet l)
 step-goes l (write kind index x) = write-cases (λ t. Goes l false [] (t .ledger)) l kind index x (λ _. quiet l) (wrote (eqb kind 4))
@@ -102,14 +102,14 @@ step-goes l (judge-parameters j) =
     parameters-cases (λ t. Goes l false (deedsOf l (judge-parameters j)) (t .ledger)) l j (λ e _. rw e (quiet l))
     (λ e. rw e
     (quiet-goes l (judgedParameters (l .control) waits (eqb j 1)) (parameters-quiet (l .setup) (l .control) waits (eqb j 1) tt)
-    (parameters-follow (openSets l) (waitingSets l) (l .control) (eqb j 1) (and-left (parametersOpen l) (leb j 1) e))))
+    (parameters-follow (occupied l) (waitingSets l) (l .control) (eqb j 1) (and-left (parametersOpen l) (leb j 1) e))))
 step-goes l (judge-configuration j) =
     let waits = some (l .buffers .configuration .waiting) in
     let good = l .control .flags .«parameters_good» in
     configuration-cases (λ t. Goes l false (deedsOf l (judge-configuration j)) (t .ledger)) l j (λ e _. rw e (quiet l))
     (λ e. rw e
     (quiet-goes l (judgedConfiguration (l .control) waits (eqb j 1)) (configuration-quiet (l .setup) (l .control) waits (eqb j 1) tt)
-    (configuration-follows (openSets l) (waitingSets l) (l .control) (eqb j 1)
+    (configuration-follows (occupied l) (waitingSets l) (l .control) (eqb j 1)
     (and-left (configurationOpen l) good (and-left (configurationOpen l && good) (leb j 1) e)))))
 step-goes l events = quiet l
 step-goes l (acknowledge mask) =
@@ -119,7 +119,7 @@ step-goes l (acknowledge mask) =
     )
 step-goes l pending = quiet l
 step-goes l leave =
-    quiet-goes l (clearOn (busy l) (l .control)) (clear-quiet (l .setup) (l .control) (busy l) (λ _. tt)) (clear-follows (openSets l) (waitingSets l) (l .control) (busy l))
+    quiet-goes l (clearOn (busy l) (l .control)) (clear-quiet (l .setup) (l .control) (busy l) (λ _. tt)) (clear-follows (occupied l) (waitingSets l) (l .control) (busy l))
 
 -- ---------------------------------------------------------------------------------------------------
 -- Every list.

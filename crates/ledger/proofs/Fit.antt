@@ -14,12 +14,15 @@ use Rattle.telegram.specs.declared.reader.Status.the-variants.{Fresh, Inside, C
 use Rattle.telegram.specs.Telegram.{Telegram, kindOf, payloadOf}
 use Rattle.telegram.specs.Reading.{run, readerAfter, status}
 use Rattle.telegram.specs.Sending.{startOctet}
+use Rattle.telegram.proofs.Run.{no-true}
 use Rattle.state.specs.declared.setup.Setup.{Setup}
 use Rattle.state.specs.declared.control.Control.{Control}
 use Rattle.state.specs.declared.state.Drawn.the-variants as drawn
 use Rattle.rules.specs.declared.request.Request.{Request}
 use Rattle.rules.specs.declared.outcome.OutputsDeed.{OutputsDeed}
 use Rattle.rules.specs.declared.outcome.OutputsDeed.the-variants as outputs-deed
+use Rattle.rules.specs.declared.outcome.InputsDeed.{InputsDeed}
+use Rattle.rules.specs.declared.outcome.InputsDeed.the-variants as inputs-deed
 use Rattle.rules.specs.declared.outcome.SetDeed.{SetDeed}
 use Rattle.rules.specs.declared.outcome.SetDeed.the-variants as set-deed
 use Rattle.rules.specs.declared.outcome.Outcome.{Outcome}
@@ -30,7 +33,7 @@ use Rattle.rules.specs.Requests.{masterOf, toStation, toAll, acts, serviceOf}
 use Rattle.rules.specs.Diagnosis.{delayed, diagnosed, delaying, caughtUp}
 use Rattle.rules.specs.Line.{ticked}
 use Rattle.ledger.specs.Lists.{some, Outputs, takenOutputs, Inputs, handedOver, writtenInput, Sets, Diagnoses, exchangedDiagnoses, writtenDiagnosis, Buffers, withOutputs, withInputs, withDiagnoses}
-use Rattle.ledger.specs.Ledger.{Line, Ledger, withLine, begun, busy, diagnosisLeaves, openSets, fresh}
+use Rattle.ledger.specs.Ledger.{Line, Ledger, withLine, begun, busy, diagnosisLeaves, occupied, fresh}
 use Rattle.ledger.specs.Outcome.{onOutputs, onInputs, onSets, onBuffers, carried, diagnosisChanged, afterReply, settle}
 use Rattle.ledger.specs.Bus.{telegramOn, requestBy, dataBy, outcomeOf, answered, completed, brokenOff, lengthened, beginning, sendLeft, silenced, heardAs, heard, paused, afterSend, elapsed, gapped}
 use Rattle.ledger.specs.User.{handOver, acknowledgeEvents, leaveMaster, writtenOctet}
@@ -48,20 +51,22 @@ use Rattle.ledger.proofs.ReadBack.{ValidReply, reply-valid, reply-reads
 -- ---------------------------------------------------------------------------------------------------
 -- The lists after an outcome.
 
-outputs-fit : (Given Clear : Type 0) (d : OutputsDeed) (o : Outputs) (n : ℕ) (ds : List ℕ) → Publishes (Given × (length ds ≡ n)) Clear d → OutputsFit n o
-    → OutputsFit n (onOutputs d o n ds)
-outputs-fit Given Clear outputs-deed.Keep o n ds w f = f
-outputs-fit Given Clear outputs-deed.Publish o n ds w f = record { held = f .held; next = w .1 }
-outputs-fit Given Clear outputs-deed.Zeros o n ds w f = record { held = f .held; next = length-replicate n 0 }
+-- something is published of what is held back only where something is
+outputs-fit : (Given Held Clear : Type 0) (d : OutputsDeed) (o : Outputs) (n : ℕ) (ds : List ℕ) → (Held → o .withheld ≡ true)
+    → Publishes (Given × (length ds ≡ n)) Held Clear d → OutputsFit n o → OutputsFit n (onOutputs d o n ds)
+outputs-fit Given Held Clear outputs-deed.Keep o n ds h w f = f
+outputs-fit Given Held Clear outputs-deed.Publish o n ds h w f = record { held = f .held; next = w .1; back = f .back }
+outputs-fit Given Held Clear outputs-deed.HoldBack o n ds h w f = record { held = f .held; next = f .next; back = λ _. w .1 }
+outputs-fit Given Held Clear outputs-deed.Release o n ds h w f = record { held = f .held; next = f .back (h w); back = λ e. no-true e }
+outputs-fit Given Held Clear outputs-deed.Zeros o n ds h w f = record { held = f .held; next = length-replicate n 0; back = λ e. no-true e }
 
-inputs-fit : (d : OutputsDeed) (i : Inputs) (n : ℕ) → InputsFit n i → InputsFit n (onInputs d i)
-inputs-fit outputs-deed.Keep i n f = f
-inputs-fit outputs-deed.Publish i n f = go (i .fresh)
+inputs-fit : (d : InputsDeed) (i : Inputs) (n : ℕ) → InputsFit n i → InputsFit n (onInputs d i)
+inputs-fit inputs-deed.Keep i n f = f
+inputs-fit inputs-deed.Bring i n f = go (i .fresh)
   where
     go : (t : Bool) → InputsFit n (cond t (record { sending = i .next; next = i .sending; held = i .held; fresh = false }) i)
     go true = record { sending = f .next; next = f .sending; held = f .held }
     go false = f
-inputs-fit outputs-deed.Zeros i n f = f
 
 sets-fit : (Given : Type 0) (d : SetDeed) (x : Sets) (low high : ℕ) (ds : List ℕ) → Receives (Given × Within low (length ds) high) d → SetsFit low high x
     → SetsFit low high (onSets d x ds)
@@ -72,11 +77,11 @@ sets-fit Given set-deed.Receive x low high ds w f =
 sets-fit Given set-deed.Advance x low high ds w f = record { shown = f .waiting; waiting = inl refl }
 sets-fit Given set-deed.Drop x low high ds w f = record { shown = inl refl; waiting = inl refl }
 
-lists-fit : {s : Setup} {c : Control} {Given Clear : Type 0} {At : ℕ → Type 0} {o : Outcome} (b : Buffers) (ds : List ℕ) → ListsFit s b
-    → Lawful s c (length ds) Given Clear At o → ListsFit s (onBuffers o s ds b)
-lists-fit {s} {c} {Given} {Clear} {At} {o} b ds f w = record {
-  outputs = outputs-fit Given Clear (o .outputs) (b .outputs) (s .«output_len») ds (w .outputs-come) (f .outputs);
-  inputs = inputs-fit (o .outputs) (b .inputs) (s .«input_len») (f .inputs);
+lists-fit : {s : Setup} {c : Control} {Given Held Moved Clear : Type 0} {At : ℕ → Type 0} {o : Outcome} (b : Buffers) (ds : List ℕ)
+    → (Held → b .outputs .withheld ≡ true) → ListsFit s b → Lawful s c (length ds) Given Held Moved Clear At o → ListsFit s (onBuffers o s ds b)
+lists-fit {s} {c} {Given} {Held} {Moved} {Clear} {At} {o} b ds h f w = record {
+  outputs = outputs-fit Given Held Clear (o .outputs) (b .outputs) (s .«output_len») ds h (w .outputs-come) (f .outputs);
+  inputs = inputs-fit (o .inputs) (b .inputs) (s .«input_len») (f .inputs);
   parameters = sets-fit (At 61) (o .parameters) (b .parameters) 7 (s .«parameter_len») ds (w .parameters-come) (f .parameters);
   configuration = sets-fit (At 62) (o .configuration) (b .configuration) 1 (s .«configuration_len») ds (w .configuration-come) (f .configuration);
   diagnosis = f .diagnosis;
@@ -86,17 +91,18 @@ lists-fit {s} {c} {Given} {Clear} {At} {o} b ds f w = record {
 -- The ledger after an outcome, with another line, settled.
 
 module _ {l : Ledger} (f : Fit l) where
-  carried-fit : {Given Clear : Type 0} {At : ℕ → Type 0} {o : Outcome} (ds : List ℕ) → Lawful (l .setup) (l .control) (length ds) Given Clear At o → Fit (carried l o ds)
-  carried-fit ds w = record {
+  carried-fit : {Given Held Moved Clear : Type 0} {At : ℕ → Type 0} {o : Outcome} (ds : List ℕ) → (Held → l .buffers .outputs .withheld ≡ true)
+      → Lawful (l .setup) (l .control) (length ds) Given Held Moved Clear At o → Fit (carried l o ds)
+  carried-fit ds h w = record {
     start-takes = f .start-takes;
-    lists = lists-fit (l .buffers) ds (f .lists) w;
+    lists = lists-fit (l .buffers) ds h (f .lists) w;
     counts = rw (w .counts-stay) (f .counts);
     reply = f .reply;
   }
 
   -- one without data
   quiet-fit : {o : Outcome} → Quiet (l .setup) (l .control) Unit o → Fit (carried l o [])
-  quiet-fit = carried-fit []
+  quiet-fit = carried-fit [] (λ z. absurd z)
 
   on-line : (n : Line) → Left (n .reply) → Fit (withLine l n)
   on-line n w = record { start-takes = f .start-takes; lists = f .lists; counts = f .counts; reply = w }
@@ -156,15 +162,15 @@ settle-fit {l} f = quiet-fit (reply-fit f) (clear-noted-quiet (afterReply l .set
 -- ---------------------------------------------------------------------------------------------------
 -- A complete telegram.
 
-pub outcome-served : (l : Ledger) (t : Telegram) → Served (l .setup) (l .control) (requestBy t) (outcomeOf l (requestBy t) (payloadOf t))
-outcome-served l t = served (l .setup) (l .control) (openSets l) (requestBy t) (dataBy (payloadOf t))
+pub outcome-served : (l : Ledger) (t : Telegram) → Served (l .setup) (l .control) (l .buffers .outputs .withheld) (requestBy t) (outcomeOf l (requestBy t) (payloadOf t))
+outcome-served l t = served (l .setup) (l .control) (occupied l) (requestBy t) (dataBy (payloadOf t))
 
 pub master-low : (r : Request) → masterOf r < 128
 master-low r = mod-lt (r .sa) (omega arith)
 
 module _ {l : Ledger} (f : Fit l) (t : Telegram) where
   outcome-fit : Fit (carried l (outcomeOf l (requestBy t) (payloadOf t)) (payloadOf t))
-  outcome-fit = carried-fit f (payloadOf t) (outcome-served l t .lawful)
+  outcome-fit = carried-fit f (payloadOf t) (λ h. h) (outcome-served l t .lawful)
 
   -- what it draws is valid
   pub drawn-valid : ValidReply (drawnBy l t)
@@ -255,7 +261,7 @@ step-fit l tick f = go (l .control .noted)
 step-fit l take f =
     take-cases (λ t. Fit (t .ledger)) l (λ _. f)
     (λ _. on-lists f (withOutputs (l .buffers) (takenOutputs (l .buffers .outputs))) (l .control)
-    (on-outputs f (takenOutputs (l .buffers .outputs)) (record { held = f .lists .outputs .next; next = f .lists .outputs .held })) (f .counts))
+    (on-outputs f (takenOutputs (l .buffers .outputs)) (record { held = f .lists .outputs .next; next = f .lists .outputs .held; back = f .lists .outputs .back })) (f .counts))
 step-fit l (read kind index) f = read-cases (λ t. Fit (t .ledger)) l kind index (λ _. f) f
 step-fit l (write kind index x) f =
     write-cases (λ t. Fit (t .ledger)) l kind index x (λ _. f)
@@ -286,7 +292,7 @@ fresh-fit : (s : Setup) (slice : List ℕ) → StartTakes s slice → Fit (fresh
 fresh-fit s slice a = record {
   start-takes = a;
   lists = record {
-    outputs = record { held = length-replicate (s .«output_len») 0; next = length-replicate (s .«output_len») 0 };
+    outputs = record { held = length-replicate (s .«output_len») 0; next = length-replicate (s .«output_len») 0; back = λ e. no-true e };
     inputs = record { sending = length-replicate (s .«input_len») 0; next = length-replicate (s .«input_len») 0; held = length-replicate (s .«input_len») 0 };
     parameters = record { shown = inl refl; waiting = inl refl };
     configuration = record { shown = inl refl; waiting = inl refl };

@@ -2,14 +2,18 @@
 use Prim.Native.Nat.{ℕ, _<_}
 use native.Mathlib.Omega.{arith}
 use mathlib.Core.Path.{_≡_, refl, sym, ap, _∙_}
-use mathlib.Core.Bool.{Bool, true, false, cond}
+use mathlib.Core.Bool.{Bool, true, false, cond, not, _&&_}
 use mathlib.Core.List.{List, [], _∷_, _++_}
 use lib.Dec.{eqb, ltb}
 use borrow.Author.Tests.{le-leb, lt-ltb}
 use Rattle.state.specs.declared.setup.Setup.{Setup}
+use Rattle.state.specs.declared.answer.Answer.the-variants.{Value}
+use Rattle.rules.specs.Control.{bit}
+use Rattle.rules.specs.Modes.{commandsSync}
 use Rattle.rules.specs.declared.outcome.OutputsDeed.{OutputsDeed}
-use Rattle.rules.specs.declared.outcome.OutputsDeed.the-variants.{Keep, Publish, Zeros}
+use Rattle.rules.specs.declared.outcome.OutputsDeed.the-variants.{Keep, Publish, HoldBack, Release, Zeros}
 use Rattle.ledger.specs.Lists.{some, Outputs, published, publishedZeros, tookNew, writtenInput, writtenDiagnosis, withInputs, withDiagnoses}
+use Rattle.ledger.specs.Lists as lists
 use Rattle.telegram.specs.declared.reader.Status.{Status}
 use Rattle.telegram.specs.declared.reader.Status.the-variants.{Fresh, Inside, Complete, Broken}
 use Rattle.telegram.specs.Telegram.{payloadOf}
@@ -20,14 +24,14 @@ use Rattle.rules.specs.User.{judgedParameters, judgedConfiguration}
 use Rattle.ledger.specs.Ledger.{Ledger, withLine, begun, busy, fresh}
 use Rattle.ledger.specs.Outcome.{onOutputs, carried, settle}
 use Rattle.ledger.specs.Bus.{telegramOn, requestBy, outcomeOf, answered, completed, brokenOff, lengthened, beginning, sendLeft, silenced, heardAs, heard, paused, afterSend, elapsed, gapped}
-use Rattle.ledger.specs.User.{readOctet, handOver, acknowledgeEvents, leaveMaster}
+use Rattle.ledger.specs.User.{told, takeOutputs, readOctet, handOver, acknowledgeEvents, leaveMaster}
 use Rattle.rules.specs.Call.{Call, octet, gap, send, tick, take, read, write, hand-over, new-diagnosis, judge-parameters, judge-configuration, events, acknowledge, pending, leave}
 use Rattle.ledger.specs.Calls.{step, after}
 use Rattle.ledger.proofs.Runs.{answers-append}
 use Rattle.ledger.proofs.Settling.{settle-outputs}
 use Rattle.ledger.proofs.Kept.{step-kept, after-kept}
 use Rattle.ledger.proofs.ByCases.{take-cases, read-cases, write-cases, diagnosis-cases, parameters-cases, configuration-cases}
-use Rattle.ledger.specs.History.{Deed, accepted, zeroed, outputsTaken, newest, readable, publishes, clears, heardDeeds, deedsOf, history, made, DeedsMake, OutputsRead, OutputsReadable}
+use Rattle.ledger.specs.History.{Deed, accepted, withheld, released, emptied, zeroed, outputsTaken, newestWithheld, newest, readable, holdsBack, deedsBy, clears, heardDeeds, deedsOf, history, made, DeedsMake, OutputsRead, OutputsReadable, WithheldTold, syncObeyed, ClearLast, newsOf, TakesTold}
 
 -- ---------------------------------------------------------------------------------------------------
 -- The outputs as the deeds make them, the newest deed first.
@@ -35,31 +39,68 @@ use Rattle.ledger.specs.History.{Deed, accepted, zeroed, outputsTaken, n
 made-append : (n : ℕ) (g h : List Deed) (o : Outputs) → made n (g ++ h) o ≡ made n g (made n h o)
 made-append n [] h o = refl
 made-append n (accepted ds ∷ g) h o = ap (λ (q : Outputs). published q ds) (made-append n g h o)
+made-append n (withheld ds ∷ g) h o = ap (λ (q : Outputs). lists.heldBack q ds) (made-append n g h o)
+made-append n (released ∷ g) h o = ap lists.released (made-append n g h o)
+made-append n (emptied ∷ g) h o = ap lists.emptied (made-append n g h o)
 made-append n (zeroed ∷ g) h o = ap (λ (q : Outputs). publishedZeros q n) (made-append n g h o)
 made-append n (outputsTaken ∷ g) h o = ap tookNew (made-append n g h o)
 
 -- as the ledger makes them by an outcome
-made-one : (n : ℕ) (d : OutputsDeed) (ds : List ℕ) (o : Outputs) → made n (publishes d ds) o ≡ onOutputs d o n ds
+made-one : (n : ℕ) (d : OutputsDeed) (ds : List ℕ) (o : Outputs) → made n (deedsBy d ds) o ≡ onOutputs d o n ds
 made-one n Keep ds o = refl
 made-one n Publish ds o = refl
+made-one n HoldBack ds o = refl
+made-one n Release ds o = refl
 made-one n Zeros ds o = refl
 
--- made from zeros, what is held is readable, and what is next or, with nothing new, held is the newest
+-- made from zeros, what is held is readable, what is next or, with nothing new, held is the newest, and what is held back is told
 record Shows (n : ℕ) (o : Outputs) (h : List Deed) : Type 0 where
   holds : o .held ≡ readable n h
   brings : cond (o .fresh) (o .next) (o .held) ≡ newest n h
+  keeps : o .back ≡ newestWithheld h
+  tells : cond (not (o .fresh)) 0 (cond (o .zeros) 2 1) ≡ newsOf h
 
 made-shows : (n : ℕ) (h : List Deed) (o : Outputs) → Shows n o [] → Shows n (made n h o) h
 made-shows n [] o s = s
-made-shows n (accepted ds ∷ h) o s = record { holds = made-shows n h o s .holds; brings = refl }
-made-shows n (zeroed ∷ h) o s = record { holds = made-shows n h o s .holds; brings = refl }
-made-shows n (outputsTaken ∷ h) o s =
-    let q = made n h o in go (q .held) (q .next) (q .fresh) (q .zeros) (made-shows n h o s)
+made-shows n (accepted ds ∷ h) o s =
+    let w = made-shows n h o s in
+    record { holds = w .holds; brings = refl; keeps = w .keeps; tells = refl }
+made-shows n (withheld ds ∷ h) o s =
+    let w = made-shows n h o s in
+    record { holds = w .holds; brings = w .brings; keeps = refl; tells = w .tells }
+made-shows n (released ∷ h) o s =
+    let w = made-shows n h o s in
+    record { holds = w .holds; brings = w .keeps; keeps = refl; tells = refl }
+made-shows n (emptied ∷ h) o s =
+    let w = made-shows n h o s in
+    record { holds = w .holds; brings = w .brings; keeps = refl; tells = w .tells }
+made-shows n (zeroed ∷ h) o s =
+    let w = made-shows n h o s in
+    record { holds = w .holds; brings = refl; keeps = w .keeps; tells = refl }
+made-shows n (outputsTaken ∷ h) o s = took-shows (made n h o) h (made-shows n h o s)
   where
-    go : (x y : List ℕ) (t z : Bool) → Shows n (record { held = x; next = y; fresh = t; zeros = z }) h
-        → Shows n (tookNew (record { held = x; next = y; fresh = t; zeros = z })) (outputsTaken ∷ h)
-    go x y true z w = record { holds = w .brings; brings = w .brings }
-    go x y false z w = record { holds = w .brings; brings = w .brings }
+    took-shows : (q : Outputs) (h : List Deed) → Shows n q h → Shows n (tookNew q) (outputsTaken ∷ h)
+    took-shows q h w = go (q .fresh) refl
+      where
+        go : (t : Bool) → q .fresh ≡ t → Shows n (cond t (lists.takenOutputs q) q) (outputsTaken ∷ h)
+        go true e = let b = sym (ap (λ (u : Bool). cond u (q .next) (q .held)) e) ∙ w .brings in record { holds = b; brings = b; keeps = w .keeps; tells = refl }
+        go false e =
+            let b = sym (ap (λ (u : Bool). cond u (q .next) (q .held)) e) ∙ w .brings in
+            record { holds = b; brings = w .brings; keeps = w .keeps; tells = ap (λ (u : Bool). cond (not u) 0 (cond (q .zeros) 2 1)) e }
+
+-- whether something is held back, too
+made-withheld : (n : ℕ) (h : List Deed) (o : Outputs) → o .withheld ≡ false → made n h o .withheld ≡ holdsBack h
+made-withheld n [] o e = e
+made-withheld n (accepted ds ∷ h) o e = made-withheld n h o e
+made-withheld n (withheld ds ∷ h) o e = refl
+made-withheld n (released ∷ h) o e = refl
+made-withheld n (emptied ∷ h) o e = refl
+made-withheld n (zeroed ∷ h) o e = made-withheld n h o e
+made-withheld n (outputsTaken ∷ h) o e = go (made n h o .fresh) ∙ made-withheld n h o e
+  where
+    go : (t : Bool) → cond t (lists.takenOutputs (made n h o)) (made n h o) .withheld ≡ made n h o .withheld
+    go true = refl
+    go false = refl
 
 -- ---------------------------------------------------------------------------------------------------
 -- Each call makes of the outputs what its deeds say.
@@ -99,7 +140,7 @@ heard-made l b Inside = go (begun l)
 heard-made l b Complete =
     let t = telegramOn (l .line .telegram ++ b ∷ []) in
     let o = outcomeOf l (requestBy t) (payloadOf t) in
-    settles (completed l t) (publishes (o .outputs) (payloadOf t)) (l .buffers .outputs)
+    settles (completed l t) (deedsBy (o .outputs) (payloadOf t)) (l .buffers .outputs)
     (sym (made-one (l .setup .«output_len») (o .outputs) (payloadOf t) (l .buffers .outputs)))
 heard-made l b Broken = settles-one (withLine l (brokenOff (l .line)))
 
@@ -120,7 +161,7 @@ step-made l tick = go (l .control .noted)
     o : Outcome
     o = ticked (busy l) (l .control)
 
-    go : (t : Bool) → Made l (cond t (clears (withLine l (silenced l))) (publishes (o .outputs) [])) (cond t (settle (withLine l (silenced l))) (carried l o []))
+    go : (t : Bool) → Made l (cond t (clears (withLine l (silenced l))) (deedsBy (o .outputs) [])) (cond t (settle (withLine l (silenced l))) (carried l o []))
     go true = settles-one (withLine l (silenced l))
     go false = sym (made-one (l .setup .«output_len») (o .outputs) [] (l .buffers .outputs))
 step-made l take = take-cases (λ t. Made l (outputsTaken ∷ []) (t .ledger)) l (λ e. rw e) (λ e. rw e)
@@ -170,7 +211,7 @@ module _ (s : Setup) (slice : List ℕ) (cs : List Call) where
   held-readable =
       let l = fresh s slice in
       ap (λ (o : Outputs). o .held) (after-made l cs)
-      ∙ made-shows (s .«output_len») (history l cs) (l .buffers .outputs) (record { holds = refl; brings = refl }) .holds
+      ∙ made-shows (s .«output_len») (history l cs) (l .buffers .outputs) (record { holds = refl; brings = refl; keeps = refl; tells = refl }) .holds
 
   in-range : (index : ℕ) → index < s .«output_len» → ltb index (after (fresh s slice) cs .setup .«output_len») ≡ true
   in-range index i =
@@ -186,3 +227,35 @@ module _ (s : Setup) (slice : List ℕ) (cs : List Call) where
 
 pub outputs-read : OutputsReadable
 outputs-read = read-so
+
+-- the mark that something is held back is what the deeds tell
+pub withheld-told : WithheldTold
+unfolding Made
+withheld-told s slice cs =
+    let l = fresh s slice in
+    ap (λ (o : Outputs). o .withheld) (after-made l cs) ∙ made-withheld (s .«output_len») (history l cs) (l .buffers .outputs) refl
+
+-- clear comes last, by what octet 0 has set
+pub clear-last : ClearLast
+clear-last m first o n ds = go (bit first 1) (commandsSync m first && o .withheld)
+  where
+    go : (c t : Bool) → onOutputs (cond c Zeros (cond t Release Keep)) o n ds
+        ≡ cond c (onOutputs Zeros (onOutputs (cond t Release Keep) o n ds) n ds) (onOutputs (cond t Release Keep) o n ds)
+    go true true = refl
+    go true false = refl
+    go false t = refl
+
+-- the answer of one call or another
+either-told : (t : Bool) (a b : ℕ) (l m : Ledger) → cond t (told a l) (told b m) .answer ≡ Value (cond t a b)
+either-told true a b l m = refl
+either-told false a b l m = refl
+
+-- a take tells what is new by the deeds
+pub takes-told : TakesTold
+unfolding Made takeOutputs
+takes-told s slice cs =
+    let l = fresh s slice in
+    let o = after l cs .buffers .outputs in
+    either-told (not (o .fresh)) 0 (cond (o .zeros) 2 1) _ _
+    ∙ ap (λ (q : Outputs). Value (cond (not (q .fresh)) 0 (cond (q .zeros) 2 1))) (after-made l cs)
+    ∙ ap Value (made-shows (s .«output_len») (history l cs) (l .buffers .outputs) (record { holds = refl; brings = refl; keeps = refl; tells = refl }) .tells)

@@ -11,6 +11,7 @@ pub mod ReadBack
 pub mod Fit
 pub mod EventsCarried
 pub mod EventsFollow
+pub mod ModesKept
 pub mod OctetReplies
 pub mod OctetsCarried
 pub mod Octets
@@ -19,3 +20,4 @@ pub mod Scripts
 mod Computing
 pub mod Bench
 mod Cases
+mod ModeCases

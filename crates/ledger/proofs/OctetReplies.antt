@@ -27,6 +27,7 @@ use Rattle.telegram.proofs.OctetLists.{both-octets, take-octets, drop-octets, t
 pub record OutputOctets (o : OutputLists) : Type 0 where
   pub held : Octets (o .held)
   pub next : Octets (o .next)
+  pub back : Octets (o .back)
 
 -- so are the inputs
 pub record InputOctets (i : InputLists) : Type 0 where
@@ -67,12 +68,13 @@ header-octets c ident h i =
     let a = one-low (not (inExchange c)) in
     let b = one-low (c .flags .«cfg_fault») in
     let d = one-low (c .flags .«ext_diag») in
-    let e = one-low (c .flags .«not_supported») in
     let f = one-low (c .flags .«prm_fault») in
     let j = one-low (inWaitPrm (c .phase)) in
     let k = one-low (c .flags .«stat_diag») in
     let m = one-low (not (eqb (c .watchdog .reload) 0)) in
     let n = one-low (c .flags .overflow) in
+    let p = one-low (c .modes .freeze) in
+    let q = one-low (c .modes .sync) in
     (omega arith, (omega arith, (omega arith, (h, (omega arith, (mod-lt ident (omega arith), tt))))))
 
 module _ (s : Setup) (slice : List ℕ) (c : Control) (b : Buffers) (master : ℕ) (m : master < 128) (a : s .address ≤ 126) (i : s .ident < 65536)

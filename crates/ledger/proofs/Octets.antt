@@ -23,7 +23,7 @@ use Rattle.rules.specs.User.{judgedParameters, judgedConfiguration}
 use Rattle.rules.specs.Call.{Call, octet, gap, send, tick, take, read, write, hand-over, new-diagnosis, judge-parameters, judge-configuration, events, acknowledge, pending, leave}
 use Rattle.rules.proofs.Owner.{clear-owned, ticked-owned, parameters-owned, configuration-owned, telegram-owned}
 use Rattle.ledger.specs.Lists.{some, takenOutputs, handedOver, Buffers, withOutputs, withInputs}
-use Rattle.ledger.specs.Ledger.{Line, Ledger, begun, busy, openSets, fresh}
+use Rattle.ledger.specs.Ledger.{Line, Ledger, begun, busy, occupied, fresh}
 use Rattle.ledger.specs.Outcome.{carried}
 use Rattle.ledger.specs.Bus.{telegramOn, requestBy, dataBy, outcomeOf, answered, completed, brokenOff, lengthened, beginning, sendTold, sendLeft, silenced, heardAs, heard, paused, afterSend, elapsed, gapped}
 use Rattle.ledger.specs.User.{octetsOfKind, writtenOctet, handOver, acknowledgeEvents, leaveMaster}
@@ -52,7 +52,7 @@ completed-octal : {l : Ledger} (t : Telegram) → Fit l → Octal l → Octets (
 unfolding answered
 completed-octal {l} t k f q =
     let o = outcomeOf l (requestBy t) (payloadOf t) in
-    let g = carried-octal f o (payloadOf t) q (telegram-owned (l .setup) (l .control) (openSets l) (requestBy t) (dataBy (payloadOf t)) (f .owner)) in
+    let g = carried-octal f o (payloadOf t) q (telegram-owned (l .setup) (l .control) (occupied l) (requestBy t) (dataBy (payloadOf t)) (f .owner)) in
     on-line g (completed l t .line) tt
     (reply-octets (l .setup) (l .slice) (o .control) (carried l o (payloadOf t) .buffers) (masterOf (requestBy t)) (master-low (requestBy t))
     (k .start-takes .ranged .address) (f .ident) (g .owner) (f .slice) (g .lists) (o .drawn) (drawn-valid k t))
@@ -124,7 +124,7 @@ fresh-octal s slice x i = record {
   slice = x;
   owner = omega arith;
   lists = record {
-    outputs = record { held = zero-octets (s .«output_len»); next = zero-octets (s .«output_len») };
+    outputs = record { held = zero-octets (s .«output_len»); next = zero-octets (s .«output_len»); back = tt };
     inputs = record { sending = zero-octets (s .«input_len»); next = zero-octets (s .«input_len»); held = zero-octets (s .«input_len») };
     parameters = record { shown = tt; waiting = tt };
     configuration = record { shown = tt; waiting = tt };

@@ -9,6 +9,8 @@ use Rattle.state.specs.declared.control.Control.{Control}
 use Rattle.state.proofs.Choice.{either}
 use Rattle.rules.specs.declared.outcome.OutputsDeed.{OutputsDeed}
 use Rattle.rules.specs.declared.outcome.OutputsDeed.the-variants as outputs-deed
+use Rattle.rules.specs.declared.outcome.InputsDeed.{InputsDeed}
+use Rattle.rules.specs.declared.outcome.InputsDeed.the-variants as inputs-deed
 use Rattle.rules.specs.declared.outcome.SetDeed.{SetDeed}
 use Rattle.rules.specs.declared.outcome.SetDeed.the-variants as set-deed
 use Rattle.rules.specs.declared.outcome.Outcome.{Outcome}
@@ -37,14 +39,15 @@ pub record Octal (l : Ledger) : Type 0 where
 -- the outputs
 outputs-octal : (d : OutputsDeed) (o : Outputs) (n : ℕ) (ds : List ℕ) → Octets ds → OutputOctets o → OutputOctets (onOutputs d o n ds)
 outputs-octal outputs-deed.Keep o n ds q f = f
-outputs-octal outputs-deed.Publish o n ds q f = record { held = f .held; next = q }
-outputs-octal outputs-deed.Zeros o n ds q f = record { held = f .held; next = zero-octets n }
+outputs-octal outputs-deed.Publish o n ds q f = record { held = f .held; next = q; back = f .back }
+outputs-octal outputs-deed.HoldBack o n ds q f = record { held = f .held; next = f .next; back = q }
+outputs-octal outputs-deed.Release o n ds q f = record { held = f .held; next = f .back; back = tt }
+outputs-octal outputs-deed.Zeros o n ds q f = record { held = f .held; next = zero-octets n; back = tt }
 
 -- the inputs
-inputs-octal : (d : OutputsDeed) (i : Inputs) → InputOctets i → InputOctets (onInputs d i)
-inputs-octal outputs-deed.Keep i f = f
-inputs-octal outputs-deed.Publish i f = either InputOctets (i .fresh) (record { sending = f .next; next = f .sending; held = f .held }) f
-inputs-octal outputs-deed.Zeros i f = f
+inputs-octal : (d : InputsDeed) (i : Inputs) → InputOctets i → InputOctets (onInputs d i)
+inputs-octal inputs-deed.Keep i f = f
+inputs-octal inputs-deed.Bring i f = either InputOctets (i .fresh) (record { sending = f .next; next = f .sending; held = f .held }) f
 
 -- the sets of a kind
 sets-octal : (d : SetDeed) (x : Sets) (ds : List ℕ) → Octets ds → SetOctets x → SetOctets (onSets d x ds)
@@ -58,7 +61,7 @@ sets-octal set-deed.Drop x ds q f = record { shown = tt; waiting = tt }
 lists-octal : (o : Outcome) (s : Setup) (ds : List ℕ) (b : Buffers) → Octets ds → ListOctets b → ListOctets (onBuffers o s ds b)
 lists-octal o s ds b q f = record {
   outputs = outputs-octal (o .outputs) (b .outputs) (s .«output_len») ds q (f .outputs);
-  inputs = inputs-octal (o .outputs) (b .inputs) (f .inputs);
+  inputs = inputs-octal (o .inputs) (b .inputs) (f .inputs);
   parameters = sets-octal (o .parameters) (b .parameters) ds q (f .parameters);
   configuration = sets-octal (o .configuration) (b .configuration) ds q (f .configuration);
   diagnosis = f .diagnosis;
@@ -100,7 +103,7 @@ module _ {l : Ledger} (f : Octal l) where
   -- outputs taken
   pub taken-octal : ListOctets (withOutputs (l .buffers) (takenOutputs (l .buffers .outputs)))
   taken-octal = record {
-    outputs = record { held = f .lists .outputs .next; next = f .lists .outputs .held };
+    outputs = record { held = f .lists .outputs .next; next = f .lists .outputs .held; back = f .lists .outputs .back };
     inputs = f .lists .inputs;
     parameters = f .lists .parameters;
     configuration = f .lists .configuration;

@@ -15,7 +15,7 @@ use Rattle.rules.specs.declared.outcome.Outcome.{Outcome}
 use Rattle.rules.specs.Requests.{masterOf}
 use Rattle.rules.specs.Services.{outcomeBy}
 use Rattle.rules.specs.Line.{ticked}
-use Rattle.ledger.specs.Ledger.{Line, Ledger, withLine, begun, busy, openSets}
+use Rattle.ledger.specs.Ledger.{Line, Ledger, withLine, begun, busy, occupied}
 use Rattle.ledger.specs.Replies.{replyOf}
 use Rattle.rules.specs.Replies.{diagnoses}
 use Rattle.ledger.specs.Outcome.{carried, onBuffers, settle}
@@ -47,7 +47,7 @@ dataBy ds = record { prm = prmBy ds; first = getD ds 0 0; second = getD ds 1 0 }
 
 -- what comes of a telegram
 abbrev pub outcomeOf : Ledger → Request → List ℕ → Outcome
-outcomeOf l r ds = outcomeBy (l .setup) (l .control) (openSets l) r (dataBy ds)
+outcomeOf l r ds = outcomeBy (l .setup) (l .control) (occupied l) r (dataBy ds)
 
 -- a last octet applies Services to all of them and fixes the reply whole; octets are ignored until a gap
 unfoldable pub answered : Ledger → Outcome → ℕ → List ℕ → Ledger

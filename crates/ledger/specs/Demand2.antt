@@ -4,12 +4,13 @@ use Rattle.telegram.specs.Telegram.{Telegram}
 use Rattle.telegram.specs.Framing.{FramingPromise, FirstOctets}
 use Rattle.telegram.specs.Sending.{SendingPromise}
 use Rattle.ledger.specs.Ledger.{Ledger}
-use Rattle.ledger.specs.History.{DeedsMake}
+use Rattle.ledger.specs.History.{DeedsMake, WithheldTold, ClearLast, TakesTold}
 use Rattle.ledger.specs.Hearing.{Hears, Dialogue}
 use Rattle.ledger.specs.ByGrammar.{ByGrammar, Sd4WithoutEffect}
 use Rattle.ledger.specs.ReadBack.{ReadingBack}
 use Rattle.ledger.specs.Octets.{SentOctets}
 use Rattle.ledger.specs.EventsFollow.{EventsOpen, PublishingRaises}
+use Rattle.ledger.specs.ModesKept.{ModesAlways}
 
 pub record Demand2 : Type 0 where
   -- of every list of octets the reader tells what the grammar says
@@ -28,8 +29,16 @@ pub record Demand2 : Type 0 where
   pub events-open : EventsOpen
   -- every call makes of the outputs what its deeds say
   pub deeds-make : DeedsMake
+  -- a sync or an unsync finds something held back exactly if the deeds say so
+  pub withheld-told : WithheldTold
+  -- and a clear in the same telegram comes last
+  pub clear-last : ClearLast
+  -- a take answers what the deeds say
+  pub takes-told : TakesTold
   -- whatever publishes raises 13, and nothing else does
   pub publishing-raises : PublishingRaises
+  -- a mode is on in DATA_EXCH alone and where Set_Prm allowed it, and something is held back in sync alone
+  pub modes-kept : ModesAlways
   -- the sender of a telegram sends its octets
   pub sending : SendingPromise
   -- every reply but E5 reads back as a telegram with the same fields

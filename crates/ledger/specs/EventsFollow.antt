@@ -9,7 +9,7 @@ use Rattle.state.specs.declared.setup.Setup.{Setup}
 use Rattle.rules.specs.Call.{Call, octet, gap, send, tick, take, read, write, hand-over, new-diagnosis, judge-parameters, judge-configuration, events, acknowledge, pending, leave}
 use Rattle.ledger.specs.Ledger.{Ledger, parametersOpen, configurationOpen, fresh}
 use Rattle.ledger.specs.Calls.{step, after}
-use Rattle.ledger.specs.History.{Deed, accepted, zeroed, outputsTaken, deedsOf}
+use Rattle.ledger.specs.History.{Deed, accepted, withheld, released, emptied, zeroed, outputsTaken, deedsOf}
 
 -- event n is set
 abbrev pub eventSet : Ledger → ℕ → Bool
@@ -28,6 +28,9 @@ EventsOpen = (s : Setup) (slice : List ℕ) (cs : List Call) → EventsShow (aft
 abbrev pub publishesIn : List Deed → Bool
 publishesIn [] = false
 publishesIn (accepted ds ∷ earlier) = true
+publishesIn (withheld ds ∷ earlier) = publishesIn earlier
+publishesIn (released ∷ earlier) = true
+publishesIn (emptied ∷ earlier) = publishesIn earlier
 publishesIn (zeroed ∷ earlier) = true
 publishesIn (outputsTaken ∷ earlier) = publishesIn earlier
 

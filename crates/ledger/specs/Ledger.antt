@@ -1,4 +1,4 @@
--- The ledger's state (document 01, The ledger), and the ledger of a freshly started station.
+-- The ledger's state (document 01, The ledger; document 02, Req 01), and the ledger of a freshly started station.
 use Prim.Native.Nat.{ℕ}
 use mathlib.Core.Bool.{Bool, true, false, _&&_, _||_}
 use mathlib.Core.List.{List, []}
@@ -6,8 +6,8 @@ use lib.ListN.{replicate}
 use Rattle.state.specs.declared.setup.Setup.{Setup}
 use Rattle.state.specs.declared.control.Control.{Control}
 use Rattle.state.specs.Start.{firstControl}
-use Rattle.rules.specs.declared.request.OpenSets.{OpenSets}
-use Rattle.ledger.specs.Lists.{some, Buffers, noSets}
+use Rattle.rules.specs.declared.request.Occupied.{Occupied}
+use Rattle.ledger.specs.Lists.{some, Outputs, Buffers, noSets}
 
 -- the line: whether octets are ignored, telegram octets so far, reply octets left and whether they are a Slave_Diag's
 pub record Line : Type 0 where
@@ -75,15 +75,21 @@ parametersOpen l = some (l .buffers .parameters .shown)
 abbrev pub configurationOpen : Ledger → Bool
 configurationOpen l = some (l .buffers .configuration .shown)
 
--- which are
-abbrev pub openSets : Ledger → OpenSets
-openSets l = record { parameters = parametersOpen l; configuration = configurationOpen l }
+-- what the rules look at of the lists
+abbrev pub occupied : Ledger → Occupied
+occupied l =
+    record { parameters = parametersOpen l; configuration = configurationOpen l; outputs = l .buffers .outputs .withheld }
+
+-- zeroed outputs, none held back
+abbrev pub freshOutputs : ℕ → Outputs
+freshOutputs n =
+    record { held = replicate n 0; next = replicate n 0; back = []; fresh = false; zeros = false; withheld = false }
 
 -- zeroed buffers
 abbrev pub freshBuffers : Setup → Buffers
 freshBuffers s =
     record {
-      outputs = record { held = replicate (s .«output_len») 0; next = replicate (s .«output_len») 0; fresh = false; zeros = false };
+      outputs = freshOutputs (s .«output_len»);
       inputs = record { sending = replicate (s .«input_len») 0; next = replicate (s .«input_len») 0; held = replicate (s .«input_len») 0; fresh = false };
       parameters = noSets;
       configuration = noSets;

@@ -14,4 +14,5 @@ pub mod Bench
 pub mod ReadBack
 pub mod EventsFollow
 pub mod Octets
+pub mod ModesKept
 pub mod Demand2

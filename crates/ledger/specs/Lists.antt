@@ -1,4 +1,4 @@
--- The lists that stand in place of buffers (document 01, The ledger), and what the rules do to them.
+-- The lists that stand in place of buffers (document 01, The ledger; document 02, Req 01), and what the rules do to them.
 use Prim.Native.Nat.{ℕ}
 use mathlib.Core.Bool.{Bool, true, false, cond}
 use mathlib.Core.List.{List, [], _∷_}
@@ -9,24 +9,41 @@ abbrev pub some : List ℕ → Bool
 some [] = false
 some (x ∷ xs) = true
 
--- the outputs held and next; fresh: next is new; zeros: what was published last were zeros by the station
+-- the outputs held and next, and those held back; fresh: next is new; zeros: what was published last were zeros by the station;
+-- withheld: something is held back
 pub record Outputs : Type 0 where
   pub held : List ℕ
   pub next : List ℕ
+  pub back : List ℕ
   pub fresh : Bool
   pub zeros : Bool
+  pub withheld : Bool
 
 -- publishing puts outputs in next
 abbrev pub published : Outputs → List ℕ → Outputs
-published o ds = record { held = o .held; next = ds; fresh = true; zeros = false }
+published o ds = record { held = o .held; next = ds; back = o .back; fresh = true; zeros = false; withheld = o .withheld }
+
+-- these outputs are held back, in place of those that were
+abbrev pub heldBack : Outputs → List ℕ → Outputs
+heldBack o ds = record { held = o .held; next = o .next; back = ds; fresh = o .fresh; zeros = o .zeros; withheld = true }
+
+-- nothing is held back any more
+abbrev pub emptied : Outputs → Outputs
+emptied o = record { held = o .held; next = o .next; back = []; fresh = o .fresh; zeros = o .zeros; withheld = false }
+
+-- what is held back is published
+abbrev pub released : Outputs → Outputs
+released o = emptied (published o (o .back))
 
 -- the station publishes n zeros
 abbrev pub publishedZeros : Outputs → ℕ → Outputs
-publishedZeros o n = record { held = o .held; next = replicate n 0; fresh = true; zeros = true }
+publishedZeros o n =
+    record { held = o .held; next = replicate n 0; back = o .back; fresh = true; zeros = true; withheld = o .withheld }
 
 -- take changes next and held
 abbrev pub takenOutputs : Outputs → Outputs
-takenOutputs o = record { held = o .next; next = o .held; fresh = false; zeros = o .zeros }
+takenOutputs o =
+    record { held = o .next; next = o .held; back = o .back; fresh = false; zeros = o .zeros; withheld = o .withheld }
 
 -- where next is new
 abbrev pub tookNew : Outputs → Outputs

@@ -6,25 +6,28 @@ use Rattle.state.specs.declared.setup.Setup.{Setup}
 use Rattle.state.specs.declared.control.Control.{Control}
 use Rattle.rules.specs.declared.outcome.OutputsDeed.{OutputsDeed}
 use Rattle.rules.specs.declared.outcome.OutputsDeed.the-variants as outputs-deed
+use Rattle.rules.specs.declared.outcome.InputsDeed.{InputsDeed}
+use Rattle.rules.specs.declared.outcome.InputsDeed.the-variants as inputs-deed
 use Rattle.rules.specs.declared.outcome.SetDeed.{SetDeed}
 use Rattle.rules.specs.declared.outcome.SetDeed.the-variants as set-deed
 use Rattle.rules.specs.declared.outcome.Outcome.{Outcome}
 use Rattle.rules.specs.Line.{clearNoted}
 use Rattle.rules.specs.Diagnosis.{delayed, caughtUp}
-use Rattle.ledger.specs.Lists.{Outputs, Inputs, Sets, Buffers, published, publishedZeros, brought, receivedSet, advanced, noSets, exchangedDiagnoses, withDiagnoses}
+use Rattle.ledger.specs.Lists.{Outputs, Inputs, Sets, Buffers, published, heldBack, emptied, released, publishedZeros, brought, receivedSet, advanced, noSets, exchangedDiagnoses, withDiagnoses}
 use Rattle.ledger.specs.Ledger.{Ledger, busy, diagnosisLeaves}
 
 -- what becomes of the outputs; ds is the data received
 abbrev pub onOutputs : OutputsDeed → Outputs → ℕ → List ℕ → Outputs
 onOutputs outputs-deed.Keep o n ds = o
 onOutputs outputs-deed.Publish o n ds = published o ds
-onOutputs outputs-deed.Zeros o n ds = publishedZeros o n
+onOutputs outputs-deed.HoldBack o n ds = heldBack o ds
+onOutputs outputs-deed.Release o n ds = released o
+onOutputs outputs-deed.Zeros o n ds = publishedZeros (emptied o) n
 
--- with outputs accepted new inputs come to the controller
-abbrev pub onInputs : OutputsDeed → Inputs → Inputs
-onInputs outputs-deed.Keep i = i
-onInputs outputs-deed.Publish i = brought i
-onInputs outputs-deed.Zeros i = i
+-- what becomes of the inputs
+abbrev pub onInputs : InputsDeed → Inputs → Inputs
+onInputs inputs-deed.Keep i = i
+onInputs inputs-deed.Bring i = brought i
 
 -- what becomes of the sets of parameters or of configuration
 abbrev pub onSets : SetDeed → Sets → List ℕ → Sets
@@ -38,7 +41,7 @@ abbrev pub onBuffers : Outcome → Setup → List ℕ → Buffers → Buffers
 onBuffers o s ds b =
     record {
       outputs = onOutputs (o .outputs) (b .outputs) (s .«output_len») ds;
-      inputs = onInputs (o .outputs) (b .inputs);
+      inputs = onInputs (o .inputs) (b .inputs);
       parameters = onSets (o .parameters) (b .parameters) ds;
       configuration = onSets (o .configuration) (b .configuration) ds;
       diagnosis = b .diagnosis;

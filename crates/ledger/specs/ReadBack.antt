@@ -1,7 +1,7 @@
 -- Every reply but E5 is a telegram with the fields that the rules gave, and what every ledger keeps for that (demand 2).
 use Prim.Native.Nat.{ℕ, _≤_}
 use mathlib.Core.Path.{_≡_}
-use mathlib.Core.Bool.{Bool, false}
+use mathlib.Core.Bool.{Bool, true, false}
 use mathlib.Core.List.{List, [], _∷_, _++_}
 use mathlib.Core.Logic.{_⊎_}
 use lib.ListN.{length}
@@ -29,10 +29,11 @@ pub record StartTakes (s : Setup) (slice : List ℕ) : Type 0 where
   pub ranged : Ranged s
   pub slice-is : length slice ≡ s .«get_cfg_len»
 
--- the lists of the outputs are as long as their buffers
+-- the lists of the outputs are as long as their buffers, that of those held back where something is
 pub record OutputsFit (n : ℕ) (o : Outputs) : Type 0 where
   pub held : length (o .held) ≡ n
   pub next : length (o .next) ≡ n
+  pub back : o .withheld ≡ true → length (o .back) ≡ n
 
 -- so are those of the inputs
 pub record InputsFit (n : ℕ) (i : Inputs) : Type 0 where

@@ -1,1 +1,1 @@
-// The ledger: document 01's rules read on lists instead of buffers. Definitions and theorems only; they stand in specs/ and proofs/.
+// The ledger: the documents' rules read on lists instead of buffers. Definitions and theorems only; they stand in specs/ and proofs/.

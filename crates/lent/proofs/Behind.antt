@@ -7,7 +7,8 @@ use mathlib.Core.List.{List, _++_}
 use lib.Dec.{eqb, ltb}
 use lib.ListN.{length, getD, take, drop, replicate, take-append-drop}
 use lib.Seq.{length-take-le, drop-at, getD-drop}
-use Rattle.buffers.specs.Triple.{fillOf, nextOf}
+use Rattle.buffers.specs.Roles.{fillOf, nextOf}
+use Rattle.buffers.specs.Roles as role
 use Rattle.octets.specs.Part.{pasted, storedIn}
 use Rattle.octets.proofs.Parts.{stored-append, pasted-append}
 use Rattle.telegram.specs.declared.Datum.{Datum}
@@ -29,7 +30,7 @@ use Rattle.rules.specs.Line.{clearNoted, ticked}
 use Rattle.steps.specs.Safe.{Safe}
 use Rattle.steps.specs.Stepped.{Stepped}
 use Rattle.steps.specs.Line.{begun, busy}
-use Rattle.steps.specs.Outcome.{openSets, onMemory, carried, afterReply, settle}
+use Rattle.steps.specs.Outcome.{occupied, onMemory, carried, afterReply, settle}
 use Rattle.steps.specs.Reading.{storedData, storedAs, readBy, requestBy, prmAt, prmIn, outcomeOf, answered, completed, beginning, isIgnored, heardAs, heard}
 use Rattle.steps.specs.Bus.{paused, silencedReader, elapsed}
 use Rattle.steps.proofs.KeepsSafe.{safe-after-reply, safe-read-by, safe-beginning, safe-completed}
@@ -99,9 +100,11 @@ module _ (s : State) (m n : List ℕ) (h : Safe s m) (g : Safe s n) (e : behind 
   on-memory : (d : OutputsDeed) → behind (onMemory d s m) ≡ behind (onMemory d s n)
   on-memory outputs-deed.Keep = e
   on-memory outputs-deed.Publish = e
+  on-memory outputs-deed.HoldBack = e
+  on-memory outputs-deed.Release = e
   on-memory outputs-deed.Zeros =
       let a = outputsAt (s .setup) (nextOf (s .outputs .set .place)) in
-      let far = starts s outputRow (nextOf (s .outputs .set .place)) (h .outputs .next-in) in
+      let far = starts s outputRow (nextOf (s .outputs .set .place)) (h .outputs .within role.next (omega arith)) in
       let xs = replicate {A = ℕ} (s .setup .«output_len») 0 in
       behind-pasted m (safe-long s m h) a far xs
       ∙ ap (λ (l : List ℕ). pasted l (a - stateLength) xs) e
@@ -127,9 +130,9 @@ module _ (s : State) (m n : List ℕ) (h : Safe s m) (g : Safe s n) (e : behind 
           (cond x (storedIn n (startOf (s .setup) outputRow (fillOf (s .outputs .set .place))) (s .setup .«output_len») k b)
           (cond y (storedIn n (startOf (s .setup) parameterRow (fillOf (s .parameters .set .place))) (s .setup .«parameter_len») k b)
           (cond z (storedIn n (startOf (s .setup) configurationRow (fillOf (s .configuration .set .place))) (s .setup .«configuration_len») k b) n)))
-      go true y z = into outputRow (fillOf (s .outputs .set .place)) (s .setup .«output_len») (h .outputs .fill-in)
-      go false true z = into parameterRow (fillOf (s .parameters .set .place)) (s .setup .«parameter_len») (h .parameters .fill-in)
-      go false false true = into configurationRow (fillOf (s .configuration .set .place)) (s .setup .«configuration_len») (h .configuration .fill-in)
+      go true y z = into outputRow (fillOf (s .outputs .set .place)) (s .setup .«output_len») (h .outputs .within role.fill (omega arith))
+      go false true z = into parameterRow (fillOf (s .parameters .set .place)) (s .setup .«parameter_len») (h .parameters .within role.fill (omega arith))
+      go false false true = into configurationRow (fillOf (s .configuration .set .place)) (s .setup .«configuration_len») (h .configuration .within role.fill (omega arith))
       go false false false = e
 
   alike-stored : (d : Datum) (r : Reader) (b : ℕ) → Alike (storedAs d s m r b) (storedAs d s n r b)
@@ -149,12 +152,12 @@ module _ (s : State) (m n : List ℕ) (h : Safe s m) (g : Safe s n) (e : behind 
   same-prm : prmIn s m ≡ prmIn s n
   same-prm =
       same-prm-at (parametersAt (s .setup) (fillOf (s .parameters .set .place)))
-      (starts s parameterRow (fillOf (s .parameters .set .place)) (h .parameters .fill-in))
+      (starts s parameterRow (fillOf (s .parameters .set .place)) (h .parameters .within role.fill (omega arith)))
 
   same-outcome : (r : Request) → outcomeOf s m r ≡ outcomeOf s n r
   unfolding outcomeOf
   same-outcome r =
-      ap (λ (p : Prm). outcomeBy (s .setup) (s .control) (openSets s) r (record { prm = p; first = s .incoming .first; second = s .incoming .second })) same-prm
+      ap (λ (p : Prm). outcomeBy (s .setup) (s .control) (occupied s) r (record { prm = p; first = s .incoming .first; second = s .incoming .second })) same-prm
 
   alike-answered : (o : Outcome) (r : Request) → Alike (answered s m o r) (answered s n o r)
   unfolding answered carried

@@ -1,11 +1,13 @@
 // States with every field at an extreme value go through save and load; a memory with one octet changed, or with other lengths and less
 // room, is damaged or not.
 use buffers::events::Events;
+use buffers::quad::Quad;
 use buffers::triple::Triple;
 use libc::STDOUT_FILENO;
 use state::control::Control;
 use state::control::Diagnosis;
 use state::control::Flags;
+use state::control::Modes;
 use state::control::Phase;
 use state::control::Watchdog;
 use state::image::save;
@@ -29,7 +31,6 @@ fn all_flags() -> Flags {
     Flags {
         prm_fault: true,
         cfg_fault: true,
-        not_supported: true,
         ext_diag: true,
         stat_diag: true,
         overflow: true,
@@ -55,6 +56,12 @@ fn most_control() -> Control {
             count: 244,
             delayed_count: 244,
             delayed_flags: 7,
+        },
+        modes: Modes {
+            sync: true,
+            freeze: true,
+            sync_allowed: true,
+            freeze_allowed: true,
         },
     }
 }
@@ -91,7 +98,7 @@ fn most_reply() -> Reply {
             fc: 255,
             sum: 255,
         },
-        place: 2,
+        place: 3,
         header: Header {
             status1: 255,
             status2: 255,
@@ -116,7 +123,7 @@ fn most() -> State {
         },
         control: most_control(),
         outputs: Outputs {
-            set: Triple::numbered(5, true),
+            set: Quad::numbered(23, true, true),
             zeros: true,
         },
         inputs: Triple::numbered(5, true),
@@ -165,8 +172,8 @@ fn print_octets(octets: &[u8]) {
 
 // The state part.
 fn print_front(mem: &[u8]) {
-    if 64 <= mem.len() {
-        print_octets(&mem[..64]);
+    if 128 <= mem.len() {
+        print_octets(&mem[..128]);
     }
 }
 
@@ -197,6 +204,33 @@ fn changed(at: usize, octet: u8) {
     print_well(holds_state(&mem));
 }
 
+// The last code of each, and one past it: the place of the reply, the roles of the outputs, the input set, the modes, the marks of
+// the outputs.
+fn codes() {
+    changed(19, 3);
+    changed(19, 4);
+    changed(22, 23);
+    changed(22, 24);
+    changed(23, 11);
+    changed(23, 12);
+    changed(27, 15);
+    changed(27, 16);
+    changed(29, 7);
+    changed(29, 8);
+}
+
+// The octets that are not used, and one behind the state.
+fn unused() {
+    changed(54, 1);
+    changed(55, 1);
+    changed(62, 1);
+    changed(63, 1);
+    changed(64, 1);
+    changed(96, 1);
+    changed(127, 1);
+    changed(128, 1);
+}
+
 // Counts of the telegram that is read and of the reply, and sets that wait behind none.
 fn counts() {
     // more than 246 data octets to read, more read than there are, some read before the data, all of them
@@ -221,9 +255,9 @@ fn in_front(mem: &[u8], len: usize) {
     }
 }
 
-// As Start leaves it with all six lengths n, in a memory of 1,504 octets and in one of eight fewer.
+// As Start leaves it with all six lengths n, in a memory of 1,536 octets and in one of eight fewer.
 fn room(n: u8) {
-    let mut mem = [0u8; 1504];
+    let mut mem = [0u8; 1536];
     let s = state::start::initial(Setup {
         address: 126,
         ident: 0,
@@ -235,36 +269,26 @@ fn room(n: u8) {
         get_cfg_len: n,
     });
     save(s, &mut mem);
-    in_front(&mem, 1504);
-    in_front(&mem, 1496);
+    in_front(&mem, 1536);
+    in_front(&mem, 1528);
 }
 
 fn main() {
     through(most());
     through(least());
-    // the last code of the output set, of the input set, and one past each
-    changed(22, 23);
-    changed(22, 24);
-    changed(23, 11);
-    changed(23, 12);
+    codes();
     // an owner is any octet; a length and a count are not
     changed(0, 200);
     changed(48, 0);
     changed(48, 245);
     changed(56, 5);
-    // the octets that are not used, and one behind the state
-    changed(29, 1);
-    changed(54, 1);
-    changed(55, 1);
-    changed(62, 1);
-    changed(63, 1);
-    changed(64, 1);
+    unused();
     counts();
-    // 96 ends at 1,504; 88 and 7 well before; 97 and 244 behind; 6 is no length of parameters
-    room(96);
+    // 88 ends at 1,536; 80 and 7 well before; 89 and 244 behind; 6 is no length of parameters
     room(88);
+    room(80);
     room(7);
-    room(97);
+    room(89);
     room(244);
     room(6);
 }

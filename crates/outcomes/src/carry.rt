@@ -5,6 +5,7 @@ use buffers::triple::Triple;
 use rules::diagnosis::caught_up;
 use rules::diagnosis::is_delayed;
 use rules::line::clear_noted;
+use rules::outcome::InputsDeed;
 use rules::outcome::Outcome;
 use rules::outcome::OutputsDeed;
 use rules::outcome::SetDeed;
@@ -34,8 +35,16 @@ pub fn on_outputs(deed: OutputsDeed, o: Outputs) -> Outputs
             set: o.set.publish(),
             zeros: false,
         },
+        OutputsDeed::HoldBack => Outputs {
+            set: o.set.hold_back(),
+            zeros: o.zeros,
+        },
+        OutputsDeed::Release => Outputs {
+            set: o.set.release(),
+            zeros: false,
+        },
         OutputsDeed::Zeros => Outputs {
-            set: o.set.mark(),
+            set: o.set.renew(),
             zeros: true,
         },
     }
@@ -43,7 +52,7 @@ pub fn on_outputs(deed: OutputsDeed, o: Outputs) -> Outputs
 
 // New inputs come to the buffer that is sent from.
 fn bring_new(t: Triple) -> Triple
-    ensures { λ r. ⌜ r ≡ onInputs OutputsDeed.Publish t ⌝ }
+    ensures { λ r. ⌜ r ≡ onInputs InputsDeed.Bring t ⌝ }
 {
     if t.fresh {
         return t.bring();
@@ -51,13 +60,12 @@ fn bring_new(t: Triple) -> Triple
     t
 }
 
-pub fn on_inputs(deed: OutputsDeed, t: Triple) -> Triple
+pub fn on_inputs(deed: InputsDeed, t: Triple) -> Triple
     ensures { λ r. ⌜ r ≡ onInputs deed t ⌝ }
 {
     match deed {
-        OutputsDeed::Keep => t,
-        OutputsDeed::Publish => bring_new(t),
-        OutputsDeed::Zeros => t,
+        InputsDeed::Keep => t,
+        InputsDeed::Bring => bring_new(t),
     }
 }
 
@@ -105,6 +113,7 @@ fn on_state(s: State, o: Outcome, count: u8) -> State
     let setup = s.setup;
     let control = o.control;
     let outputs = o.outputs;
+    let inputs = o.inputs;
     let parameters = o.parameters;
     let configuration = o.configuration;
     let incoming = s.incoming;
@@ -113,7 +122,7 @@ fn on_state(s: State, o: Outcome, count: u8) -> State
         setup,
         control,
         outputs: on_outputs(outputs, s.outputs),
-        inputs: on_inputs(outputs, s.inputs),
+        inputs: on_inputs(inputs, s.inputs),
         parameters: on_sets(parameters, s.parameters, count),
         configuration: on_sets(configuration, s.configuration, count),
         swapped: s.swapped,
@@ -140,6 +149,8 @@ pub fn carry_out(s: State, mem: &mut [u8], o: Outcome, count: u8) -> State
     match outputs {
         OutputsDeed::Keep => on_state(s, o, count),
         OutputsDeed::Publish => on_state(s, o, count),
+        OutputsDeed::HoldBack => on_state(s, o, count),
+        OutputsDeed::Release => on_state(s, o, count),
         OutputsDeed::Zeros => {
             clear_next(s, mem);
             on_state(s, o, count)

@@ -3,6 +3,7 @@ use crate::carry::on_inputs;
 use crate::carry::on_outputs;
 use crate::carry::on_sets;
 use buffers::triple::Triple;
+use rules::outcome::InputsDeed;
 use rules::outcome::Outcome;
 use rules::outcome::OutputsDeed;
 use rules::outcome::SetDeed;
@@ -45,6 +46,8 @@ fn carry_buffers(deed: OutputsDeed, mem: &mut [u8])
     match deed {
         OutputsDeed::Keep => {}
         OutputsDeed::Publish => {}
+        OutputsDeed::HoldBack => {}
+        OutputsDeed::Release => {}
         OutputsDeed::Zeros => clear_next(mem),
     }
 }
@@ -57,19 +60,20 @@ fn put_outputs(deed: OutputsDeed, outputs: Outputs, mem: &mut [u8])
     match deed {
         OutputsDeed::Keep => {}
         OutputsDeed::Publish => save_outputs(on_outputs(OutputsDeed::Publish, outputs), mem),
+        OutputsDeed::HoldBack => save_outputs(on_outputs(OutputsDeed::HoldBack, outputs), mem),
+        OutputsDeed::Release => save_outputs(on_outputs(OutputsDeed::Release, outputs), mem),
         OutputsDeed::Zeros => save_outputs(on_outputs(OutputsDeed::Zeros, outputs), mem),
     }
 }
 
 // Of the input set, which was `inputs`.
-fn put_inputs(deed: OutputsDeed, inputs: Triple, mem: &mut [u8])
+fn put_inputs(deed: InputsDeed, inputs: Triple, mem: &mut [u8])
     requires { ⌜ stateLength ≤ length (now mem) ⌝ }
     ensures { λ _. ⌜ ((s : State) → s .inputs ≡ inputs → now (mem .entry) ≡ kept s (now (mem .entry)) → now (mem .exit) ≡ kept (withInputs s (onInputs deed inputs)) (now (mem .entry))) ⌝ }
 {
     match deed {
-        OutputsDeed::Keep => {}
-        OutputsDeed::Publish => save_inputs(on_inputs(OutputsDeed::Publish, inputs), mem),
-        OutputsDeed::Zeros => {}
+        InputsDeed::Keep => {}
+        InputsDeed::Bring => save_inputs(on_inputs(InputsDeed::Bring, inputs), mem),
     }
 }
 
@@ -104,16 +108,17 @@ pub fn carry_over(mem: &mut [u8], o: Outcome, count: u8)
     requires { ⌜ Holds (now mem) (unpacked (now mem)) ⌝ }
     ensures { λ _. ⌜ now (mem .exit) ≡ packedAfter (carried (unpacked (now (mem .entry))) (now (mem .entry)) o count) ⌝ }
 {
-    let deed = o.outputs;
+    let on_outputs = o.outputs;
+    let on_inputs = o.inputs;
     let on_parameters = o.parameters;
     let on_configuration = o.configuration;
     let outputs = load::outputs(&mem[..]);
     let inputs = load::inputs(&mem[..]);
     let parameters = load::parameters(&mem[..]);
     let configuration = load::configuration(&mem[..]);
-    carry_buffers(deed, mem);
-    put_outputs(deed, outputs, mem);
-    put_inputs(deed, inputs, mem);
+    carry_buffers(on_outputs, mem);
+    put_outputs(on_outputs, outputs, mem);
+    put_inputs(on_inputs, inputs, mem);
     put_parameters(on_parameters, parameters, count, mem);
     put_configuration(on_configuration, configuration, count, mem);
     save_control(o.control, mem);

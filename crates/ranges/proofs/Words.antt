@@ -6,7 +6,7 @@ use mathlib.Core.Path.{_≡_, refl, sym, ap, ap₂, _∙_}
 use mathlib.Core.Bool.{_&&_, and-assoc}
 use mathlib.Core.List.{List, [], _∷_, _++_}
 use lib.Dec.{leb, ltb, eqb, lit≤}
-use lib.ListN.{length, take, drop, getD, replicate}
+use lib.ListN.{length, take, drop, getD, replicate, length-replicate, replicate-append-replicate}
 use lib.Seq.{drop-cons, take-add, drop-drop}
 use lib.Pow.{shl-exact}
 use lib.Bits.{bitOr, or-shifted-r, or-add-and, and-le-r}
@@ -17,9 +17,19 @@ use Rattle.ranges.specs.Octets.{number, octets, atMost, lows}
 
 -- ---- octets put together
 
--- one more octet above those that the word has
-put : (k v b : ℕ) {u : ℕ} → u ≡ v → v < 2 ^ k → b < 256 → k + 8 ≤ 64 → bitOr u ((b * 2 ^ k) % 2 ^ 64) ≡ v + b * 2 ^ k
-put k v b e p q r = ap₂ bitOr e (shl-exact 8 k 64 q (omega arith)) ∙ or-shifted-r b k v p ∙ omega arith
+-- one more octet above those that a word of w bits has
+put : (w k v b : ℕ) {u : ℕ} → u ≡ v → v < 2 ^ k → b < 256 → k + 8 ≤ w → bitOr u ((b * 2 ^ k) % 2 ^ w) ≡ v + b * 2 ^ k
+put w k v b e p q r = ap₂ bitOr e (shl-exact 8 k w q (omega arith)) ∙ or-shifted-r b k v p ∙ omega arith
+
+-- four of them
+pub joined-half : (a b c d : ℕ) → a < 256 → b < 256 → c < 256 → d < 256
+    → bitOr (bitOr (bitOr a ((b * 2 ^ 8) % 2 ^ 32)) ((c * 2 ^ 16) % 2 ^ 32)) ((d * 2 ^ 24) % 2 ^ 32) ≡ number (a ∷ b ∷ c ∷ d ∷ [])
+unfolding number
+joined-half a b c d a< b< c< d< =
+    let s1 = put 32 8 a b refl a< b< (lit≤ tt) in
+    let s2 = put 32 16 (a + b * 2 ^ 8) c s1 (omega arith) c< (lit≤ tt) in
+    let s3 = put 32 24 (a + b * 2 ^ 8 + c * 2 ^ 16) d s2 (omega arith) d< (lit≤ tt) in
+    s3 ∙ omega arith
 
 -- eight of them
 pub joined : (a b c d e f g h : ℕ) → a < 256 → b < 256 → c < 256 → d < 256 → e < 256 → f < 256 → g < 256 → h < 256
@@ -29,13 +39,13 @@ pub joined : (a b c d e f g h : ℕ) → a < 256 → b < 256 → c < 256 → d <
     ≡ number (a ∷ b ∷ c ∷ d ∷ e ∷ f ∷ g ∷ h ∷ [])
 unfolding number
 joined a b c d e f g h a< b< c< d< e< f< g< h< =
-    let s1 = put 8 a b refl a< b< (lit≤ tt) in
-    let s2 = put 16 (a + b * 2 ^ 8) c s1 (omega arith) c< (lit≤ tt) in
-    let s3 = put 24 (a + b * 2 ^ 8 + c * 2 ^ 16) d s2 (omega arith) d< (lit≤ tt) in
-    let s4 = put 32 (a + b * 2 ^ 8 + c * 2 ^ 16 + d * 2 ^ 24) e s3 (omega arith) e< (lit≤ tt) in
-    let s5 = put 40 (a + b * 2 ^ 8 + c * 2 ^ 16 + d * 2 ^ 24 + e * 2 ^ 32) f s4 (omega arith) f< (lit≤ tt) in
-    let s6 = put 48 (a + b * 2 ^ 8 + c * 2 ^ 16 + d * 2 ^ 24 + e * 2 ^ 32 + f * 2 ^ 40) g s5 (omega arith) g< (lit≤ tt) in
-    let s7 = put 56 (a + b * 2 ^ 8 + c * 2 ^ 16 + d * 2 ^ 24 + e * 2 ^ 32 + f * 2 ^ 40 + g * 2 ^ 48) h s6 (omega arith) h< (lit≤ tt) in
+    let s1 = put 64 8 a b refl a< b< (lit≤ tt) in
+    let s2 = put 64 16 (a + b * 2 ^ 8) c s1 (omega arith) c< (lit≤ tt) in
+    let s3 = put 64 24 (a + b * 2 ^ 8 + c * 2 ^ 16) d s2 (omega arith) d< (lit≤ tt) in
+    let s4 = put 64 32 (a + b * 2 ^ 8 + c * 2 ^ 16 + d * 2 ^ 24) e s3 (omega arith) e< (lit≤ tt) in
+    let s5 = put 64 40 (a + b * 2 ^ 8 + c * 2 ^ 16 + d * 2 ^ 24 + e * 2 ^ 32) f s4 (omega arith) f< (lit≤ tt) in
+    let s6 = put 64 48 (a + b * 2 ^ 8 + c * 2 ^ 16 + d * 2 ^ 24 + e * 2 ^ 32 + f * 2 ^ 40) g s5 (omega arith) g< (lit≤ tt) in
+    let s7 = put 64 56 (a + b * 2 ^ 8 + c * 2 ^ 16 + d * 2 ^ 24 + e * 2 ^ 32 + f * 2 ^ 40 + g * 2 ^ 48) h s6 (omega arith) h< (lit≤ tt) in
     s7 ∙ omega arith
 
 -- ---- a part of a memory
@@ -65,6 +75,16 @@ eight m at r h e =
     ∙ ap (λ l. getD m (at + 4) 0 ∷ l) (part-from m at 5 2 (omega arith)
     ∙ ap (λ l. getD m (at + 5) 0 ∷ l) (part-from m at 6 1 (omega arith)
     ∙ ap (λ l. getD m (at + 6) 0 ∷ l) (part-from m at 7 0 (omega arith))))))))))
+
+-- and half a word of four
+pub quarter : (m : List ℕ) (at r : ℕ) → at + 4 ≤ length m
+    → r ≡ number (getD m at 0 ∷ getD m (at + 1) 0 ∷ getD m (at + 2) 0 ∷ getD m (at + 3) 0 ∷ []) → r ≡ number (part m at 4)
+quarter m at r h e =
+    e
+    ∙ ap number (sym (part-cons m at 3 (omega arith)
+    ∙ ap (λ l. getD m at 0 ∷ l) (part-from m at 1 2 (omega arith)
+    ∙ ap (λ l. getD m (at + 1) 0 ∷ l) (part-from m at 2 1 (omega arith)
+    ∙ ap (λ l. getD m (at + 2) 0 ∷ l) (part-from m at 3 0 (omega arith))))))
 
 -- a word has the octets that it was made of
 pub octets-part : (m : List ℕ) → ((i : ℕ) → getD m i 0 < 256) → (k at : ℕ) → at + k ≤ length m → octets k (number (part m at k)) ≡ part m at k
@@ -141,3 +161,32 @@ behind-first m at k small h =
     ∙ below-256 (number rest) (getD m at 0) small
     ∙ all-zero rest
     ∙ ap (λ n. atMost rest (replicate n 0)) (part-length m (at + 1) k (omega arith))
+
+-- ---- octets that are 0
+
+-- half a word of a memory is 0 exactly if its octets are
+pub half-none : (m : List ℕ) (at r : ℕ) → at + 4 ≤ length m → r ≡ number (part m at 4) → eqb r 0 ≡ atMost (part m at 4) (replicate 4 0)
+half-none m at r h e = ap (λ x. eqb x 0) e ∙ all-zero (part m at 4) ∙ ap (λ n. atMost (part m at 4) (replicate n 0)) (part-length m at 4 h)
+
+-- words that are 0 exactly if two parts of a memory are, one behind the other, are both 0 exactly if the part that these make is
+joined-none : (m : List ℕ) (at j k x y : ℕ) → at + j ≤ length m
+    → eqb x 0 ≡ atMost (part m at j) (replicate j 0)
+    → eqb y 0 ≡ atMost (part m (at + j) k) (replicate k 0)
+    → eqb (bitOr x y) 0 ≡ atMost (part m at (j + k)) (replicate (j + k) 0)
+joined-none m at j k x y h p q =
+    or-zero x y
+    ∙ ap₂ _&&_ p q
+    ∙ sym (at-most-append (part m at j) (replicate j 0) (part m (at + j) k) (replicate k 0) (part-length m at j h ∙ sym (length-replicate {A = ℕ} j 0)))
+    ∙ ap₂ atMost (sym (take-add j k (drop at m) ∙ ap (λ l. part m at j ++ take k l) (drop-drop j at m))) (replicate-append-replicate {A = ℕ} j k 0)
+
+-- and so are four for parts of one length
+pub four-none : (m : List ℕ) (at n w x y z : ℕ) → at + (n + n + n) ≤ length m
+    → eqb w 0 ≡ atMost (part m at n) (replicate n 0)
+    → eqb x 0 ≡ atMost (part m (at + n) n) (replicate n 0)
+    → eqb y 0 ≡ atMost (part m (at + (n + n)) n) (replicate n 0)
+    → eqb z 0 ≡ atMost (part m (at + (n + n + n)) n) (replicate n 0)
+    → eqb (bitOr (bitOr (bitOr w x) y) z) 0 ≡ atMost (part m at (n + n + n + n)) (replicate (n + n + n + n) 0)
+four-none m at n w x y z h p q r s =
+    joined-none m at (n + n + n) n (bitOr (bitOr w x) y) z h
+    (joined-none m at (n + n) n (bitOr w x) y (omega arith) (joined-none m at n n w x (omega arith) p q) r)
+    s

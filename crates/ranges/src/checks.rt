@@ -4,6 +4,7 @@ ghost use mathlib.Core.Path.{_≡_};
 ghost use mathlib.Core.Bool.{_&&_};
 ghost use mathlib.Core.List.{_++_};
 ghost use Prim.Native.Nat.{_+_, _≤_};
+ghost use lib.Dec.{eqb};
 ghost use lib.ListN.{length, replicate};
 ghost use Rattle.octets.specs.Part.{part};
 ghost use Rattle.ranges.specs.Octets.{octets, atMost, lows};
@@ -30,4 +31,28 @@ pub fn nothing_behind(mem: &[u8], at: usize) -> bool
     ensures { λ r. ⌜ r ≡ atMost (part (now (mem .entry)) (at + 1) 7) (replicate 7 0) ⌝ }
 {
     word::word(mem, at) < 256
+}
+
+// 0 exactly if the sixteen octets from a place on are. By half words: of whole ones that are only compared with 0 the compiler for a
+// processor of 32 bits loads the upper octets one by one.
+fn four_halves(mem: &[u8], at: usize) -> u32
+    requires { ⌜ at + 16 ≤ length (now mem) ⌝ }
+    ensures { λ r. ⌜ eqb r 0 ≡ atMost (part (now (mem .entry)) at 16) (replicate 16 0) ⌝ }
+{
+    word::half(mem, at)
+        | word::half(mem, at + 4)
+        | word::half(mem, at + 8)
+        | word::half(mem, at + 12)
+}
+
+// Whether the sixty-four octets from a place on are 0.
+pub fn nothing_in(mem: &[u8], at: usize) -> bool
+    requires { ⌜ at + 64 ≤ length (now mem) ⌝ }
+    ensures { λ r. ⌜ r ≡ atMost (part (now (mem .entry)) at 64) (replicate 64 0) ⌝ }
+{
+    (four_halves(mem, at)
+        | four_halves(mem, at + 16)
+        | four_halves(mem, at + 32)
+        | four_halves(mem, at + 48))
+        == 0
 }

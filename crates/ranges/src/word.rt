@@ -39,6 +39,21 @@ pub fn word(mem: &[u8], at: usize) -> u64
     )
 }
 
+// The half word with these octets.
+fn join_half(a: u8, b: u8, c: u8, d: u8) -> u32
+    ensures { λ r. ⌜ r ≡ number (a ∷ b ∷ c ∷ d ∷ []) ⌝ }
+{
+    (a as u32) | (b as u32) << 8 | (c as u32) << 16 | (d as u32) << 24
+}
+
+// The four octets of the memory from a place on.
+pub fn half(mem: &[u8], at: usize) -> u32
+    requires { ⌜ at + 4 ≤ length (now mem) ⌝ }
+    ensures { λ r. ⌜ r ≡ number (part (now (mem .entry)) at 4) ⌝ }
+{
+    join_half(mem[at], mem[at + 1], mem[at + 2], mem[at + 3])
+}
+
 // The low seven bits of every octet.
 const LOW: u64 = 0x7f7f_7f7f_7f7f_7f7f;
 

@@ -1,5 +1,5 @@
--- The outcomes of the rules by cases: nothing but a reply, WAIT_PRM entered, a set received, outputs or zeros published, a set judged. What holds
--- of each of them holds of every outcome.
+-- The outcomes of the rules by cases: nothing but a reply, WAIT_PRM entered, a set received, something done to the modes, the outputs and
+-- the inputs, a set judged. What holds of each of them holds of every outcome.
 use Prim.Native.Nat.{ℕ}
 use native.Mathlib.Omega.{arith}
 use mathlib.Core.Path.{_≡_, refl, sym, ap, _∙_}
@@ -12,24 +12,27 @@ use Rattle.buffers.proofs.Word.{raised-other}
 use Rattle.telegram.proofs.Run.{no-true}
 use Rattle.state.specs.declared.setup.Setup.{Setup}
 use Rattle.state.specs.declared.control.Flags.{Flags}
+use Rattle.state.specs.declared.control.Modes.{Modes}
 use Rattle.state.specs.declared.control.Control.{Control}
 use Rattle.state.specs.declared.state.Drawn.{Drawn}
 use Rattle.state.specs.declared.state.Drawn.the-variants as drawn
 use Rattle.state.specs.Sound.{Within}
 use Rattle.state.specs.Well.{within}
-use Rattle.state.proofs.Choice.{by-test, either, and-right}
+use Rattle.state.proofs.Choice.{by-test, either, and-left, and-right}
 use Rattle.state.proofs.Tests.{within-true}
 use Rattle.rules.specs.declared.request.Request.{Request}
 use Rattle.rules.specs.declared.request.Data.{Data}
-use Rattle.rules.specs.declared.request.OpenSets.{OpenSets}
+use Rattle.rules.specs.declared.request.Occupied.{Occupied}
 use Rattle.rules.specs.declared.request.Prm.{Prm}
 use Rattle.rules.specs.declared.request.Service.{Service}
 use Rattle.rules.specs.declared.request.Service.the-variants.{Nothing, Status, Reject, GlobalControl, DataExchange, SetPrm, ChkCfg, SlaveDiag, GetCfg, ReadInputs, ReadOutputs}
 use Rattle.rules.specs.declared.outcome.OutputsDeed.{OutputsDeed}
 use Rattle.rules.specs.declared.outcome.OutputsDeed.the-variants as outputs-deed
+use Rattle.rules.specs.declared.outcome.InputsDeed.{InputsDeed}
 use Rattle.rules.specs.declared.outcome.SetDeed.the-variants as set-deed
 use Rattle.rules.specs.declared.outcome.Outcome.{Outcome}
-use Rattle.rules.specs.Control.{bit, inExchange, owns, withFlags, withNoted, raise, clear}
+use Rattle.rules.specs.Control.{bit, inExchange, owns, withFlags, withEvents, withModes, withNoted, raise, clear}
+use Rattle.rules.specs.Modes.{exchangeOutputs, commandsSync, commandedModes, commandedOutputs, commandedInputs, announced}
 use Rattle.rules.specs.Phases.{drawing, enteringWaitPrm, dataExch}
 use Rattle.rules.specs.Requests.{masterOf, acts, toStation, refilled}
 use Rattle.rules.specs.Services.{otherOwns, otherIdent, wantsWatchdog, badFactors, goodPrm, setPrm, goodCfg, chkCfg, exchanges, dataExchange, slaveDiag, controls, storing, globalControl, serve}
@@ -52,17 +55,19 @@ another-raised e n x y z = record {
   configuration-same = raised-other e n configurationEvent z;
 }
 
--- a control part that is alike, with that owner, and with these events as they were
+-- a control part that is alike, with that owner and those modes, and with these events as they were
 pub record Akin (c k : Control) : Type 0 where
   pub alike-is : Alike c k
   pub owner-same : k .owner ≡ c .owner
+  pub modes-same : k .modes ≡ c .modes
   pub untouched : Untouched (c .events) (k .events)
 
 -- no event changes
-pub akin : {c k : Control} → Alike c k → k .owner ≡ c .owner → k .events ≡ c .events → Akin c k
-akin a e f = record {
+pub akin : {c k : Control} → Alike c k → k .owner ≡ c .owner → k .modes ≡ c .modes → k .events ≡ c .events → Akin c k
+akin a e m f = record {
   alike-is = a;
   owner-same = e;
+  modes-same = m;
   untouched = record {
     outputs-same = ap (λ (x : Events). eventBit (x .word) outputsEvent) f;
     parameters-same = ap (λ (x : Events). eventBit (x .word) parametersEvent) f;
@@ -82,11 +87,30 @@ isOutputs drawn.Outputs = true
 isOutputs drawn.Configuration = false
 isOutputs drawn.Diagnosis = false
 
--- outputs are published only where that may be, or zeros are
-abbrev pub Published : Type 0 → OutputsDeed → Type 0
-Published Given outputs-deed.Keep = ⊥
-Published Given outputs-deed.Publish = Given
-Published Given outputs-deed.Zeros = Unit
+-- data is published or held back, what is held back is published, and zeros are published only where that may be
+abbrev pub Publishes : (Given Held Clear : Type 0) → OutputsDeed → Type 0
+Publishes Given Held Clear outputs-deed.Keep = Unit
+Publishes Given Held Clear outputs-deed.Publish = Given
+Publishes Given Held Clear outputs-deed.HoldBack = Given
+Publishes Given Held Clear outputs-deed.Release = Held
+Publishes Given Held Clear outputs-deed.Zeros = Clear
+
+-- what an outcome does that changes neither phase nor sets: these modes, outputs and inputs, with the event of what is published
+abbrev pub moving : Control → Modes → OutputsDeed → InputsDeed → Drawn → Outcome
+moving k m u v d =
+    record {
+      control = withModes (withEvents k (announced u (k .events))) m;
+      outputs = u;
+      inputs = v;
+      parameters = set-deed.Keep;
+      configuration = set-deed.Keep;
+      drawn = d;
+    }
+
+-- what becomes of the modes and of the outputs by a Data_Exchange or a Global_Control. withheld: something is held back
+pub data Moved (before : Modes) (withheld : Bool) : Modes → OutputsDeed → Type 0 where
+  exchanged : Moved before withheld before (exchangeOutputs before)
+  commanded : (first : ℕ) → Moved before withheld (commandedModes before first) (commandedOutputs before withheld first)
 
 module _ (P : Outcome → Type 0) (c : Control)
     (replies : (k : Control) (d : Drawn) → Akin c k → (isOutputs d ≡ true → inExchange k ≡ true) → P (drawing k d)) where
@@ -96,7 +120,7 @@ module _ (P : Outcome → Type 0) (c : Control)
 
   -- the control part stays
   same : Akin c c
-  same = akin (alike refl refl refl) refl refl
+  same = akin (alike refl refl refl) refl refl refl
 
   -- with nothing but such a reply
   stays : (d : Drawn) → isOutputs d ≡ false → P (drawing c d)
@@ -109,7 +133,7 @@ module _ (P : Outcome → Type 0) (c : Control)
     clear-akin k s =
         let a = s .alike-is in
         let n : Akin c (withNoted k true) =
-        record { alike-is = alike (a .phase-same) (a .good-same) (a .diagnosis-same); owner-same = s .owner-same; untouched = s .untouched } in
+        record { alike-is = alike (a .phase-same) (a .good-same) (a .diagnosis-same); owner-same = s .owner-same; modes-same = s .modes-same; untouched = s .untouched } in
         by-test P busy _ _ (λ _. draws (withNoted k true) drawn.Nothing n refl) (λ e. clears e _ (a .diagnosis-same))
 
     -- leave master
@@ -131,9 +155,10 @@ module _ (P : Outcome → Type 0) (c : Control)
         (record {
           alike-is = alike refl refl refl;
           owner-same = refl;
+          modes-same = refl;
           untouched = another-raised (c .events) watchdogEvent (λ q. omega arith) (λ q. omega arith) (λ q. omega arith);
         }))
-        (draws _ drawn.Nothing (akin (alike refl refl refl) refl refl) refl))
+        (draws _ drawn.Nothing (akin (alike refl refl refl) refl refl refl) refl))
 
   -- the others, which may enter WAIT_PRM at any time
   module _ (resets : (k : Control) (d : Drawn) → k .diagnosis ≡ c .diagnosis → isOutputs d ≡ false → P (enteringWaitPrm k d)) where
@@ -149,12 +174,13 @@ module _ (P : Outcome → Type 0) (c : Control)
     unfolding judgedConfiguration
     configuration-cases waits good f g = by-test P waits _ _ f (λ _. either P good g (resets _ drawn.Nothing refl refl))
 
-    -- the services. A set is received, or outputs or zeros are published.
-    module _ (g : Setup) (r : Request) (opened : OpenSets)
+    -- the services. A set is received, or in DATA_EXCH something is done to the modes, the outputs and the inputs.
+    module _ (g : Setup) (r : Request) (opened : Occupied)
         (receives-prm : (p : Prm) → To r 61 → Within 7 (r .count) (g .«parameter_len») → P (goodPrm c (opened .parameters) (masterOf r) p))
         (receives-cfg : To r 62 → Within 1 (r .count) (g .«configuration_len») → P (goodCfg c (opened .configuration)))
-        (publishes : (k : Control) (u : OutputsDeed) (d : Drawn) → Akin c k → isOutputs d ≡ false → Published (Plain r × (r .count ≡ g .«output_len»)) u
-        → P (record { control = raise k outputsEvent; outputs = u; parameters = set-deed.Keep; configuration = set-deed.Keep; drawn = d })) where
+        (moves : (k : Control) (m : Modes) (u : OutputsDeed) (v : InputsDeed) (d : Drawn) → Akin c k → isOutputs d ≡ false
+        → Publishes (Plain r × (r .count ≡ g .«output_len»)) (opened .outputs ≡ true) Unit u
+        → inExchange c ≡ true → Moved (c .modes) (opened .outputs) m u → P (moving k m u v d)) where
       -- Set_Prm
       setPrm-cases : (p : Prm) → To r 61 → P (setPrm g c (opened .parameters) r p)
       unfolding setPrm
@@ -163,9 +189,8 @@ module _ (P : Outcome → Type 0) (c : Control)
           (by-test P (not (within 7 (r .count) (g .«parameter_len»))) _ _ (λ _. resets _ drawn.Acknowledge refl refl)
           (λ w. either P (bit (p .status) 6) (resets c drawn.Acknowledge refl refl)
           (either P (not (bit (p .status) 7)) (stays drawn.Acknowledge refl)
-          (either P (bit (p .status) 5 || bit (p .status) 4) (resets _ drawn.Acknowledge refl refl)
           (either P (otherIdent g p || (wantsWatchdog p && badFactors p)) (resets _ drawn.Acknowledge refl refl)
-          (receives-prm p h (within-true 7 (r .count) (g .«parameter_len») (not-false _ w))))))))
+          (receives-prm p h (within-true 7 (r .count) (g .«parameter_len») (not-false _ w)))))))
 
       -- Chk_Cfg
       chkCfg-cases : To r 62 → P (chkCfg g c (opened .configuration) r)
@@ -179,33 +204,47 @@ module _ (P : Outcome → Type 0) (c : Control)
       dataExchange-cases : Plain r → P (dataExchange g c r)
       unfolding dataExchange
       dataExchange-cases h =
-          either P (not (exchanges c r)) (stays drawn.Rejected refl)
-          (by-test P (not (eqb (r .count) (g .«output_len»))) _ _ (λ _. resets _ drawn.Rejected refl refl)
-          (λ w. publishes c outputs-deed.Publish drawn.Exchange same refl (h, eqb-true _ _ (not-false _ w))))
+          by-test P (not (exchanges c r)) _ _ (λ _. stays drawn.Rejected refl)
+          (λ e. by-test P (not (eqb (r .count) (g .«output_len»))) _ _ (λ _. resets _ drawn.Rejected refl refl)
+          (λ w. moves c (c .modes) _ _ drawn.Exchange same refl
+          (either (Publishes (Plain r × (r .count ≡ g .«output_len»)) (opened .outputs ≡ true) Unit) (c .modes .sync)
+          (h, eqb-true _ _ (not-false _ w)) (h, eqb-true _ _ (not-false _ w)))
+          (and-right (owns c (masterOf r)) (inExchange c) (not-false _ e)) exchanged))
 
       -- Slave_Diag
       slaveDiag-cases : P (slaveDiag c r)
       unfolding slaveDiag
       slaveDiag-cases =
-          either P (owns c (masterOf r) && not (c .flags .«stat_diag»)) (draws _ drawn.Diagnosis (akin (alike refl refl refl) refl refl) refl)
+          either P (owns c (masterOf r) && not (c .flags .«stat_diag»)) (draws _ drawn.Diagnosis (akin (alike refl refl refl) refl refl refl) refl)
           (stays drawn.Diagnosis refl)
 
       -- Global_Control
-      globalControl-cases : (first second : ℕ) → P (globalControl c r first second)
+      globalControl-cases : (first second : ℕ) → P (globalControl c (opened .outputs) r first second)
       unfolding globalControl
       globalControl-cases first second =
-          either P (controls c r second)
-          (either P (bit first 1) (publishes _ outputs-deed.Zeros drawn.Nothing stored refl tt) (draws _ drawn.Nothing stored refl))
-          (stays drawn.Nothing refl)
+          by-test P (controls c r second) _ _
+          (λ e. moves (storing c first) (commandedModes (c .modes) first) (commandedOutputs (c .modes) (opened .outputs) first)
+          (commandedInputs (c .modes) first) drawn.Nothing stored refl publishes
+          (and-right (owns c (masterOf r)) (inExchange c) (and-left (exchanges c r) _ (and-left (exchanges c r && eqb (r .count) 2) _ e)))
+          (commanded first))
+          (λ _. stays drawn.Nothing refl)
         where
           stored : Akin c (storing c first)
           stored =
-              either (Akin c) (eqb first (c .stored)) same
+              either (Akin c) (eqb first (c .stored)) (akin (alike refl refl refl) refl refl refl)
               (record {
                 alike-is = alike refl refl refl;
                 owner-same = refl;
+                modes-same = refl;
                 untouched = another-raised (c .events) controlEvent (λ q. omega arith) (λ q. omega arith) (λ q. omega arith);
               })
+
+          -- something is released only where it is held back
+          publishes : Publishes (Plain r × (r .count ≡ g .«output_len»)) (opened .outputs ≡ true) Unit (commandedOutputs (c .modes) (opened .outputs) first)
+          publishes =
+              either (Publishes (Plain r × (r .count ≡ g .«output_len»)) (opened .outputs ≡ true) Unit) (bit first 1) tt
+              (by-test (Publishes (Plain r × (r .count ≡ g .«output_len»)) (opened .outputs ≡ true) Unit)
+              (commandsSync (c .modes) first && opened .outputs) _ _ (λ e. and-right (commandsSync (c .modes) first) (opened .outputs) e) (λ _. tt))
 
       -- Read_Inputs and Read_Outputs
       reads-cases : (d : Drawn) → P (cond (inExchange c) (drawing c d) (drawing c drawn.Rejected))
@@ -225,8 +264,10 @@ module _ (P : Outcome → Type 0) (c : Control)
       serve-cases ReadInputs octets h = reads-cases drawn.Inputs
       serve-cases ReadOutputs octets h = reads-cases drawn.Outputs
 
--- refilling the watchdog changes neither owner nor events
-pub refilled-same : (g : Setup) (c : Control) (r : Request) → (refilled g c r .owner ≡ c .owner) × (refilled g c r .events ≡ c .events)
+-- refilling the watchdog changes neither owner nor events nor modes
+pub refilled-same : (g : Setup) (c : Control) (r : Request)
+    → (refilled g c r .owner ≡ c .owner) × (refilled g c r .events ≡ c .events) × (refilled g c r .modes ≡ c .modes)
 unfolding refilled
 refilled-same g c r =
-    either (λ (k : Control). (k .owner ≡ c .owner) × (k .events ≡ c .events)) (acts g r && toStation g r && owns c (masterOf r)) (refl, refl) (refl, refl)
+    either (λ (k : Control). (k .owner ≡ c .owner) × (k .events ≡ c .events) × (k .modes ≡ c .modes)) (acts g r && toStation g r && owns c (masterOf r))
+    (refl, refl, refl) (refl, refl, refl)

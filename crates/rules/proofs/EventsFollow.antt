@@ -1,4 +1,4 @@
--- The events follow what an outcome does: 13 is raised where outputs or zeros are published, 11 and 10 go with the sets of their kind.
+-- The events follow what an outcome does: 13 is raised where something is published, 11 and 10 go with the sets of their kind.
 use Prim.Native.Nat.{ℕ, _<_}
 use native.Mathlib.Omega.{arith}
 use mathlib.Core.Path.{_≡_, refl, sym, ap, subst, _∙_}
@@ -8,35 +8,40 @@ use Rattle.buffers.specs.Events.{width, bit, raised, cleared, dataExchangeEvent
 use Rattle.buffers.proofs.Word.{raised-same, raised-other, cleared-same, cleared-other}
 use Rattle.state.specs.declared.setup.Setup.{Setup}
 use Rattle.state.specs.declared.control.Flags.{Flags}
+use Rattle.state.specs.declared.control.Modes.{Modes}
 use Rattle.state.specs.declared.control.Control.{Control}
 use Rattle.state.specs.declared.state.Drawn.{Drawn}
 use Rattle.state.specs.declared.state.Drawn.the-variants.{Nothing}
 use Rattle.rules.specs.declared.request.Request.{Request}
 use Rattle.rules.specs.declared.request.Data.{Data}
-use Rattle.rules.specs.declared.request.OpenSets.{OpenSets}
+use Rattle.rules.specs.declared.request.Occupied.{Occupied}
 use Rattle.rules.specs.declared.request.Prm.{Prm}
 use Rattle.rules.specs.declared.outcome.OutputsDeed.{OutputsDeed}
 use Rattle.rules.specs.declared.outcome.OutputsDeed.the-variants as outputs-deed
+use Rattle.rules.specs.declared.outcome.InputsDeed.{InputsDeed}
 use Rattle.rules.specs.declared.outcome.SetDeed.{SetDeed}
 use Rattle.rules.specs.declared.outcome.SetDeed.the-variants as set-deed
 use Rattle.rules.specs.declared.outcome.Outcome.{Outcome}
-use Rattle.rules.specs.Control.{inExchange, withFlags, withEvents, raise, clear}
-use Rattle.rules.specs.Phases.{drawing, leftExchange, waitPrm, enteringWaitPrm, waitCfg, dataExch, zerosIfLeft}
+use Rattle.rules.specs.Control.{inExchange, withFlags, clear}
+use Rattle.rules.specs.Modes.{announced}
+use Rattle.rules.specs.Phases.{drawing, leftExchange, left, waitPrm, enteringWaitPrm, waitCfg, dataExch, zerosIfLeft}
 use Rattle.rules.specs.Requests.{refilled, serviceOf}
 use Rattle.rules.specs.Services.{showing, parametrized, goodPrm, goodCfg, outcomeBy}
 use Rattle.rules.specs.Line.{clearOn, clearNoted, ticked}
 use Rattle.rules.specs.User.{changingSets, judgedParameters, judgedConfiguration}
 use Rattle.rules.proofs.Headed.{headed}
-use Rattle.rules.proofs.ByCases.{isOutputs, Akin, Published, clear-cases, noted-cases, ticked-cases, parameters-cases, configuration-cases, serve-cases, refilled-same}
+use Rattle.rules.proofs.ByCases.{isOutputs, Akin, moving, clear-cases, noted-cases, ticked-cases, parameters-cases, configuration-cases, serve-cases, refilled-same}
 
 -- event n is set
 abbrev on : Events → ℕ → Bool
 on e n = bit (e .word) n
 
--- outputs or zeros are published
+-- something is published
 abbrev pub publishing : OutputsDeed → Bool
 publishing outputs-deed.Keep = false
 publishing outputs-deed.Publish = true
+publishing outputs-deed.HoldBack = false
+publishing outputs-deed.Release = true
 publishing outputs-deed.Zeros = true
 
 -- what becomes of the event of a kind of sets. opened: a set of that kind is open, waits: a newer one waits
@@ -46,11 +51,34 @@ EventShows set-deed.Receive opened waits before after = after ≡ cond opened be
 EventShows set-deed.Advance opened waits before after = (opened ≡ true) × (waits ≡ true) × (after ≡ before)
 EventShows set-deed.Drop opened waits before after = after ≡ false
 
+-- which sets wait
+pub record Waiting : Type 0 where
+  pub parameters : Bool
+  pub configuration : Bool
+
 -- the events after an outcome, by those before and the sets that are open and that wait
-pub record EventsAfter (e : Events) (opened waiting : OpenSets) (o : Outcome) : Type 0 where
+pub record EventsAfter (e : Events) (opened : Occupied) (waiting : Waiting) (o : Outcome) : Type 0 where
   pub outputs-raise : on (o .control .events) outputsEvent ≡ (on e outputsEvent || publishing (o .outputs))
   pub parameters-show : EventShows (o .parameters) (opened .parameters) (waiting .parameters) (on e parametersEvent) (on (o .control .events) parametersEvent)
   pub configuration-show : EventShows (o .configuration) (opened .configuration) (waiting .configuration) (on e configurationEvent) (on (o .control .events) configurationEvent)
+
+-- ---- something published
+
+-- it raises event 13
+announced-raises : (u : OutputsDeed) (e : Events) → on (announced u e) outputsEvent ≡ (on e outputsEvent || publishing u)
+announced-raises outputs-deed.Keep e = sym (or-false (on e outputsEvent))
+announced-raises outputs-deed.Publish e = raised-same e outputsEvent (omega arith) ∙ sym (or-true (on e outputsEvent))
+announced-raises outputs-deed.HoldBack e = sym (or-false (on e outputsEvent))
+announced-raises outputs-deed.Release e = raised-same e outputsEvent (omega arith) ∙ sym (or-true (on e outputsEvent))
+announced-raises outputs-deed.Zeros e = raised-same e outputsEvent (omega arith) ∙ sym (or-true (on e outputsEvent))
+
+-- and no other
+announced-other : (u : OutputsDeed) (e : Events) (n : ℕ) → (outputsEvent ≡ n → ⊥) → on (announced u e) n ≡ on e n
+announced-other outputs-deed.Keep e n d = refl
+announced-other outputs-deed.Publish e n d = raised-other e outputsEvent n d
+announced-other outputs-deed.HoldBack e n d = refl
+announced-other outputs-deed.Release e n d = raised-other e outputsEvent n d
+announced-other outputs-deed.Zeros e n d = raised-other e outputsEvent n d
 
 -- ---- a set shown, and DATA_EXCH left
 
@@ -78,7 +106,7 @@ module _ (c : Control) where
   unfolding waitCfg
   wait-cfg-raises = go (inExchange c)
     where
-      go : (t : Bool) → on (cond t (withEvents c (raised (leftExchange c) outputsEvent)) c .events) outputsEvent
+      go : (t : Bool) → on (cond t (left c) c .events) outputsEvent
           ≡ (on (c .events) outputsEvent || publishing (cond t outputs-deed.Zeros outputs-deed.Keep))
       go true = raised-same (leftExchange c) outputsEvent (omega arith) ∙ sym (or-true (on (c .events) outputsEvent))
       go false = sym (or-false (on (c .events) outputsEvent))
@@ -88,13 +116,13 @@ module _ (c : Control) where
   unfolding waitCfg
   wait-cfg-other n d h = go (inExchange c)
     where
-      go : (t : Bool) → on (cond t (withEvents c (raised (leftExchange c) outputsEvent)) c .events) n ≡ on (c .events) n
+      go : (t : Bool) → on (cond t (left c) c .events) n ≡ on (c .events) n
       go true = raised-other (leftExchange c) outputsEvent n h ∙ left-other n d
       go false = refl
 
 -- ---- each kind of outcome
 
-module _ (opened waiting : OpenSets) where
+module _ (opened : Occupied) (waiting : Waiting) where
   -- nothing but a reply
   replies-follow : (c k : Control) (d : Drawn) → Akin c k → (isOutputs d ≡ true → inExchange k ≡ true) → EventsAfter (c .events) opened waiting (drawing k d)
   replies-follow c k d s _ = record {
@@ -154,22 +182,13 @@ module _ (opened waiting : OpenSets) where
               ∙ ap (λ (t : Bool). cond (opened .configuration) t true) (wait-cfg-other c configurationEvent (λ q. omega arith) (λ q. omega arith));
         }
 
-    -- outputs or zeros published
-    publishing-follows : (Given : Type 0) (k : Control) (u : OutputsDeed) (d : Drawn) → Akin c k → isOutputs d ≡ false → Published Given u
-        → EventsAfter (c .events) opened waiting
-        (record { control = raise k outputsEvent; outputs = u; parameters = set-deed.Keep; configuration = set-deed.Keep; drawn = d })
-    publishing-follows Given k u d s _ h = record {
-      outputs-raise =
-          raised-same (k .events) outputsEvent (omega arith)
-          ∙ sym (ap (λ (t : Bool). on (c .events) outputsEvent || t) (all u h) ∙ or-true (on (c .events) outputsEvent));
-      parameters-show = raised-other (k .events) outputsEvent parametersEvent (λ q. omega arith) ∙ s .untouched .parameters-same;
-      configuration-show = raised-other (k .events) outputsEvent configurationEvent (λ q. omega arith) ∙ s .untouched .configuration-same;
+    -- something done to the outputs
+    moving-follows : (k : Control) (m : Modes) (u : OutputsDeed) (v : InputsDeed) (d : Drawn) → Akin c k → EventsAfter (c .events) opened waiting (moving k m u v d)
+    moving-follows k m u v d s = record {
+      outputs-raise = announced-raises u (k .events) ∙ ap (λ (t : Bool). t || publishing u) (s .untouched .outputs-same);
+      parameters-show = announced-other u (k .events) parametersEvent (λ q. omega arith) ∙ s .untouched .parameters-same;
+      configuration-show = announced-other u (k .events) configurationEvent (λ q. omega arith) ∙ s .untouched .configuration-same;
     }
-      where
-        all : (v : OutputsDeed) → Published Given v → publishing v ≡ true
-        all outputs-deed.Keep x = absurd x
-        all outputs-deed.Publish x = refl
-        all outputs-deed.Zeros x = refl
 
     -- a newer set shown instead
     moves-follow : (p q : SetDeed)
@@ -244,4 +263,4 @@ module _ (opened waiting : OpenSets) where
       let k = refilled g c r in
       subst (λ (e : Events). EventsAfter e opened waiting (outcomeBy g c opened r octets)) (refilled-same g c r .1)
       (serve-cases (λ o. EventsAfter (k .events) opened waiting o) k (replies-follow k) (λ n d _ _. resets-follow (k .events) n d) g r opened
-      (λ p _ _. prm-follows k _ p) (λ _ _. cfg-follows k) (publishing-follows k _) (serviceOf g r) octets (headed r g))
+      (λ p _ _. prm-follows k _ p) (λ _ _. cfg-follows k) (λ n m u v d s _ _ _ _. moving-follows k n m u v d s) (serviceOf g r) octets (headed r g))

@@ -4,6 +4,7 @@ pub mod ByCases
 pub mod Served
 pub mod EventsFollow
 pub mod Owner
+pub mod ModesKept
 pub mod LookedAt
 pub mod NoteStays
 pub mod GoodExchange

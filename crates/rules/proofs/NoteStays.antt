@@ -9,7 +9,7 @@ use Rattle.state.specs.Well.{within}
 use Rattle.state.proofs.Choice.{either}
 use Rattle.rules.specs.declared.request.Request.{Request}
 use Rattle.rules.specs.declared.request.Data.{Data}
-use Rattle.rules.specs.declared.request.OpenSets.{OpenSets}
+use Rattle.rules.specs.declared.request.Occupied.{Occupied}
 use Rattle.rules.specs.declared.request.Prm.{Prm}
 use Rattle.rules.specs.declared.request.Service.{Service}
 use Rattle.rules.specs.declared.request.Service.the-variants.{Nothing, Status, Reject, GlobalControl, DataExchange, SetPrm, ChkCfg, SlaveDiag, GetCfg, ReadInputs, ReadOutputs}
@@ -46,9 +46,8 @@ module _ (g : Setup) (c : Control) (r : Request) where
       (either (Leaves c) (not (within 7 (r .count) (g .«parameter_len»))) refl
       (either (Leaves c) (bit (p .status) 6) refl
       (either (Leaves c) (not (bit (p .status) 7)) refl
-      (either (Leaves c) (bit (p .status) 5 || bit (p .status) 4) refl
       (either (Leaves c) (otherIdent g p || (wantsWatchdog p && badFactors p)) refl
-      refl)))))
+      refl))))
 
   -- Chk_Cfg
   chkCfg-leaves : (opened : Bool) → Leaves c (chkCfg g c opened r)
@@ -72,25 +71,24 @@ module _ (g : Setup) (c : Control) (r : Request) where
   storing-leaves : (first : ℕ) → SameNote c (storing c first)
   storing-leaves first = either (SameNote c) (eqb first (c .stored)) refl refl
 
-  globalControl-leaves : (first second : ℕ) → Leaves c (globalControl c r first second)
+  globalControl-leaves : (withheld : Bool) (first second : ℕ) → Leaves c (globalControl c withheld r first second)
   unfolding globalControl
-  globalControl-leaves first second =
-      either (Leaves c) (controls c r second) (either (Leaves c) (bit first 1) (storing-leaves first) (storing-leaves first)) refl
+  globalControl-leaves withheld first second = either (Leaves c) (controls c r second) (storing-leaves first) refl
 
   -- each service
-  serve-leaves : (x : Service) (sets : OpenSets) (octets : Data) → Leaves c (serve x g c sets r octets)
-  serve-leaves Nothing sets octets = refl
-  serve-leaves Status sets octets = refl
-  serve-leaves Reject sets octets = refl
-  serve-leaves GlobalControl sets octets = globalControl-leaves (octets .first) (octets .second)
-  serve-leaves DataExchange sets octets = dataExchange-leaves
-  serve-leaves SetPrm sets octets = setPrm-leaves (sets .parameters) (octets .prm)
-  serve-leaves ChkCfg sets octets = chkCfg-leaves (sets .configuration)
-  serve-leaves SlaveDiag sets octets = slaveDiag-leaves
-  serve-leaves GetCfg sets octets = refl
-  serve-leaves ReadInputs sets octets = either (Leaves c) (inExchange c) refl refl
-  serve-leaves ReadOutputs sets octets = either (Leaves c) (inExchange c) refl refl
+  serve-leaves : (x : Service) (b : Occupied) (octets : Data) → Leaves c (serve x g c b r octets)
+  serve-leaves Nothing b octets = refl
+  serve-leaves Status b octets = refl
+  serve-leaves Reject b octets = refl
+  serve-leaves GlobalControl b octets = globalControl-leaves (b .outputs) (octets .first) (octets .second)
+  serve-leaves DataExchange b octets = dataExchange-leaves
+  serve-leaves SetPrm b octets = setPrm-leaves (b .parameters) (octets .prm)
+  serve-leaves ChkCfg b octets = chkCfg-leaves (b .configuration)
+  serve-leaves SlaveDiag b octets = slaveDiag-leaves
+  serve-leaves GetCfg b octets = refl
+  serve-leaves ReadInputs b octets = either (Leaves c) (inExchange c) refl refl
+  serve-leaves ReadOutputs b octets = either (Leaves c) (inExchange c) refl refl
 
 -- every telegram
-pub note-stays : (g : Setup) (c : Control) (sets : OpenSets) (r : Request) (octets : Data) → outcomeBy g c sets r octets .control .noted ≡ c .noted
-note-stays g c sets r octets = serve-leaves g (refilled g c r) r (serviceOf g r) sets octets ∙ refilled-leaves g c r
+pub note-stays : (g : Setup) (c : Control) (b : Occupied) (r : Request) (octets : Data) → outcomeBy g c b r octets .control .noted ≡ c .noted
+note-stays g c b r octets = serve-leaves g (refilled g c r) r (serviceOf g r) b octets ∙ refilled-leaves g c r

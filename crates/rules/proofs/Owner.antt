@@ -10,7 +10,7 @@ use Rattle.state.specs.declared.state.Drawn.the-variants.{Nothing}
 use Rattle.state.proofs.Choice.{either}
 use Rattle.rules.specs.declared.request.Request.{Request}
 use Rattle.rules.specs.declared.request.Data.{Data}
-use Rattle.rules.specs.declared.request.OpenSets.{OpenSets}
+use Rattle.rules.specs.declared.request.Occupied.{Occupied}
 use Rattle.rules.specs.declared.outcome.Outcome.{Outcome}
 use Rattle.rules.specs.Control.{inExchange}
 use Rattle.rules.specs.Phases.{waitPrm, enteringWaitPrm, waitCfg, dataExch}
@@ -62,13 +62,13 @@ module _ (c : Control) (h : c .owner < 256) where
   wait-cfg-owned = either (λ (k : Control). k .owner < 256) (inExchange c) h h
 
   -- each service
-  serve-owned : (g : Setup) (opened : OpenSets) (r : Request) (octets : Data) → Owned (serve (serviceOf g r) g c opened r octets)
+  serve-owned : (g : Setup) (opened : Occupied) (r : Request) (octets : Data) → Owned (serve (serviceOf g r) g c opened r octets)
   unfolding parametrized
   serve-owned g opened r octets =
       let m : masterOf r < 128 = mod-lt (r .sa) (omega arith) in
-      serve-cases Owned c (λ k d s _. stays k s) (λ k d _ _. resets k d) g r opened (λ _ _ _. omega arith) (λ _ _. wait-cfg-owned) (λ k u d s _ _. stays k s)
+      serve-cases Owned c (λ k d s _. stays k s) (λ k d _ _. resets k d) g r opened (λ _ _ _. omega arith) (λ _ _. wait-cfg-owned) (λ k m u v d s _ _ _ _. stays k s)
       (serviceOf g r) octets (headed r g)
 
 -- a telegram
-pub telegram-owned : (g : Setup) (c : Control) (opened : OpenSets) (r : Request) (octets : Data) → c .owner < 256 → Owned (outcomeBy g c opened r octets)
+pub telegram-owned : (g : Setup) (c : Control) (opened : Occupied) (r : Request) (octets : Data) → c .owner < 256 → Owned (outcomeBy g c opened r octets)
 telegram-owned g c opened r octets h = serve-owned (refilled g c r) (rw (refilled-same g c r .0) h) g opened r octets

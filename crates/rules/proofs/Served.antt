@@ -3,40 +3,41 @@
 use Prim.Native.Nat.{ℕ}
 use mathlib.Core.Path.{_≡_, refl, sym, ap, _∙_}
 use mathlib.Core.Bool.{Bool, true, false, cond}
-use Rattle.buffers.specs.Events.{raised, outputsEvent}
 use Rattle.telegram.proofs.Run.{no-true}
 use Rattle.state.specs.declared.setup.Setup.{Setup}
+use Rattle.state.specs.declared.control.Modes.{Modes}
 use Rattle.state.specs.declared.control.Control.{Control}
 use Rattle.state.specs.declared.state.Drawn.{Drawn}
 use Rattle.state.specs.Sound.{Within}
 use Rattle.state.proofs.Choice.{by-test}
 use Rattle.rules.specs.declared.request.Request.{Request}
 use Rattle.rules.specs.declared.request.Data.{Data}
-use Rattle.rules.specs.declared.request.OpenSets.{OpenSets}
+use Rattle.rules.specs.declared.request.Occupied.{Occupied}
 use Rattle.rules.specs.declared.request.Prm.{Prm}
 use Rattle.rules.specs.declared.outcome.OutputsDeed.{OutputsDeed}
 use Rattle.rules.specs.declared.outcome.OutputsDeed.the-variants as outputs-deed
+use Rattle.rules.specs.declared.outcome.InputsDeed.{InputsDeed}
+use Rattle.rules.specs.declared.outcome.InputsDeed.the-variants as inputs-deed
 use Rattle.rules.specs.declared.outcome.SetDeed.{SetDeed}
 use Rattle.rules.specs.declared.outcome.SetDeed.the-variants as set-deed
 use Rattle.rules.specs.declared.outcome.Outcome.{Outcome}
-use Rattle.rules.specs.Control.{inExchange, withEvents, raise}
-use Rattle.rules.specs.Phases.{drawing, leftExchange, waitPrm, enteringWaitPrm, waitCfg, dataExch, zerosIfLeft}
+use Rattle.rules.specs.Control.{inExchange}
+use Rattle.rules.specs.Phases.{drawing, left, waitPrm, enteringWaitPrm, waitCfg, dataExch, zerosIfLeft}
 use Rattle.rules.specs.Requests.{masterOf, refilled, serviceOf}
 use Rattle.rules.specs.Services.{parametrized, goodPrm, goodCfg, serve, outcomeBy}
 use Rattle.rules.specs.Line.{clearOn, clearNoted, ticked}
 use Rattle.rules.specs.User.{changingSets, judgedParameters, judgedConfiguration}
 use Rattle.rules.proofs.Headed.{Plain, To, headed}
-pub use Rattle.rules.proofs.ByCases.{isOutputs}
-use Rattle.rules.proofs.ByCases.{Akin, Published, clear-cases, noted-cases, ticked-cases, parameters-cases, configuration-cases, serve-cases}
+pub use Rattle.rules.proofs.ByCases.{isOutputs, Publishes}
+use Rattle.rules.proofs.ByCases.{Akin, moving, clear-cases, noted-cases, ticked-cases, parameters-cases, configuration-cases, serve-cases}
 use Rattle.rules.proofs.Alike.{Alike, exchange-same, refilled-alike}
 
 -- ---- every outcome
 
--- data or zeros are published only where that may be
-abbrev pub Publishes : Type 0 → Type 0 → OutputsDeed → Type 0
-Publishes Given Clear outputs-deed.Keep = Unit
-Publishes Given Clear outputs-deed.Publish = Given
-Publishes Given Clear outputs-deed.Zeros = Clear
+-- new inputs are brought only where that may be
+abbrev pub Brings : Type 0 → InputsDeed → Type 0
+Brings Moved inputs-deed.Keep = Unit
+Brings Moved inputs-deed.Bring = Moved
 
 -- a set is received only where that may be
 abbrev pub Receives : Type 0 → SetDeed → Type 0
@@ -45,12 +46,14 @@ Receives Given set-deed.Receive = Given
 Receives Given set-deed.Advance = Unit
 Receives Given set-deed.Drop = Unit
 
--- what every outcome keeps. There are n data octets; Given: they may be published, Clear: zeros may be, At: they came to that service point.
-pub record Lawful (g : Setup) (c : Control) (n : ℕ) (Given Clear : Type 0) (At : ℕ → Type 0) (o : Outcome) : Type 0 where
+-- what every outcome keeps. There are n data octets; Given: they may be published or held back, Held: what is held back may be published,
+-- Moved: new inputs may be brought, Clear: zeros may be published, At: the data octets came to that service point.
+pub record Lawful (g : Setup) (c : Control) (n : ℕ) (Given Held Moved Clear : Type 0) (At : ℕ → Type 0) (o : Outcome) : Type 0 where
   -- the diagnosis counts stay
   pub counts-stay : o .control .diagnosis ≡ c .diagnosis
   -- what is published or received fits
-  pub outputs-come : Publishes (Given × (n ≡ g .«output_len»)) Clear (o .outputs)
+  pub outputs-come : Publishes (Given × (n ≡ g .«output_len»)) Held Clear (o .outputs)
+  pub inputs-come : Brings Moved (o .inputs)
   pub parameters-come : Receives (At 61 × Within 7 n (g .«parameter_len»)) (o .parameters)
   pub configuration-come : Receives (At 62 × Within 1 n (g .«configuration_len»)) (o .configuration)
   -- DATA_EXCH is left only with zeros
@@ -58,12 +61,13 @@ pub record Lawful (g : Setup) (c : Control) (n : ℕ) (Given Clear : Type 0) (At
   -- the held outputs are drawn only in DATA_EXCH
   pub draws-within : isOutputs (o .drawn) ≡ true → inExchange (o .control) ≡ true
 
-module _ {g : Setup} {c : Control} {n : ℕ} {Given Clear : Type 0} {At : ℕ → Type 0} where
+module _ {g : Setup} {c : Control} {n : ℕ} {Given Held Moved Clear : Type 0} {At : ℕ → Type 0} where
   -- nothing but a reply
-  draws : {k : Control} {d : Drawn} → Alike c k → (isOutputs d ≡ true → inExchange k ≡ true) → Lawful g c n Given Clear At (drawing k d)
+  draws : {k : Control} {d : Drawn} → Alike c k → (isOutputs d ≡ true → inExchange k ≡ true) → Lawful g c n Given Held Moved Clear At (drawing k d)
   draws s f = record {
     counts-stay = s .diagnosis-same;
     outputs-come = tt;
+    inputs-come = tt;
     parameters-come = tt;
     configuration-come = tt;
     leaves = λ e h. no-true (sym h ∙ exchange-same s ∙ e);
@@ -71,11 +75,12 @@ module _ {g : Setup} {c : Control} {n : ℕ} {Given Clear : Type 0} {At : ℕ �
   }
 
   -- WAIT_PRM, which clears
-  enters : (k : Control) {d : Drawn} → k .diagnosis ≡ c .diagnosis → isOutputs d ≡ false → Clear → Lawful g c n Given Clear At (enteringWaitPrm k d)
+  enters : (k : Control) {d : Drawn} → k .diagnosis ≡ c .diagnosis → isOutputs d ≡ false → Clear → Lawful g c n Given Held Moved Clear At (enteringWaitPrm k d)
   unfolding waitPrm
   enters k e f z = record {
     counts-stay = e;
     outputs-come = z;
+    inputs-come = tt;
     parameters-come = tt;
     configuration-come = tt;
     leaves = λ _ _. refl;
@@ -84,9 +89,9 @@ module _ {g : Setup} {c : Control} {n : ℕ} {Given Clear : Type 0} {At : ℕ �
 
 -- ---- the outcomes without data
 
--- nothing is published or received, and zeros are published only if Clear
+-- nothing is published, received or brought, and zeros are published only if Clear
 abbrev pub Quiet : Setup → Control → Type 0 → Outcome → Type 0
-Quiet g c Clear o = Lawful g c 0 ⊥ Clear (λ _. ⊥) o
+Quiet g c Clear o = Lawful g c 0 ⊥ ⊥ ⊥ Clear (λ _. ⊥) o
 
 module _ (g : Setup) (c : Control) {Clear : Type 0} where
   -- nothing but a reply
@@ -111,6 +116,7 @@ module _ (g : Setup) (c : Control) {Clear : Type 0} where
   moves k p q e f x y = record {
     counts-stay = e;
     outputs-come = tt;
+    inputs-come = tt;
     parameters-come = x;
     configuration-come = y;
     leaves = λ i h. no-true (sym h ∙ f i);
@@ -139,19 +145,20 @@ Judges set-deed.Receive before after = after ≡ false
 Judges set-deed.Advance before after = ⊥
 Judges set-deed.Drop before after = Unit
 
--- what comes of a telegram
-pub record Served (g : Setup) (c : Control) (r : Request) (o : Outcome) : Type 0 where
-  pub lawful : Lawful g c (r .count) (Plain r) Unit (To r) o
+-- what comes of a telegram; withheld: something is held back
+pub record Served (g : Setup) (c : Control) (withheld : Bool) (r : Request) (o : Outcome) : Type 0 where
+  pub lawful : Lawful g c (r .count) (Plain r) (withheld ≡ true) Unit Unit (To r) o
   -- it enters no DATA_EXCH, and in it changes no set
   pub in-exchange : inExchange (o .control) ≡ true → (inExchange c ≡ true) × (o .parameters ≡ set-deed.Keep) × (o .configuration ≡ set-deed.Keep)
   pub judges : Judges (o .parameters) (c .flags .«parameters_good») (o .control .flags .«parameters_good»)
 
 -- the control part before may be one that is alike
-served-from : {g : Setup} {c d : Control} {r : Request} {o : Outcome} → Alike c d → Served g d r o → Served g c r o
+served-from : {g : Setup} {c d : Control} {withheld : Bool} {r : Request} {o : Outcome} → Alike c d → Served g d withheld r o → Served g c withheld r o
 served-from s v = record {
   lawful = record {
     counts-stay = v .lawful .counts-stay ∙ s .diagnosis-same;
     outputs-come = v .lawful .outputs-come;
+    inputs-come = v .lawful .inputs-come;
     parameters-come = v .lawful .parameters-come;
     configuration-come = v .lawful .configuration-come;
     leaves = λ e. v .lawful .leaves (exchange-same s ∙ e);
@@ -161,33 +168,34 @@ served-from s v = record {
   judges = rw (sym (s .good-same)) (v .judges);
 }
 
-module _ (g : Setup) (c : Control) (r : Request) where
+module _ (g : Setup) (c : Control) (withheld : Bool) (r : Request) where
   -- nothing but a reply
-  replies : (k : Control) (d : Drawn) → Akin c k → (isOutputs d ≡ true → inExchange k ≡ true) → Served g c r (drawing k d)
+  replies : (k : Control) (d : Drawn) → Akin c k → (isOutputs d ≡ true → inExchange k ≡ true) → Served g c withheld r (drawing k d)
   replies k d s f =
       let a = s .alike-is in
       record { lawful = draws a f; in-exchange = λ e. (sym (exchange-same a) ∙ e, refl, refl); judges = a .good-same }
 
   -- WAIT_PRM
-  resets : (k : Control) (d : Drawn) → k .diagnosis ≡ c .diagnosis → isOutputs d ≡ false → Served g c r (enteringWaitPrm k d)
+  resets : (k : Control) (d : Drawn) → k .diagnosis ≡ c .diagnosis → isOutputs d ≡ false → Served g c withheld r (enteringWaitPrm k d)
   unfolding waitPrm
   resets k d e f = record { lawful = enters k e f tt; in-exchange = λ h. no-true h; judges = tt }
 
   -- zeros are published if DATA_EXCH is left
-  zeros-come : (Given : Type 0) (t : Bool) → Publishes Given Unit (cond t outputs-deed.Zeros outputs-deed.Keep)
-  zeros-come Given true = tt
-  zeros-come Given false = tt
+  zeros-come : (Given Held : Type 0) (t : Bool) → Publishes Given Held Unit (cond t outputs-deed.Zeros outputs-deed.Keep)
+  zeros-come Given Held true = tt
+  zeros-come Given Held false = tt
 
   zeros-leave : inExchange c ≡ true → zerosIfLeft c ≡ outputs-deed.Zeros
   zeros-leave e = ap (λ (t : Bool). cond t outputs-deed.Zeros outputs-deed.Keep) e
 
   -- a good Set_Prm
-  prm-served : (opened : Bool) (p : Prm) → To r 61 → Within 7 (r .count) (g .«parameter_len») → Served g c r (goodPrm c opened (masterOf r) p)
+  prm-served : (opened : Bool) (p : Prm) → To r 61 → Within 7 (r .count) (g .«parameter_len») → Served g c withheld r (goodPrm c opened (masterOf r) p)
   unfolding parametrized waitCfg
   prm-served opened p h w = record {
     lawful = record {
       counts-stay = refl;
-      outputs-come = zeros-come _ (inExchange c);
+      outputs-come = zeros-come _ _ (inExchange c);
+      inputs-come = tt;
       parameters-come = (h, w);
       configuration-come = tt;
       leaves = λ e _. zeros-leave e;
@@ -202,15 +210,16 @@ module _ (g : Setup) (c : Control) (r : Request) where
   unfolding waitCfg
   waitCfg-same =
       by-test (λ (d : Control). (d .flags .«parameters_good» ≡ c .flags .«parameters_good») × (d .diagnosis ≡ c .diagnosis))
-      (inExchange c) (withEvents c (raised (leftExchange c) outputsEvent)) c (λ _. (refl, refl)) (λ _. (refl, refl))
+      (inExchange c) (left c) c (λ _. (refl, refl)) (λ _. (refl, refl))
 
   -- a good Chk_Cfg
-  cfg-served : (opened : Bool) → To r 62 → Within 1 (r .count) (g .«configuration_len») → Served g c r (goodCfg c opened)
+  cfg-served : (opened : Bool) → To r 62 → Within 1 (r .count) (g .«configuration_len») → Served g c withheld r (goodCfg c opened)
   unfolding waitCfg
   cfg-served opened h w = record {
     lawful = record {
       counts-stay = waitCfg-same .1;
-      outputs-come = zeros-come _ (inExchange c);
+      outputs-come = zeros-come _ _ (inExchange c);
+      inputs-come = tt;
       parameters-come = tt;
       configuration-come = (h, w);
       leaves = λ e _. zeros-leave e;
@@ -220,15 +229,16 @@ module _ (g : Setup) (c : Control) (r : Request) where
     judges = waitCfg-same .0;
   }
 
-  -- published, or zeros by Global_Control: the phase and the sets stay
-  publishes : (k : Control) (d : OutputsDeed) (x : Drawn) → Akin c k → isOutputs x ≡ false → Published (Plain r × (r .count ≡ g .«output_len»)) d
-      → Served g c r (record { control = raise k outputsEvent; outputs = d; parameters = set-deed.Keep; configuration = set-deed.Keep; drawn = x })
-  publishes k d x s f p =
+  -- something done to the outputs and the inputs: the phase and the sets stay
+  moves-served : (k : Control) (m : Modes) (u : OutputsDeed) (v : InputsDeed) (x : Drawn) → Akin c k → isOutputs x ≡ false
+      → Publishes (Plain r × (r .count ≡ g .«output_len»)) (withheld ≡ true) Unit u → Served g c withheld r (moving k m u v x)
+  moves-served k m u v x s f p =
       let a = s .alike-is in
       record {
         lawful = record {
           counts-stay = a .diagnosis-same;
-          outputs-come = comes d p;
+          outputs-come = p;
+          inputs-come = brought v;
           parameters-come = tt;
           configuration-come = tt;
           leaves = λ e h. no-true (sym h ∙ exchange-same a ∙ e);
@@ -238,17 +248,17 @@ module _ (g : Setup) (c : Control) (r : Request) where
         judges = a .good-same;
       }
     where
-      comes : (u : OutputsDeed) → Published (Plain r × (r .count ≡ g .«output_len»)) u → Publishes (Plain r × (r .count ≡ g .«output_len»)) Unit u
-      comes outputs-deed.Keep q = tt
-      comes outputs-deed.Publish q = q
-      comes outputs-deed.Zeros q = tt
+      brought : (x : InputsDeed) → Brings Unit x
+      brought inputs-deed.Keep = tt
+      brought inputs-deed.Bring = tt
 
-  -- each service
-  serve-served : (sets : OpenSets) (octets : Data) → Served g c r (serve (serviceOf g r) g c sets r octets)
-  serve-served sets octets =
-      serve-cases (Served g c r) c replies resets g r sets (prm-served (sets .parameters)) (cfg-served (sets .configuration)) publishes
-      (serviceOf g r) octets (headed r g)
+-- each service
+serve-served : (g : Setup) (c : Control) (b : Occupied) (r : Request) (octets : Data) → Served g c (b .outputs) r (serve (serviceOf g r) g c b r octets)
+serve-served g c b r octets =
+    let w = b .outputs in
+    serve-cases (Served g c w r) c (replies g c w r) (resets g c w r) g r b (prm-served g c w r (b .parameters)) (cfg-served g c w r (b .configuration))
+    (λ k m u v x s f p _ _. moves-served g c w r k m u v x s f p) (serviceOf g r) octets (headed r g)
 
 -- every telegram
-pub served : (g : Setup) (c : Control) (sets : OpenSets) (r : Request) (octets : Data) → Served g c r (outcomeBy g c sets r octets)
-served g c sets r octets = served-from (refilled-alike g c r) (serve-served g (refilled g c r) r sets octets)
+pub served : (g : Setup) (c : Control) (b : Occupied) (r : Request) (octets : Data) → Served g c (b .outputs) r (outcomeBy g c b r octets)
+served g c b r octets = served-from (refilled-alike g c r) (serve-served g (refilled g c r) b r octets)

@@ -9,7 +9,9 @@ use Rattle.state.specs.declared.control.Phase.the-variants.{WaitPrm, WaitCfg, D
 use Rattle.state.specs.declared.control.Watchdog.{Watchdog}
 use Rattle.state.specs.declared.control.Flags.{Flags}
 use Rattle.state.specs.declared.control.Diagnosis.{Diagnosis}
+use Rattle.state.specs.declared.control.Modes.{Modes}
 use Rattle.state.specs.declared.control.Control.{Control}
+use Rattle.state.specs.With.{controlOf}
 
 -- bit n of an octet
 abbrev pub bit : ℕ → ℕ → Bool
@@ -35,104 +37,30 @@ inExchange c = exchanging (c .phase)
 abbrev pub owns : Control → ℕ → Bool
 owns c master = eqb (c .owner) master
 
--- the control part with one field changed
+-- the control part with one part changed
 abbrev pub withPhase : Control → Phase → Control
-withPhase c x =
-    record {
-      phase = x;
-      owner = c .owner;
-      group = c .group;
-      stored = c .stored;
-      watchdog = c .watchdog;
-      flags = c .flags;
-      events = c .events;
-      noted = c .noted;
-      diagnosis = c .diagnosis;
-    }
+withPhase c x = controlOf x (c .owner) (c .group) (c .stored) (c .watchdog) (c .flags) (c .events) (c .noted) (c .diagnosis) (c .modes)
 
 abbrev pub withStored : Control → ℕ → Control
-withStored c x =
-    record {
-      phase = c .phase;
-      owner = c .owner;
-      group = c .group;
-      stored = x;
-      watchdog = c .watchdog;
-      flags = c .flags;
-      events = c .events;
-      noted = c .noted;
-      diagnosis = c .diagnosis;
-    }
+withStored c x = controlOf (c .phase) (c .owner) (c .group) x (c .watchdog) (c .flags) (c .events) (c .noted) (c .diagnosis) (c .modes)
 
 abbrev pub withWatchdog : Control → Watchdog → Control
-withWatchdog c x =
-    record {
-      phase = c .phase;
-      owner = c .owner;
-      group = c .group;
-      stored = c .stored;
-      watchdog = x;
-      flags = c .flags;
-      events = c .events;
-      noted = c .noted;
-      diagnosis = c .diagnosis;
-    }
+withWatchdog c x = controlOf (c .phase) (c .owner) (c .group) (c .stored) x (c .flags) (c .events) (c .noted) (c .diagnosis) (c .modes)
 
 abbrev pub withFlags : Control → Flags → Control
-withFlags c x =
-    record {
-      phase = c .phase;
-      owner = c .owner;
-      group = c .group;
-      stored = c .stored;
-      watchdog = c .watchdog;
-      flags = x;
-      events = c .events;
-      noted = c .noted;
-      diagnosis = c .diagnosis;
-    }
+withFlags c x = controlOf (c .phase) (c .owner) (c .group) (c .stored) (c .watchdog) x (c .events) (c .noted) (c .diagnosis) (c .modes)
 
 abbrev pub withEvents : Control → Events → Control
-withEvents c x =
-    record {
-      phase = c .phase;
-      owner = c .owner;
-      group = c .group;
-      stored = c .stored;
-      watchdog = c .watchdog;
-      flags = c .flags;
-      events = x;
-      noted = c .noted;
-      diagnosis = c .diagnosis;
-    }
+withEvents c x = controlOf (c .phase) (c .owner) (c .group) (c .stored) (c .watchdog) (c .flags) x (c .noted) (c .diagnosis) (c .modes)
 
 abbrev pub withNoted : Control → Bool → Control
-withNoted c x =
-    record {
-      phase = c .phase;
-      owner = c .owner;
-      group = c .group;
-      stored = c .stored;
-      watchdog = c .watchdog;
-      flags = c .flags;
-      events = c .events;
-      noted = x;
-      diagnosis = c .diagnosis;
-    }
+withNoted c x = controlOf (c .phase) (c .owner) (c .group) (c .stored) (c .watchdog) (c .flags) (c .events) x (c .diagnosis) (c .modes)
 
 abbrev pub withDiagnosis : Control → Diagnosis → Control
-withDiagnosis c x =
-    record {
-      phase = c .phase;
-      owner = c .owner;
-      group = c .group;
-      stored = c .stored;
-      watchdog = c .watchdog;
-      flags = c .flags;
-      events = c .events;
-      noted = c .noted;
-      diagnosis = x;
-    }
+withDiagnosis c x = controlOf (c .phase) (c .owner) (c .group) (c .stored) (c .watchdog) (c .flags) (c .events) (c .noted) x (c .modes)
+
+abbrev pub withModes : Control → Modes → Control
+withModes c x = controlOf (c .phase) (c .owner) (c .group) (c .stored) (c .watchdog) (c .flags) (c .events) (c .noted) (c .diagnosis) x
 
 -- event n is set
 abbrev pub raise : Control → ℕ → Control
@@ -142,96 +70,36 @@ raise c n = withEvents c (raised (c .events) n)
 abbrev pub clear : Control → ℕ → Control
 clear c n = withEvents c (cleared (c .events) n)
 
--- the flags with one of them changed
-abbrev pub withPrmFault : Flags → Flags
-withPrmFault f =
+-- flags of their values, in the order of the struct
+abbrev flagsWith : Bool → Bool → Bool → Bool → Bool → Bool → Bool → Flags
+flagsWith prm cfg ext stat overflow diag good =
     record {
-      «prm_fault» = true;
-      «cfg_fault» = f .«cfg_fault»;
-      «not_supported» = f .«not_supported»;
-      «ext_diag» = f .«ext_diag»;
-      «stat_diag» = f .«stat_diag»;
-      overflow = f .overflow;
-      «diag_flag» = f .«diag_flag»;
-      «parameters_good» = f .«parameters_good»;
+      «prm_fault» = prm;
+      «cfg_fault» = cfg;
+      «ext_diag» = ext;
+      «stat_diag» = stat;
+      overflow = overflow;
+      «diag_flag» = diag;
+      «parameters_good» = good;
     }
+
+-- with one of them changed
+abbrev pub withPrmFault : Flags → Flags
+withPrmFault f = flagsWith true (f .«cfg_fault») (f .«ext_diag») (f .«stat_diag») (f .overflow) (f .«diag_flag») (f .«parameters_good»)
 
 abbrev pub withCfgFault : Flags → Flags
-withCfgFault f =
-    record {
-      «prm_fault» = f .«prm_fault»;
-      «cfg_fault» = true;
-      «not_supported» = f .«not_supported»;
-      «ext_diag» = f .«ext_diag»;
-      «stat_diag» = f .«stat_diag»;
-      overflow = f .overflow;
-      «diag_flag» = f .«diag_flag»;
-      «parameters_good» = f .«parameters_good»;
-    }
-
-abbrev pub withNotSupported : Flags → Flags
-withNotSupported f =
-    record {
-      «prm_fault» = f .«prm_fault»;
-      «cfg_fault» = f .«cfg_fault»;
-      «not_supported» = true;
-      «ext_diag» = f .«ext_diag»;
-      «stat_diag» = f .«stat_diag»;
-      overflow = f .overflow;
-      «diag_flag» = f .«diag_flag»;
-      «parameters_good» = f .«parameters_good»;
-    }
+withCfgFault f = flagsWith (f .«prm_fault») true (f .«ext_diag») (f .«stat_diag») (f .overflow) (f .«diag_flag») (f .«parameters_good»)
 
 abbrev pub withParametersGood : Flags → Flags
-withParametersGood f =
-    record {
-      «prm_fault» = f .«prm_fault»;
-      «cfg_fault» = f .«cfg_fault»;
-      «not_supported» = f .«not_supported»;
-      «ext_diag» = f .«ext_diag»;
-      «stat_diag» = f .«stat_diag»;
-      overflow = f .overflow;
-      «diag_flag» = f .«diag_flag»;
-      «parameters_good» = true;
-    }
+withParametersGood f = flagsWith (f .«prm_fault») (f .«cfg_fault») (f .«ext_diag») (f .«stat_diag») (f .overflow) (f .«diag_flag») true
 
 abbrev pub withoutDiagFlag : Flags → Flags
-withoutDiagFlag f =
-    record {
-      «prm_fault» = f .«prm_fault»;
-      «cfg_fault» = f .«cfg_fault»;
-      «not_supported» = f .«not_supported»;
-      «ext_diag» = f .«ext_diag»;
-      «stat_diag» = f .«stat_diag»;
-      overflow = f .overflow;
-      «diag_flag» = false;
-      «parameters_good» = f .«parameters_good»;
-    }
+withoutDiagFlag f = flagsWith (f .«prm_fault») (f .«cfg_fault») (f .«ext_diag») (f .«stat_diag») (f .overflow) false (f .«parameters_good»)
 
--- a good Set_Prm clears the three fault bits and parameter OK
+-- a good Set_Prm clears the fault bits and parameter OK
 abbrev pub withoutFaults : Flags → Flags
-withoutFaults f =
-    record {
-      «prm_fault» = false;
-      «cfg_fault» = false;
-      «not_supported» = false;
-      «ext_diag» = f .«ext_diag»;
-      «stat_diag» = f .«stat_diag»;
-      overflow = f .overflow;
-      «diag_flag» = f .«diag_flag»;
-      «parameters_good» = false;
-    }
+withoutFaults f = flagsWith false false (f .«ext_diag») (f .«stat_diag») (f .overflow) (f .«diag_flag») false
 
 -- a new diagnosis brings its own three flags and sets Diag_Flag
 abbrev pub withDiagnosisFlags : Flags → ℕ → Flags
-withDiagnosisFlags f x =
-    record {
-      «prm_fault» = f .«prm_fault»;
-      «cfg_fault» = f .«cfg_fault»;
-      «not_supported» = f .«not_supported»;
-      «ext_diag» = bit x 0;
-      «stat_diag» = bit x 1;
-      overflow = bit x 2;
-      «diag_flag» = true;
-      «parameters_good» = f .«parameters_good»;
-    }
+withDiagnosisFlags f x = flagsWith (f .«prm_fault») (f .«cfg_fault») (bit x 0) (bit x 1) (bit x 2) true (f .«parameters_good»)

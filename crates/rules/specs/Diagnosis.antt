@@ -1,4 +1,4 @@
--- The diagnosis octets that the station makes, and a new diagnosis of the user's (document 01, Services and User calls).
+-- The diagnosis octets that the station makes, and a new diagnosis of the user's (document 01, Services and User calls; document 02, Req 01).
 use Prim.Native.Nat.{ℕ, _+_, _*_}
 use mathlib.Core.Bool.{Bool, true, false, not}
 use lib.Dec.{eqb}
@@ -13,16 +13,16 @@ abbrev pub one : Bool → ℕ
 one true = 1
 one false = 0
 
--- octet 0: bit 1 not DATA_EXCH, 2 Cfg_Fault, 3 Ext_Diag, 4 Not_Supported, 6 Prm_Fault
+-- octet 0: bit 1 not DATA_EXCH, 2 Cfg_Fault, 3 Ext_Diag, 6 Prm_Fault; bit 4, Not_Supported, is never set
 abbrev pub status1 : Control → ℕ
 status1 c =
-    2 * one (not (inExchange c)) + 4 * one (c .flags .«cfg_fault») + 8 * one (c .flags .«ext_diag»)
-    + 16 * one (c .flags .«not_supported») + 64 * one (c .flags .«prm_fault»)
+    2 * one (not (inExchange c)) + 4 * one (c .flags .«cfg_fault») + 8 * one (c .flags .«ext_diag») + 64 * one (c .flags .«prm_fault»)
 
--- octet 1: bit 0 WAIT_PRM, 1 Stat_Diag, 2 always set, 3 watchdog on
+-- octet 1: bit 0 WAIT_PRM, 1 Stat_Diag, 2 always set, 3 watchdog on, 4 freeze, 5 sync
 abbrev pub status2 : Control → ℕ
 status2 c =
     one (inWaitPrm (c .phase)) + 2 * one (c .flags .«stat_diag») + 4 + 8 * one (not (eqb (c .watchdog .reload) 0))
+    + 16 * one (c .modes .freeze) + 32 * one (c .modes .sync)
 
 -- octet 2: bit 7 overflow
 abbrev pub status3 : Control → ℕ

@@ -1,4 +1,5 @@
 pub mod Control
+pub mod Modes
 pub mod Phases
 pub mod Requests
 pub mod Services

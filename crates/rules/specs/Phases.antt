@@ -1,4 +1,4 @@
--- Entering and leaving the phases (document 01, Services, last paragraph).
+-- Entering and leaving the phases (document 01, Services, last paragraph; document 02, Req 01).
 use mathlib.Core.Bool.{cond}
 use Rattle.buffers.specs.declared.events.Events.{Events}
 use Rattle.buffers.specs.Events.{raised, cleared, dataExchangeEvent, configurationEvent, parametersEvent, outputsEvent}
@@ -7,20 +7,30 @@ use Rattle.state.specs.declared.control.Control.{Control}
 use Rattle.state.specs.declared.state.Drawn.{Drawn}
 use Rattle.rules.specs.declared.outcome.OutputsDeed.{OutputsDeed}
 use Rattle.rules.specs.declared.outcome.OutputsDeed.the-variants as outputs-deed
+use Rattle.rules.specs.declared.outcome.InputsDeed.the-variants as inputs-deed
 use Rattle.rules.specs.declared.outcome.SetDeed.the-variants as set-deed
 use Rattle.rules.specs.declared.outcome.Outcome.{Outcome}
 use Rattle.state.specs.Start.{noOwner}
-use Rattle.rules.specs.Control.{inExchange, withPhase, withEvents, raise}
+use Rattle.rules.specs.Control.{inExchange, withPhase, withEvents, withModes, raise}
+use Rattle.rules.specs.Modes.{endedModes}
 
 -- nothing but a reply comes of it
 abbrev pub drawing : Control → Drawn → Outcome
-drawing c d = record { control = c; outputs = outputs-deed.Keep; parameters = set-deed.Keep; configuration = set-deed.Keep; drawn = d }
+drawing c d =
+    record {
+      control = c;
+      outputs = outputs-deed.Keep;
+      inputs = inputs-deed.Keep;
+      parameters = set-deed.Keep;
+      configuration = set-deed.Keep;
+      drawn = d;
+    }
 
 -- event 1: DATA_EXCH is left
 abbrev pub leftExchange : Control → Events
 leftExchange c = cond (inExchange c) (raised (c .events) dataExchangeEvent) (c .events)
 
--- WAIT_PRM entered, even from itself: no owner, watchdog off, group and stored control 0, no set open, zeros published
+-- WAIT_PRM entered, even from itself: no owner, watchdog off, group and stored control 0, no set open, zeros published, both modes ended
 unfoldable pub waitPrm : Control → Control
 waitPrm c =
     record {
@@ -33,16 +43,28 @@ waitPrm c =
       events = raised (cleared (cleared (leftExchange c) configurationEvent) parametersEvent) outputsEvent;
       noted = c .noted;
       diagnosis = c .diagnosis;
+      modes = endedModes (c .modes);
     }
 
--- with what becomes of the buffers: zeros published, parameter and configuration sets dropped
+-- with what becomes of the buffers: zeros published, which empties what is held back, parameter and configuration sets dropped
 abbrev pub enteringWaitPrm : Control → Drawn → Outcome
 enteringWaitPrm c d =
-    record { control = waitPrm c; outputs = outputs-deed.Zeros; parameters = set-deed.Drop; configuration = set-deed.Drop; drawn = d }
+    record {
+      control = waitPrm c;
+      outputs = outputs-deed.Zeros;
+      inputs = inputs-deed.Keep;
+      parameters = set-deed.Drop;
+      configuration = set-deed.Drop;
+      drawn = d;
+    }
 
--- WAIT_CFG entered; leaving DATA_EXCH publishes zeros
+-- DATA_EXCH left: event 1, zeros published, both modes ended
+abbrev pub left : Control → Control
+left c = withModes (withEvents c (raised (leftExchange c) outputsEvent)) (endedModes (c .modes))
+
+-- WAIT_CFG entered
 unfoldable pub waitCfg : Control → Control
-waitCfg c = withPhase (cond (inExchange c) (withEvents c (raised (leftExchange c) outputsEvent)) c) WaitCfg
+waitCfg c = withPhase (cond (inExchange c) (left c) c) WaitCfg
 
 -- what becomes of the outputs then
 abbrev pub zerosIfLeft : Control → OutputsDeed

@@ -1,10 +1,10 @@
--- The services (document 01, Services): what comes of each, on the control part. opened: a set of that kind is open.
+-- The services (document 01, Services; document 02, Req 01): what comes of each, on the control part. opened: a set of that kind is open.
 use Prim.Native.Nat.{ℕ, _+_, _*_}
 use mathlib.Core.Bool.{Bool, cond, not, _&&_, _||_}
 use lib.Bits.{bitAnd}
 use lib.Dec.{eqb}
 use Rattle.buffers.specs.declared.events.Events.{Events}
-use Rattle.buffers.specs.Events.{raised, cleared, controlEvent, configurationEvent, parametersEvent, outputsEvent}
+use Rattle.buffers.specs.Events.{raised, cleared, controlEvent, configurationEvent, parametersEvent}
 use Rattle.state.specs.declared.setup.Setup.{Setup}
 use Rattle.state.specs.declared.control.Control.{Control}
 use Rattle.state.specs.declared.state.Drawn.the-variants as drawn
@@ -12,14 +12,16 @@ use Rattle.state.specs.Start.{noOwner}
 use Rattle.state.specs.Well.{within}
 use Rattle.rules.specs.declared.request.Request.{Request}
 use Rattle.rules.specs.declared.request.Data.{Data}
-use Rattle.rules.specs.declared.request.OpenSets.{OpenSets}
+use Rattle.rules.specs.declared.request.Occupied.{Occupied}
 use Rattle.rules.specs.declared.request.Prm.{Prm}
 use Rattle.rules.specs.declared.request.Service.{Service}
 use Rattle.rules.specs.declared.request.Service.the-variants.{Nothing, Status, Reject, GlobalControl, DataExchange, SetPrm, ChkCfg, SlaveDiag, GetCfg, ReadInputs, ReadOutputs}
 use Rattle.rules.specs.declared.outcome.OutputsDeed.the-variants as outputs-deed
+use Rattle.rules.specs.declared.outcome.InputsDeed.the-variants as inputs-deed
 use Rattle.rules.specs.declared.outcome.SetDeed.the-variants as set-deed
 use Rattle.rules.specs.declared.outcome.Outcome.{Outcome}
-use Rattle.rules.specs.Control.{bit, inExchange, owns, withFlags, withEvents, withStored, raise, withPrmFault, withCfgFault, withNotSupported, withoutFaults, withoutDiagFlag}
+use Rattle.rules.specs.Control.{bit, inExchange, owns, withFlags, withEvents, withStored, withModes, raise, withPrmFault, withCfgFault, withoutFaults, withoutDiagFlag}
+use Rattle.rules.specs.Modes.{allowedModes, exchangeOutputs, exchangeInputs, commandedModes, commandedOutputs, commandedInputs, announced}
 use Rattle.rules.specs.Phases.{drawing, enteringWaitPrm, waitCfg, zerosIfLeft}
 use Rattle.rules.specs.Requests.{masterOf, refilled, serviceOf}
 
@@ -66,14 +68,16 @@ parametrized c opened master p =
       events = showing (cleared (waitCfg c .events) configurationEvent) opened parametersEvent;
       noted = c .noted;
       diagnosis = c .diagnosis;
+      modes = allowedModes (waitCfg c .modes) (p .status);
     }
 
--- E5, owner, WAIT_CFG, flags cleared, configuration sets dropped, group, data shown, watchdog
+-- E5, owner, WAIT_CFG, flags cleared, configuration sets dropped, group, data shown, watchdog, sync and freeze allowed or not
 abbrev pub goodPrm : Control → Bool → ℕ → Prm → Outcome
 goodPrm c opened master p =
     record {
       control = parametrized c opened master p;
       outputs = zerosIfLeft c;
+      inputs = inputs-deed.Keep;
       parameters = set-deed.Receive;
       configuration = set-deed.Drop;
       drawn = drawn.Acknowledge;
@@ -86,9 +90,8 @@ setPrm s c opened r p =
     (cond (not (within 7 (r .count) (s .«parameter_len»))) (prmFault c)
     (cond (bit (p .status) 6) (enteringWaitPrm c drawn.Acknowledge)
     (cond (not (bit (p .status) 7)) (drawing c drawn.Acknowledge)
-    (cond (bit (p .status) 5 || bit (p .status) 4) (enteringWaitPrm (withFlags c (withNotSupported (c .flags))) drawn.Acknowledge)
     (cond (otherIdent s p || (wantsWatchdog p && badFactors p)) (prmFault c)
-    (goodPrm c opened (masterOf r) p))))))
+    (goodPrm c opened (masterOf r) p)))))
 
 -- Chk_Cfg ---------------------------------------------------------------------------------------
 
@@ -102,6 +105,7 @@ goodCfg c opened =
     record {
       control = withEvents (waitCfg c) (showing (waitCfg c .events) opened configurationEvent);
       outputs = zerosIfLeft c;
+      inputs = inputs-deed.Keep;
       parameters = set-deed.Keep;
       configuration = set-deed.Receive;
       drawn = drawn.Acknowledge;
@@ -120,10 +124,17 @@ chkCfg s c opened r =
 abbrev pub exchanges : Control → Request → Bool
 exchanges c r = owns c (masterOf r) && inExchange c
 
--- the data is published, event 13; the inputs are drawn
+-- the data is published, event 13, or held back in sync; new inputs come unless frozen; the inputs are drawn
 abbrev pub goodExchange : Control → Outcome
 goodExchange c =
-    record { control = raise c outputsEvent; outputs = outputs-deed.Publish; parameters = set-deed.Keep; configuration = set-deed.Keep; drawn = drawn.Exchange }
+    record {
+      control = withEvents c (announced (exchangeOutputs (c .modes)) (c .events));
+      outputs = exchangeOutputs (c .modes);
+      inputs = exchangeInputs (c .modes);
+      parameters = set-deed.Keep;
+      configuration = set-deed.Keep;
+      drawn = drawn.Exchange;
+    }
 
 -- in this order
 unfoldable pub dataExchange : Setup → Control → Request → Outcome
@@ -158,33 +169,40 @@ controls c r second = exchanges c r && eqb (r .count) 2 && (eqb second 0 || not 
 abbrev pub storing : Control → ℕ → Control
 storing c first = cond (eqb first (c .stored)) c (raise (withStored c first) controlEvent)
 
--- bit 1 publishes zeros
-abbrev pub obeyed : Control → ℕ → Outcome
-obeyed c first =
-    cond (bit first 1)
-    (record { control = raise (storing c first) outputsEvent; outputs = outputs-deed.Zeros; parameters = set-deed.Keep; configuration = set-deed.Keep; drawn = drawn.Nothing })
-    (drawing (storing c first) drawn.Nothing)
+-- octet 0 is carried out each time: sync and unsync, freeze and unfreeze, clear. withheld: something is held back
+abbrev pub obeyed : Control → Bool → ℕ → Outcome
+obeyed c withheld first =
+    record {
+      control =
+          withModes (withEvents (storing c first) (announced (commandedOutputs (c .modes) withheld first) (storing c first .events)))
+          (commandedModes (c .modes) first);
+      outputs = commandedOutputs (c .modes) withheld first;
+      inputs = commandedInputs (c .modes) first;
+      parameters = set-deed.Keep;
+      configuration = set-deed.Keep;
+      drawn = drawn.Nothing;
+    }
 
 -- obeyed where it controls, else without effect
-unfoldable pub globalControl : Control → Request → ℕ → ℕ → Outcome
-globalControl c r first second = cond (controls c r second) (obeyed c first) (drawing c drawn.Nothing)
+unfoldable pub globalControl : Control → Bool → Request → ℕ → ℕ → Outcome
+globalControl c withheld r first second = cond (controls c r second) (obeyed c withheld first) (drawing c drawn.Nothing)
 
 -- All of them -----------------------------------------------------------------------------------
 
--- what comes of a service
-abbrev pub serve : Service → Setup → Control → OpenSets → Request → Data → Outcome
-serve Nothing s c sets r octets = drawing c drawn.Nothing
-serve Status s c sets r octets = drawing c drawn.Status
-serve Reject s c sets r octets = drawing c drawn.Rejected
-serve GlobalControl s c sets r octets = globalControl c r (octets .first) (octets .second)
-serve DataExchange s c sets r octets = dataExchange s c r
-serve SetPrm s c sets r octets = setPrm s c (sets .parameters) r (octets .prm)
-serve ChkCfg s c sets r octets = chkCfg s c (sets .configuration) r
-serve SlaveDiag s c sets r octets = slaveDiag c r
-serve GetCfg s c sets r octets = drawing c drawn.Configuration
-serve ReadInputs s c sets r octets = readInputs c
-serve ReadOutputs s c sets r octets = readOutputs c
+-- what comes of a service; b: what the buffers are occupied by
+abbrev pub serve : Service → Setup → Control → Occupied → Request → Data → Outcome
+serve Nothing s c b r octets = drawing c drawn.Nothing
+serve Status s c b r octets = drawing c drawn.Status
+serve Reject s c b r octets = drawing c drawn.Rejected
+serve GlobalControl s c b r octets = globalControl c (b .outputs) r (octets .first) (octets .second)
+serve DataExchange s c b r octets = dataExchange s c r
+serve SetPrm s c b r octets = setPrm s c (b .parameters) r (octets .prm)
+serve ChkCfg s c b r octets = chkCfg s c (b .configuration) r
+serve SlaveDiag s c b r octets = slaveDiag c r
+serve GetCfg s c b r octets = drawing c drawn.Configuration
+serve ReadInputs s c b r octets = readInputs c
+serve ReadOutputs s c b r octets = readOutputs c
 
 -- what comes of a telegram: it refills the watchdog, and its service is served
-abbrev pub outcomeBy : Setup → Control → OpenSets → Request → Data → Outcome
-outcomeBy s c sets r octets = serve (serviceOf s r) s (refilled s c r) sets r octets
+abbrev pub outcomeBy : Setup → Control → Occupied → Request → Data → Outcome
+outcomeBy s c b r octets = serve (serviceOf s r) s (refilled s c r) b r octets

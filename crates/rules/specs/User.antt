@@ -4,6 +4,7 @@ use Rattle.buffers.specs.Events.{configurationEvent, parametersEvent}
 use Rattle.state.specs.declared.control.Control.{Control}
 use Rattle.state.specs.declared.state.Drawn.the-variants.{Nothing}
 use Rattle.rules.specs.declared.outcome.OutputsDeed.the-variants as outputs-deed
+use Rattle.rules.specs.declared.outcome.InputsDeed.the-variants as inputs-deed
 use Rattle.rules.specs.declared.outcome.SetDeed.{SetDeed}
 use Rattle.rules.specs.declared.outcome.SetDeed.the-variants as set-deed
 use Rattle.rules.specs.declared.outcome.Outcome.{Outcome}
@@ -12,7 +13,15 @@ use Rattle.rules.specs.Phases.{enteringWaitPrm, dataExch}
 
 -- only these sets change
 abbrev pub changingSets : Control → SetDeed → SetDeed → Outcome
-changingSets c p q = record { control = c; outputs = outputs-deed.Keep; parameters = p; configuration = q; drawn = Nothing }
+changingSets c p q =
+    record {
+      control = c;
+      outputs = outputs-deed.Keep;
+      inputs = inputs-deed.Keep;
+      parameters = p;
+      configuration = q;
+      drawn = Nothing;
+    }
 
 -- judge parameters: a newer set that waits is shown instead, with no other effect; else the set is closed, with its event;
 -- then bad: Prm_Fault, WAIT_PRM, and good: parameter OK

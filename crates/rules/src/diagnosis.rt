@@ -19,7 +19,7 @@ fn one(flag: bool) -> u8
     0
 }
 
-// Octet 0: bit 1 not DATA_EXCH, 2 Cfg_Fault, 3 Ext_Diag, 4 Not_Supported, 6 Prm_Fault.
+// Octet 0: bit 1 not DATA_EXCH, 2 Cfg_Fault, 3 Ext_Diag, 6 Prm_Fault; bit 4, Not_Supported, is never set.
 fn status1(control: Control) -> u8
     ensures { λ r. ⌜ r ≡ status1 control ⌝ }
 {
@@ -29,18 +29,22 @@ fn status1(control: Control) -> u8
     2 * one(!exchanging)
         + 4 * one(flags.cfg_fault)
         + 8 * one(flags.ext_diag)
-        + 16 * one(flags.not_supported)
         + 64 * one(flags.prm_fault)
 }
 
-// Octet 1: bit 0 WAIT_PRM, 1 Stat_Diag, 2 always set, 3 watchdog on.
+// Octet 1: bit 0 WAIT_PRM, 1 Stat_Diag, 2 always set, 3 watchdog on, 4 freeze, 5 sync.
 fn status2(control: Control) -> u8
     ensures { λ r. ⌜ r ≡ status2 control ⌝ }
 {
     let phase = control.phase;
     let flags = control.flags;
     let on = control.watchdog.reload != 0;
-    one(in_wait_prm(phase)) + 2 * one(flags.stat_diag) + 4 + 8 * one(on)
+    one(in_wait_prm(phase))
+        + 2 * one(flags.stat_diag)
+        + 4
+        + 8 * one(on)
+        + 16 * one(control.modes.freeze)
+        + 32 * one(control.modes.sync)
 }
 
 // Octet 2: bit 7 overflow.

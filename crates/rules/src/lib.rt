@@ -3,6 +3,7 @@
 pub mod diagnosis;
 pub mod kinds;
 pub mod line;
+pub mod modes;
 pub mod outcome;
 pub mod phases;
 pub mod replies;

@@ -7,8 +7,19 @@ pub enum OutputsDeed {
     Keep,
     // the data received is published
     Publish,
-    // the station publishes zeros
+    // the data received is held back
+    HoldBack,
+    // what is held back is published
+    Release,
+    // the station publishes zeros, and nothing is held back any more
     Zeros,
+}
+
+// What becomes of the inputs.
+pub enum InputsDeed {
+    Keep,
+    // new inputs come to the sending buffer
+    Bring,
 }
 
 // What becomes of the sets of parameters or of configuration.
@@ -25,6 +36,7 @@ pub enum SetDeed {
 pub struct Outcome {
     pub control: Control,
     pub outputs: OutputsDeed,
+    pub inputs: InputsDeed,
     pub parameters: SetDeed,
     pub configuration: SetDeed,
     pub drawn: Drawn,

@@ -1,4 +1,6 @@
 // Entering and leaving the phases.
+use crate::modes::ended;
+use crate::outcome::InputsDeed;
 use crate::outcome::Outcome;
 use crate::outcome::OutputsDeed;
 use crate::outcome::SetDeed;
@@ -9,7 +11,7 @@ use state::control::Watchdog;
 use state::state::Drawn;
 ghost use mathlib.Core.Path.{_≡_};
 ghost use Rattle.rules.specs.Control.{exchanging, withPhase, inWaitPrm};
-ghost use Rattle.rules.specs.Phases.{drawing, leftExchange, waitPrm, enteringWaitPrm, waitCfg, zerosIfLeft, dataExch};
+ghost use Rattle.rules.specs.Phases.{drawing, leftExchange, left, waitPrm, enteringWaitPrm, waitCfg, zerosIfLeft, dataExch};
 
 // Whether the phase is DATA_EXCH.
 pub fn in_exchange(phase: Phase) -> bool
@@ -40,6 +42,7 @@ pub fn drawing(control: Control, drawn: Drawn) -> Outcome
     Outcome {
         control,
         outputs: OutputsDeed::Keep,
+        inputs: InputsDeed::Keep,
         parameters: SetDeed::Keep,
         configuration: SetDeed::Keep,
         drawn,
@@ -54,6 +57,7 @@ fn with_phase(control: Control, phase: Phase) -> Control
     let flags = control.flags;
     let events = control.events;
     let diagnosis = control.diagnosis;
+    let modes = control.modes;
     Control {
         phase,
         owner: control.owner,
@@ -64,6 +68,7 @@ fn with_phase(control: Control, phase: Phase) -> Control
         events,
         noted: control.noted,
         diagnosis,
+        modes,
     }
 }
 
@@ -79,7 +84,8 @@ fn left_exchange(control: Control) -> Events
     events
 }
 
-// WAIT_PRM entered, even from itself: no owner, watchdog off, group and stored control 0, no set open, zeros published.
+// WAIT_PRM entered, even from itself: no owner, watchdog off, group and stored control 0, no set open, zeros published, both modes
+// ended.
 pub fn wait_prm(control: Control) -> Control
     ensures { λ r. ⌜ r ≡ waitPrm control ⌝ }
 {
@@ -102,10 +108,12 @@ pub fn wait_prm(control: Control) -> Control
         events,
         noted: control.noted,
         diagnosis,
+        modes: ended(control.modes),
     }
 }
 
-// WAIT_PRM entered, with what becomes of the buffers: zeros published, parameter and configuration sets dropped.
+// WAIT_PRM entered, with what becomes of the buffers: zeros published, which empties what is held back, parameter and configuration
+// sets dropped.
 pub fn entering_wait_prm(control: Control, drawn: Drawn) -> Outcome
     ensures { λ r. ⌜ r ≡ enteringWaitPrm control drawn ⌝ }
 {
@@ -113,22 +121,31 @@ pub fn entering_wait_prm(control: Control, drawn: Drawn) -> Outcome
     Outcome {
         control: entered,
         outputs: OutputsDeed::Zeros,
+        inputs: InputsDeed::Keep,
         parameters: SetDeed::Drop,
         configuration: SetDeed::Drop,
         drawn,
     }
 }
 
-// WAIT_CFG entered; leaving DATA_EXCH publishes zeros.
+// DATA_EXCH left: event 1, zeros published, both modes ended.
+fn left(mut control: Control) -> Control
+    ensures { λ r. ⌜ r ≡ left control ⌝ }
+{
+    let events = left_exchange(control).raise(Events::OUTPUTS);
+    let modes = ended(control.modes);
+    control.events = events;
+    control.modes = modes;
+    control
+}
+
+// WAIT_CFG entered.
 pub fn wait_cfg(control: Control) -> Control
     ensures { λ r. ⌜ r ≡ waitCfg control ⌝ }
 {
     let phase = control.phase;
     if in_exchange(phase) {
-        let mut left = control;
-        let events = left_exchange(control).raise(Events::OUTPUTS);
-        left.events = events;
-        return with_phase(left, Phase::WaitCfg);
+        return with_phase(left(control), Phase::WaitCfg);
     }
     with_phase(control, Phase::WaitCfg)
 }

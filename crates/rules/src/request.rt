@@ -35,10 +35,12 @@ pub struct Data {
     pub second: u8,
 }
 
-// Which sets are open.
-pub struct OpenSets {
+// What the rules look at of the buffers: whether a set of parameters and one of configuration is open, and whether outputs are held
+// back.
+pub struct Occupied {
     pub parameters: bool,
     pub configuration: bool,
+    pub outputs: bool,
 }
 
 // What a telegram asks of the station, by its header alone.

@@ -1,6 +1,13 @@
 // The services: what comes of each, on the control part. opened: a set of that kind is open.
+use crate::modes::allowed;
+use crate::modes::announced;
+use crate::modes::commanded;
+use crate::modes::commanded_inputs;
+use crate::modes::commanded_outputs;
+use crate::modes::exchange_inputs;
+use crate::modes::exchange_outputs;
+use crate::outcome::InputsDeed;
 use crate::outcome::Outcome;
-use crate::outcome::OutputsDeed;
 use crate::outcome::SetDeed;
 use crate::phases::drawing;
 use crate::phases::entering_wait_prm;
@@ -8,7 +15,7 @@ use crate::phases::in_exchange;
 use crate::phases::wait_cfg;
 use crate::phases::zeros_if_left;
 use crate::request::Data;
-use crate::request::OpenSets;
+use crate::request::Occupied;
 use crate::request::Prm;
 use crate::request::Request;
 use crate::request::Service;
@@ -21,7 +28,6 @@ use state::state::Drawn;
 ghost use Prim.Native.Nat.{_≤_};
 ghost use mathlib.Core.Path.{_≡_};
 ghost use mathlib.Core.Bool.{_&&_};
-ghost use Rattle.rules.specs.Control.{withFlags, withNotSupported};
 ghost use Rattle.rules.specs.Phases.{enteringWaitPrm};
 ghost use Rattle.rules.specs.Services.{otherOwns, otherIdent, wantsWatchdog, badFactors, ticksOf, prmFault, showing, parametrized, goodPrm, setPrm, cfgFault, goodCfg, chkCfg, exchanges, goodExchange, dataExchange, slaveDiag, readInputs, readOutputs, controls, storing, obeyed, globalControl, serve};
 
@@ -72,14 +78,6 @@ fn prm_fault(mut control: Control) -> Outcome
     entering_wait_prm(control, Drawn::Acknowledge)
 }
 
-// Set_Prm, bit 5 or 4: E5, Not_Supported, WAIT_PRM.
-fn not_supported(mut control: Control) -> Outcome
-    ensures { λ o. ⌜ o ≡ enteringWaitPrm (withFlags control (withNotSupported (control .flags))) Drawn.Acknowledge ⌝ }
-{
-    control.flags.not_supported = true;
-    entering_wait_prm(control, Drawn::Acknowledge)
-}
-
 // A set is shown if none is open, with its event.
 fn showing(events: Events, opened: bool, event: u8) -> Events
     ensures { λ e. ⌜ e ≡ showing events opened event ⌝ }
@@ -90,7 +88,8 @@ fn showing(events: Events, opened: bool, event: u8) -> Events
     events.raise(event)
 }
 
-// Good Set_Prm: owner, WAIT_CFG, the three fault bits and parameter OK cleared, group, watchdog, the events of the sets.
+// Good Set_Prm: owner, WAIT_CFG, the fault bits and parameter OK cleared, group, watchdog, the events of the sets, sync and freeze
+// allowed or not.
 fn parametrized(control: Control, opened: bool, master: u8, p: Prm) -> Control
     ensures { λ c. ⌜ c ≡ parametrized control opened master p ⌝ }
 {
@@ -105,7 +104,6 @@ fn parametrized(control: Control, opened: bool, master: u8, p: Prm) -> Control
     let mut flags = control.flags;
     flags.prm_fault = false;
     flags.cfg_fault = false;
-    flags.not_supported = false;
     flags.parameters_good = false;
     let phase = entered.phase;
     let diagnosis = control.diagnosis;
@@ -119,6 +117,7 @@ fn parametrized(control: Control, opened: bool, master: u8, p: Prm) -> Control
         events,
         noted: control.noted,
         diagnosis,
+        modes: allowed(entered.modes, p.status),
     }
 }
 
@@ -131,6 +130,7 @@ fn good_prm(control: Control, opened: bool, master: u8, p: Prm) -> Outcome
     Outcome {
         control: changed,
         outputs,
+        inputs: InputsDeed::Keep,
         parameters: SetDeed::Receive,
         configuration: SetDeed::Drop,
         drawn: Drawn::Acknowledge,
@@ -157,9 +157,6 @@ pub fn set_prm(setup: Setup, control: Control, opened: bool, r: Request, p: Prm)
     if !(status / 128 % 2 == 1) {
         return drawing(control, Drawn::Acknowledge);
     }
-    if (status / 32 % 2 == 1) | (status / 16 % 2 == 1) {
-        return not_supported(control);
-    }
     if other_ident(setup, p) | bad_watchdog(p) {
         return prm_fault(control);
     }
@@ -185,6 +182,7 @@ fn good_cfg(control: Control, opened: bool) -> Outcome
     Outcome {
         control: entered,
         outputs,
+        inputs: InputsDeed::Keep,
         parameters: SetDeed::Keep,
         configuration: SetDeed::Receive,
         drawn: Drawn::Acknowledge,
@@ -217,15 +215,18 @@ pub fn exchanges(control: Control, r: Request) -> bool
     (control.owner == master) & exchanging
 }
 
-// Accepted: the data is published, event 13; the inputs are drawn.
+// The data is published, event 13, or held back in sync; new inputs come unless frozen; the inputs are drawn.
 fn good_exchange(mut control: Control) -> Outcome
     ensures { λ o. ⌜ o ≡ goodExchange control ⌝ }
 {
-    let events = control.events.raise(Events::OUTPUTS);
+    let outputs = exchange_outputs(control.modes);
+    let inputs = exchange_inputs(control.modes);
+    let events = announced(outputs, control.events);
     control.events = events;
     Outcome {
         control,
-        outputs: OutputsDeed::Publish,
+        outputs,
+        inputs,
         parameters: SetDeed::Keep,
         configuration: SetDeed::Keep,
         drawn: Drawn::Exchange,
@@ -303,54 +304,68 @@ fn storing(mut control: Control, first: u8) -> Control
     control
 }
 
-// Global_Control: bit 1 publishes zeros.
-fn obeyed(control: Control, first: u8) -> Outcome
-    ensures { λ o. ⌜ o ≡ obeyed control first ⌝ }
+// Global_Control: octet 0 is carried out. withheld: something is held back.
+fn obeyed(control: Control, withheld: bool, first: u8) -> Outcome
+    ensures { λ o. ⌜ o ≡ obeyed control withheld first ⌝ }
 {
+    let outputs = commanded_outputs(control.modes, withheld, first);
+    let inputs = commanded_inputs(control.modes, first);
     let mut stored = storing(control, first);
-    if first / 2 % 2 == 1 {
-        let events = stored.events.raise(Events::OUTPUTS);
-        stored.events = events;
-        return Outcome {
-            control: stored,
-            outputs: OutputsDeed::Zeros,
-            parameters: SetDeed::Keep,
-            configuration: SetDeed::Keep,
-            drawn: Drawn::Nothing,
-        };
+    let events = announced(outputs, stored.events);
+    let modes = commanded(control.modes, first);
+    stored.events = events;
+    stored.modes = modes;
+    Outcome {
+        control: stored,
+        outputs,
+        inputs,
+        parameters: SetDeed::Keep,
+        configuration: SetDeed::Keep,
+        drawn: Drawn::Nothing,
     }
-    drawing(stored, Drawn::Nothing)
 }
 
 // Global_Control, DSAP 58, functions 4 and 6.
-pub fn global_control(control: Control, r: Request, first: u8, second: u8) -> Outcome
-    ensures { λ o. ⌜ o ≡ globalControl control r first second ⌝ }
+pub fn global_control(
+    control: Control,
+    withheld: bool,
+    r: Request,
+    first: u8,
+    second: u8,
+) -> Outcome
+    ensures { λ o. ⌜ o ≡ globalControl control withheld r first second ⌝ }
 {
     if controls(control, r, second) {
-        return obeyed(control, first);
+        return obeyed(control, withheld, first);
     }
     drawing(control, Drawn::Nothing)
 }
 
-// What comes of a service.
+// What comes of a service; occupied: what the buffers are occupied by.
 pub fn serve(
     service: Service,
     setup: Setup,
     control: Control,
-    sets: OpenSets,
+    occupied: Occupied,
     r: Request,
     octets: Data,
 ) -> Outcome
-    ensures { λ o. ⌜ o ≡ serve service setup control sets r octets ⌝ }
+    ensures { λ o. ⌜ o ≡ serve service setup control occupied r octets ⌝ }
 {
     match service {
         Service::Nothing => drawing(control, Drawn::Nothing),
         Service::Status => drawing(control, Drawn::Status),
         Service::Reject => drawing(control, Drawn::Rejected),
-        Service::GlobalControl => global_control(control, r, octets.first, octets.second),
+        Service::GlobalControl => global_control(
+            control,
+            occupied.outputs,
+            r,
+            octets.first,
+            octets.second,
+        ),
         Service::DataExchange => data_exchange(setup, control, r),
-        Service::SetPrm => set_prm(setup, control, sets.parameters, r, octets.prm),
-        Service::ChkCfg => chk_cfg(setup, control, sets.configuration, r),
+        Service::SetPrm => set_prm(setup, control, occupied.parameters, r, octets.prm),
+        Service::ChkCfg => chk_cfg(setup, control, occupied.configuration, r),
         Service::SlaveDiag => slave_diag(control, r),
         Service::GetCfg => drawing(control, Drawn::Configuration),
         Service::ReadInputs => read_inputs(control),

@@ -1,4 +1,5 @@
 // Judging the sets, on the control part.
+use crate::outcome::InputsDeed;
 use crate::outcome::Outcome;
 use crate::outcome::OutputsDeed;
 use crate::outcome::SetDeed;
@@ -17,6 +18,7 @@ fn changing_sets(control: Control, parameters: SetDeed, configuration: SetDeed) 
     Outcome {
         control,
         outputs: OutputsDeed::Keep,
+        inputs: InputsDeed::Keep,
         parameters,
         configuration,
         drawn: Drawn::Nothing,

@@ -3,12 +3,12 @@ use Prim.Native.Nat.{ℕ, _+_, _-_, _≤_}
 use native.Mathlib.Omega.{arith}
 use mathlib.Core.Path.{_≡_, sym, ap, _∙_}
 use mathlib.Core.List.{List, _++_}
-use lib.ListN.{length, take, drop, length-append, length-drop}
+use lib.ListN.{length, take, drop, replicate, length-append, length-drop}
 use lib.Seq.{take-at, drop-at, drop-drop}
-use Rattle.octets.specs.Part.{part}
+use Rattle.octets.specs.Part.{part, pasted}
 use Rattle.state.specs.declared.state.State.{State}
-use Rattle.state.specs.Image.{image}
-use Rattle.state.specs.Layout.{stateLength}
+use Rattle.state.specs.Image.{used, unused, image}
+use Rattle.state.specs.Layout.{stateLength, usedLength}
 use Rattle.state.specs.Memory.{kept}
 use Rattle.state.proofs.Round.{image-length}
 
@@ -37,3 +37,8 @@ kept-length s m h = simp (length-append, length-drop, image-length s) (omega ari
 -- the last state counts
 pub kept-kept : (s t : State) (m : List ℕ) → kept s (kept t m) ≡ kept s m
 kept-kept s t m = ap (λ (l : List ℕ). image s ++ l) (drop-at (image t) (drop stateLength m) stateLength (image-length t))
+
+-- the octets that are used, and zeros behind them, are the image in front
+pub packed-image : (s : State) (m : List ℕ) → pasted (used s ++ drop usedLength m) usedLength (replicate 64 0) ≡ kept s m
+unfolding pasted image used
+packed-image s m = ap (λ (l : List ℕ). used s ++ (unused ++ l)) (drop-drop 64 64 m)

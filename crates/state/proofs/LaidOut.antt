@@ -6,7 +6,8 @@ use mathlib.Core.Path.{_≡_, refl, ap, _∙_}
 use mathlib.Core.Logic.{inl}
 use mathlib.Core.List.{List, _++_}
 use lib.ListN.{length, drop}
-use Rattle.buffers.proofs.Roles.{initial-permutation}
+use Rattle.buffers.proofs.Triples.{initial-permutation}
+use Rattle.buffers.proofs.Quads as quads
 use Rattle.octets.specs.Part.{part}
 use Rattle.telegram.proofs.Counts.{off-counts, empty-counts}
 use Rattle.state.specs.declared.setup.Setup.{Setup}
@@ -28,7 +29,7 @@ unfolding initialState
 initial-sound s r =
     record {
       setup = r;
-      outputs = initial-permutation;
+      outputs = quads.initial-permutation;
       inputs = initial-permutation;
       parameters = initial-permutation;
       configuration = initial-permutation;

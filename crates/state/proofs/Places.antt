@@ -148,8 +148,8 @@ base-small s a o h = go (ltb a (length rowCounts)) refl
         let v : a ≡ length rowCounts = omega arith in
         rw v whole
 
--- ---- the three sums
+-- ---- the four sums
 
 pub buffers-end : BuffersEnd
 unfolding rowBase roundedUp
-buffers-end = record { all-96 = refl; all-97 = refl; all-244 = refl }
+buffers-end = record { all-88 = refl; all-96 = refl; all-97 = refl; all-244 = refl }

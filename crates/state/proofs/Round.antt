@@ -5,52 +5,44 @@ use native.Mathlib.Nat.{mod-add-div}
 use mathlib.Core.Path.{_≡_, refl, sym, ap, subst, _∙_}
 use mathlib.Core.Bool.{Bool, true}
 use mathlib.Core.List.{List, [], _∷_, _++_}
-use lib.ListN.{length, getD, take, drop, take-append-drop}
+use lib.ListN.{length, getD, take, drop, replicate, take-append-drop}
 use lib.Dec.{leb, eqb}
 use lib.Seq.{drop-cons}
 use borrow.Author.Tests.{leb-true, le-leb, eqb-true}
-use Rattle.buffers.specs.Number.{numberOf, placesOf}
-use Rattle.buffers.proofs.Numbers.{number-below, number-places, places-permutation, places-number}
+use Rattle.buffers.specs.Number.{numberOf, placesOf, numberOf4, placesOf4}
+use Rattle.buffers.proofs.Numbers.{number-below, number-places, places-permutation, places-number, number4-below, number4-places, places4-permutation}
 use Rattle.state.specs.declared.control.Flags.{Flags}
 use Rattle.state.specs.declared.state.State.{State}
 use Rattle.state.specs.Number.{readingNumber, kindNumber, stageNumber, phaseNumber, drawnNumber}
-use Rattle.state.specs.Layout.{stateLength}
-use Rattle.state.specs.Image.{bitOf, flagsOf, outputsCode, inputsCode, image}
+use Rattle.state.specs.Layout.{stateLength, usedLength}
+use Rattle.state.specs.Image.{bitOf, flagsOf, modesOf, marksOf, inputsCode, used, unused, image}
 use Rattle.state.specs.Unpack.{wordAt, setupIn, flagsIn, readerIn, senderIn, unpacked}
 use Rattle.state.specs.Sound.{Sound}
-use Rattle.state.specs.Well.{all, lengthTests, lengthsTests, countTests, lineTests, codeTests, imageTests, wellImage}
+use Rattle.state.specs.Well.{all, lengthTests, lengthsTests, countTests, lineTests, limitTests, codeTests, unusedTests, imageTests, wellImage}
 use Rattle.state.proofs.Numbers.{reading-back, reading-counted, reading-le, kind-back, kind-counted, kind-le, stage-back, stage-counted, stage-le, phase-back, phase-counted, phase-le, drawn-back, drawn-counted, drawn-le}
 use Rattle.state.proofs.Asking.{tests-ranged, lengths-hold}
 use Rattle.state.proofs.Tests.{all-at, all-behind, within-true, within-holds, none-or-true, none-or-holds, set-counts-true, set-counts-holds}
 use Rattle.state.proofs.LineCounts.{reading-before, reading-numbered, stage-before, stage-numbered, part-true, part-holds}
-use Rattle.state.proofs.Bits.{bit-le, bit-in, mark-coded, marked, sum-marks}
-use Rattle.state.proofs.SetCodes.{outputs-back, outputs-coded, outputs-below, inputs-back, inputs-coded, inputs-below}
+use Rattle.state.proofs.Bits.{bit-le, bit-in, mark-coded, Marked, marked, sum-marks}
+use Rattle.state.proofs.SetCodes.{outputs-back, marks-coded, marks-below, modes-back, modes-coded, modes-below, inputs-back, inputs-coded, inputs-below}
 
 -- the image has its length
 pub image-length : (s : State) → length (image s) ≡ stateLength
-unfolding image
+unfolding image used
 image-length s = refl
 
--- the flags come back from their octet
-flags-back : (f : Flags) → flagsIn (flagsOf f) ≡ f
-flags-back f =
-    let b =
-    marked (flagsOf f)
-    (f .«prm_fault»)
-    (f .«cfg_fault»)
-    (f .«not_supported»)
-    (f .«ext_diag»)
-    (f .«stat_diag»)
-    (f .overflow)
-    (f .«diag_flag»)
-    (f .«parameters_good»)
-    refl
-    in
+-- the flags come back from their octet, and so does the note of a clear
+flags-marked : (f : Flags) (noted : Bool)
+    → Marked (flagsOf f noted) (f .«prm_fault») (f .«cfg_fault») noted (f .«ext_diag») (f .«stat_diag») (f .overflow) (f .«diag_flag») (f .«parameters_good»)
+flags-marked f noted = marked (flagsOf f noted) _ _ _ _ _ _ _ _ refl
+
+flags-back : (f : Flags) (noted : Bool) → flagsIn (flagsOf f noted) ≡ f
+flags-back f noted =
+    let b = flags-marked f noted in
     λ i.
     record {
       «prm_fault» = b .bit₀ i;
       «cfg_fault» = b .bit₁ i;
-      «not_supported» = b .bit₂ i;
       «ext_diag» = b .bit₃ i;
       «stat_diag» = b .bit₄ i;
       overflow = b .bit₅ i;
@@ -60,7 +52,7 @@ flags-back f =
 
 -- a sound state comes back from its image, whatever lies behind it
 pub round : (s : State) → Sound s → (r : List ℕ) → unpacked (image s ++ r) ≡ s
-unfolding image unpacked
+unfolding image used unpacked
 round s h r =
     let l = image s ++ r in
     let c = s .control in
@@ -76,10 +68,11 @@ round s h r =
             group = c .group;
             stored = c .stored;
             watchdog = record { reload = mod-add-div (c .watchdog .reload) 256 i; remaining = mod-add-div (c .watchdog .remaining) 256 i };
-            flags = flags-back (c .flags) i;
+            flags = flags-back (c .flags) (c .noted) i;
             events = record { word = mod-add-div (c .events .word) 256 i };
-            noted = bit-in (c .noted) (bitOf (c .noted)) refl i;
+            noted = flags-marked (c .flags) (c .noted) .bit₂ i;
             diagnosis = c .diagnosis;
+            modes = modes-back (c .modes) i;
           };
       outputs = outputs-back (s .outputs) (h .outputs) i;
       inputs = inputs-back (s .inputs) (h .inputs) i;
@@ -123,6 +116,9 @@ image-injective s t hs ht e = sym (round s hs []) ∙ ap (λ (l : List ℕ). unp
 roles-pass : (l : List ℕ) → leb (numberOf l) 5 ≡ true
 roles-pass l = let n = number-below l in le-leb (numberOf l) 5 (omega arith)
 
+roles4-pass : (l : List ℕ) → leb (numberOf4 l) 23 ≡ true
+roles4-pass l = let n = number4-below l in le-leb (numberOf4 l) 23 (omega arith)
+
 -- a mark passes
 mark-passes : (b : Bool) → leb (bitOf b) 1 ≡ true
 mark-passes b = le-leb (bitOf b) 1 (bit-le b)
@@ -131,36 +127,36 @@ mark-passes b = le-leb (bitOf b) 1 (bit-le b)
 module _ (s : State) (h : Sound s) (r : List ℕ) where
   -- the lengths pass
   lengths-well : all (lengthsTests (image s ++ r)) ≡ true
-  unfolding image
+  unfolding image used
   lengths-well = lengths-hold (s .setup) (h .setup)
 
   -- the codes pass
   codes-well : all (codeTests (image s ++ r)) ≡ true
-  unfolding image
+  unfolding image used
   codes-well =
       λ i.
       all
       (le-leb (kindNumber (s .reply .sender .kind)) 3 (kind-le (s .reply .sender .kind)) i
       ∷ le-leb (stageNumber (s .reply .sender .stage)) 10 (stage-le (s .reply .sender .stage)) i
       ∷ le-leb (drawnNumber (s .reply .drawn)) 8 (drawn-le (s .reply .drawn)) i
-      ∷ le-leb (s .reply .place) 2 (h .place) i
+      ∷ le-leb (s .reply .place) 3 (h .place) i
       ∷ le-leb (s .setup .address) 126 (h .setup .address) i
       ∷ le-leb (phaseNumber (s .control .phase)) 2 (phase-le (s .control .phase)) i
-      ∷ le-leb (outputsCode (s .outputs)) 23 (outputs-below (s .outputs)) i
+      ∷ roles4-pass (s .outputs .set .place) i
       ∷ le-leb (inputsCode (s .inputs)) 11 (inputs-below (s .inputs)) i
       ∷ roles-pass (s .parameters .set .place) i
       ∷ roles-pass (s .configuration .set .place) i
       ∷ le-leb (s .control .diagnosis .«delayed_flags») 7 (h .diagnosis-counts .flags) i
-      ∷ mark-passes (s .control .noted) i
+      ∷ le-leb (modesOf (s .control .modes)) 15 (modes-below (s .control .modes)) i
       ∷ mark-passes (s .swapped) i
-      ∷ true
+      ∷ le-leb (marksOf (s .outputs)) 7 (marks-below (s .outputs)) i
       ∷ le-leb (kindNumber (s .incoming .reader .kind)) 3 (kind-le (s .incoming .reader .kind)) i
       ∷ le-leb (readingNumber (s .incoming .reader .phase)) 12 (reading-le (s .incoming .reader .phase)) i
       ∷ [])
 
   -- the counts of diagnosis and of the sets pass
   counts-well : all (countTests (image s ++ r)) ≡ true
-  unfolding image
+  unfolding image used
   counts-well =
       let d = s .control .diagnosis in
       λ i.
@@ -175,7 +171,7 @@ module _ (s : State) (h : Sound s) (r : List ℕ) where
 
   -- the counts of the telegram and of the reply pass
   line-well : all (lineTests (image s ++ r)) ≡ true
-  unfolding image
+  unfolding image used
   line-well =
       let a = s .incoming .reader in
       let b = s .reply .sender in
@@ -187,10 +183,15 @@ module _ (s : State) (h : Sound s) (r : List ℕ) where
       ∷ part-holds 7 (stageNumber (b .stage)) (b .count) (b .at) (stage-before (b .stage)) (h .sending .sent) (h .sending .none-yet) i
       ∷ [])
 
+  -- the octets that are not used pass
+  unused-well : all (unusedTests (image s ++ r)) ≡ true
+  unfolding image used
+  unused-well = refl
+
   -- it passes the tests
   pub image-well : wellImage (image s ++ r) ≡ true
-  unfolding image wellImage
-  image-well = λ i. all (counts-well i ∷ line-well i ∷ codes-well i ∷ lengths-well i ∷ [])
+  unfolding image used wellImage
+  image-well = λ i. all (counts-well i ∷ line-well i ∷ codes-well i ∷ unused-well i ∷ lengths-well i ∷ [])
 
 -- a memory whose first octets are the image of a sound state passes the tests
 pub front-well : (m : List ℕ) (s : State) → Sound s → image s ≡ take stateLength m → wellImage m ≡ true
@@ -222,8 +223,8 @@ well-sound m h =
     (all-at (lineTests m) 3 line)
     in
     record {
-      setup = tests-ranged (setupIn m (wordAt m 46)) (leb-true (getD m 20 0) 126 (code-at m codes 4)) (lengths-in m (all-at (imageTests m) 3 h));
-      outputs = places-permutation (getD m 22 0 / 4);
+      setup = tests-ranged (setupIn m (wordAt m 46)) (leb-true (getD m 20 0) 126 (code-at m codes 4)) (lengths-in m (all-at (imageTests m) 4 h));
+      outputs = places4-permutation (getD m 22 0);
       inputs = places-permutation (getD m 23 0 / 2);
       parameters = places-permutation (getD m 24 0);
       configuration = places-permutation (getD m 25 0);
@@ -236,7 +237,7 @@ well-sound m h =
       };
       reading = record { count = leb-true (getD m 32 0) 246 (all-at (lineTests m) 0 line); read = reading .0; none-yet = reading .1 };
       sending = record { count = leb-true (getD m 14 0) 246 (all-at (lineTests m) 2 line); sent = sending .0; none-yet = sending .1 };
-      place = leb-true (getD m 19 0) 2 (code-at m codes 3);
+      place = leb-true (getD m 19 0) 3 (code-at m codes 3);
     }
 
 -- n octets from i on, one by one
@@ -262,6 +263,10 @@ high-at m i h = omega arith
 mark-at : (m : List ℕ) (i : ℕ) → leb (getD m i 0) 1 ≡ true → bitOf (eqb (getD m i 0) 1) ≡ getD m i 0
 mark-at m i e = mark-coded (getD m i 0) (leb-true (getD m i 0) 1 e)
 
+-- the roles of a set of four
+role4-at : (m : List ℕ) (i : ℕ) → leb (getD m i 0) 23 ≡ true → numberOf4 (placesOf4 (getD m i 0)) ≡ getD m i 0
+role4-at m i e = let h = leb-true (getD m i 0) 23 e in number4-places (getD m i 0) (omega arith)
+
 -- the roles of a set of three
 role-at : (m : List ℕ) (i : ℕ) → leb (getD m i 0) 5 ≡ true → numberOf (placesOf (getD m i 0)) ≡ getD m i 0
 role-at m i e = let h = leb-true (getD m i 0) 5 e in number-places (getD m i 0) (omega arith)
@@ -270,15 +275,22 @@ role-at m i e = let h = leb-true (getD m i 0) 5 e in number-places (getD m i 0) 
 zero-at : (m : List ℕ) (i : ℕ) → eqb (getD m i 0) 0 ≡ true → 0 ≡ getD m i 0
 zero-at m i e = sym (eqb-true (getD m i 0) 0 e)
 
+-- octets that are at most 0
+zeros-at : (m : List ℕ) (i n : ℕ) → all (limitTests m i (replicate n 0)) ≡ true → replicate n 0 ≡ spread m i n
+zeros-at m i zero h = refl
+zeros-at m i (suc n) h =
+    let none = leb-true (getD m i 0) 0 (all-at (limitTests m i (replicate (suc n) 0)) 0 h) in
+    let first : 0 ≡ getD m i 0 = omega arith in
+    let rest = zeros-at m (suc i) n (all-behind (leb (getD m i 0) 0) (limitTests m (suc i) (replicate n 0)) h) in
+    λ j. first j ∷ rest j
+
 -- the image of the state that they hold, octet by octet
 image-spread : (m : List ℕ) → ((i : ℕ) → getD m i 0 < 256) → wellImage m ≡ true → image (unpacked m) ≡ spread m 0 stateLength
-unfolding image wellImage unpacked
+unfolding image used wellImage unpacked
 image-spread m small h =
     let counts = all-at (imageTests m) 0 h in
     let codes = code-at m (all-at (imageTests m) 2 h) in
-    let lengths = all-at (imageTests m) 3 h in
-    let none = leb-true (getD m 29 0) 0 (codes 13) in
-    let free : 0 ≡ getD m 29 0 = omega arith in
+    let lengths = all-at (imageTests m) 4 h in
     λ i.
     spread m 0 3
     ++ sum-marks (getD m 3 0) (small 3) i
@@ -290,14 +302,14 @@ image-spread m small h =
     ∷ drawn-counted (getD m 18 0) (leb-true (getD m 18 0) 8 (codes 2)) i
     ∷ spread m 19 2
     ++ phase-counted (getD m 21 0) (leb-true (getD m 21 0) 2 (codes 5)) i
-    ∷ outputs-coded (getD m 22 0) (leb-true (getD m 22 0) 23 (codes 6)) i
+    ∷ role4-at m 22 (codes 6) i
     ∷ inputs-coded (getD m 23 0) (leb-true (getD m 23 0) 11 (codes 7)) i
     ∷ role-at m 24 (codes 8) i
     ∷ role-at m 25 (codes 9) i
     ∷ getD m 26 0
-    ∷ mark-at m 27 (codes 11) i
+    ∷ modes-coded (getD m 27 0) (leb-true (getD m 27 0) 15 (codes 11)) i
     ∷ mark-at m 28 (codes 12) i
-    ∷ free i
+    ∷ marks-coded (getD m 22 0) (getD m 29 0) (leb-true (getD m 29 0) 7 (codes 13)) i
     ∷ kind-counted (getD m 30 0) (leb-true (getD m 30 0) 3 (codes 14)) i
     ∷ reading-counted (getD m 31 0) (leb-true (getD m 31 0) 12 (codes 15)) i
     ∷ spread m 32 10
@@ -313,7 +325,7 @@ image-spread m small h =
     ∷ spread m 56 6
     ++ zero-at m 62 (all-at (countTests m) 4 counts) i
     ∷ zero-at m 63 (all-at (countTests m) 5 counts) i
-    ∷ []
+    ∷ zeros-at m usedLength 64 (all-at (imageTests m) 3 h) i
 
 -- octets that pass the tests are the image of the state that they hold
 pub well-image : (m : List ℕ) → stateLength ≤ length m → ((i : ℕ) → getD m i 0 < 256) → wellImage m ≡ true → image (unpacked m) ≡ take stateLength m

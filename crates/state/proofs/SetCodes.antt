@@ -1,36 +1,23 @@
--- The output set and the input set in one octet, and back.
+-- The output set, the input set and the modes in their octets, and back.
 use Prim.Native.Nat.{ℕ, _+_, _*_, _/_, _%_, _≤_}
 use native.Mathlib.Omega.{arith}
 use mathlib.Core.Path.{_≡_, ap, _∙_}
+use mathlib.Core.Bool.{false}
 use mathlib.Core.List.{List}
 use Rattle.buffers.specs.declared.triple.Triple.{Triple}
-use Rattle.buffers.specs.Triple.{Permutation}
-use Rattle.buffers.specs.Number.{numberOf, placesOf}
-use Rattle.buffers.proofs.Numbers.{number-below, number-places, places-number}
+use Rattle.buffers.specs.Roles.{Permutation}
+use Rattle.buffers.specs.Number.{numberOf, placesOf, numberOf4}
+use Rattle.buffers.proofs.Numbers.{number-below, number-places, places-number, places4-number}
+use Rattle.state.specs.declared.control.Modes.{Modes}
 use Rattle.state.specs.declared.state.Outputs.{Outputs}
-use Rattle.state.specs.Image.{bitOf, outputsCode, inputsCode}
-use Rattle.state.specs.Unpack.{odd, bitAt, outputsIn, inputsIn}
-use Rattle.state.proofs.Bits.{bit-le, bit-in, odd-bit}
+use Rattle.state.specs.Image.{bitOf, modesOf, marksOf, inputsCode}
+use Rattle.state.specs.Unpack.{odd, bitAt, modesIn, outputsIn, inputsIn}
+use Rattle.state.proofs.Bits.{bit-le, bit-in, odd-bit, marked, sum-marks}
 
 -- ---- the number of the roles
 
 pub roles-below : (n : ℕ) (l : List ℕ) → n ≡ numberOf l → n ≤ 5
 roles-below n l e = let h = number-below l in omega arith
-
--- ---- two marks below a number
-
--- the parts of a code that has two marks
-pub record Quartered (x n z f : ℕ) : Type 0 where
-  pub number-is : x / 4 ≡ n
-  pub second : x / 2 % 2 ≡ z
-  pub first : x % 2 ≡ f
-
-quartered : (x n z f : ℕ) → z ≤ 1 → f ≤ 1 → x ≡ 4 * n + 2 * z + f → Quartered x n z f
-quartered x n z f hz hf e = record { number-is = omega arith; second = omega arith; first = omega arith }
-
--- and back
-fourfold : (x a b c : ℕ) → a ≡ x / 4 → b ≡ x / 2 % 2 → c ≡ x % 2 → 4 * a + 2 * b + c ≡ x
-fourfold x a b c ea eb ec = omega arith
 
 -- ---- one mark below a number
 
@@ -45,42 +32,65 @@ halved x n f hf e = record { number-is = omega arith; first = omega arith }
 twofold : (x a c : ℕ) → a ≡ x / 2 → c ≡ x % 2 → 2 * a + c ≡ x
 twofold x a c ea ec = omega arith
 
+-- ---- marks that are not there
+
+not-there : (x worth : ℕ) → x / worth ≡ 0 → bitOf (bitAt x worth) ≡ 0
+not-there x worth e = odd-bit (x / worth) ∙ ap (λ n. n % 2) e
+
 -- ---- the output set
 
--- it comes back from its code
-pub outputs-back : (o : Outputs) → Permutation (o .set .place) → outputsIn (outputsCode o) ≡ o
+-- it comes back from its roles and its marks
+pub outputs-back : (o : Outputs) → Permutation 4 (o .set .place) → outputsIn (numberOf4 (o .set .place)) (marksOf o) ≡ o
 outputs-back o h =
-    let q =
-    quartered (outputsCode o) (numberOf (o .set .place)) (bitOf (o .zeros)) (bitOf (o .set .fresh)) (bit-le (o .zeros)) (bit-le (o .set .fresh))
-    (λ _. outputsCode o)
-    in
+    let b = marked (marksOf o) (o .set .fresh) (o .zeros) (o .set .withheld) false false false false false (omega arith) in
     λ i.
     record {
-      set =
-          record {
-            place = (ap placesOf (q .number-is) ∙ places-number (o .set .place) h) i;
-            fresh = bit-in (o .set .fresh) (outputsCode o % 2) (q .first) i;
-          };
-      zeros = bit-in (o .zeros) (outputsCode o / 2 % 2) (q .second) i;
+      set = record { place = places4-number (o .set .place) h i; fresh = b .bit₀ i; withheld = b .bit₂ i };
+      zeros = b .bit₁ i;
     }
 
--- and its code from it
-pub outputs-coded : (x : ℕ) → x ≤ 23 → outputsCode (outputsIn x) ≡ x
-outputs-coded x h =
-    fourfold x (numberOf (placesOf (x / 4))) (bitOf (bitAt x 2)) (bitOf (odd x)) (number-places (x / 4) (omega arith)) (odd-bit (x / 2)) (odd-bit x)
+-- and its marks from it
+pub marks-coded : (roles x : ℕ) → x ≤ 7 → marksOf (outputsIn roles x) ≡ x
+marks-coded roles x h =
+    let all = sum-marks x (omega arith) in
+    let none : (worth : ℕ) → x / worth ≡ 0 → bitOf (bitAt x worth) ≡ 0 = not-there x in
+    omega (arith, all, none 8 (omega arith), none 16 (omega arith), none 32 (omega arith), none 64 (omega arith), none 128 (omega arith))
 
--- the code is at most 23
-fourth-below : (n z f : ℕ) → n ≤ 5 → z ≤ 1 → f ≤ 1 → 4 * n + 2 * z + f ≤ 23
-fourth-below n z f hn hz hf = omega arith
+-- they are at most 7
+pub marks-below : (o : Outputs) → marksOf o ≤ 7
+marks-below o =
+    let b₀ = bit-le (o .set .fresh) in
+    let b₁ = bit-le (o .zeros) in
+    let b₂ = bit-le (o .set .withheld) in
+    omega arith
 
-pub outputs-below : (o : Outputs) → outputsCode o ≤ 23
-outputs-below o =
-    let n = number-below (o .set .place) in
-    fourth-below (numberOf (o .set .place)) (bitOf (o .zeros)) (bitOf (o .set .fresh)) (omega arith) (bit-le (o .zeros)) (bit-le (o .set .fresh))
+-- ---- the modes
+
+-- they come back from their octet
+pub modes-back : (m : Modes) → modesIn (modesOf m) ≡ m
+modes-back m =
+    let b = marked (modesOf m) (m .sync) (m .freeze) (m .«sync_allowed») (m .«freeze_allowed») false false false false (omega arith) in
+    λ i. record { sync = b .bit₀ i; freeze = b .bit₁ i; «sync_allowed» = b .bit₂ i; «freeze_allowed» = b .bit₃ i }
+
+-- and it from them
+pub modes-coded : (x : ℕ) → x ≤ 15 → modesOf (modesIn x) ≡ x
+modes-coded x h =
+    let all = sum-marks x (omega arith) in
+    let none : (worth : ℕ) → x / worth ≡ 0 → bitOf (bitAt x worth) ≡ 0 = not-there x in
+    omega (arith, all, none 16 (omega arith), none 32 (omega arith), none 64 (omega arith), none 128 (omega arith))
+
+-- it is at most 15
+pub modes-below : (m : Modes) → modesOf m ≤ 15
+modes-below m =
+    let b₀ = bit-le (m .sync) in
+    let b₁ = bit-le (m .freeze) in
+    let b₂ = bit-le (m .«sync_allowed») in
+    let b₃ = bit-le (m .«freeze_allowed») in
+    omega arith
 
 -- ---- the input set
 
-pub inputs-back : (t : Triple) → Permutation (t .place) → inputsIn (inputsCode t) ≡ t
+pub inputs-back : (t : Triple) → Permutation 3 (t .place) → inputsIn (inputsCode t) ≡ t
 inputs-back t h =
     let q = halved (inputsCode t) (numberOf (t .place)) (bitOf (t .fresh)) (bit-le (t .fresh)) (λ _. inputsCode t) in
     λ i.

@@ -97,7 +97,7 @@ module _ (m : List ℕ) (h : all (shortTests m) ≡ true) where
       ∷ longer 1 (getD m 53 0) (test 7) i
       ∷ [])
 
-  -- and their buffers end where all-96 says or before
+  -- and their buffers end where all-88 says or before
   short-end : endOf (unpacked m .setup) ≤ shortEnd
   unfolding unpacked rowBase roundedUp
   short-end =

@@ -7,7 +7,7 @@ use mathlib.Core.List.{List, [], _∷_}
 use lib.ListN.{length, set}
 use Rattle.buffers.specs.declared.events.Events.{Events}
 use Rattle.buffers.specs.declared.triple.Triple.{Triple}
-use Rattle.buffers.specs.Number.{numberOf}
+use Rattle.buffers.specs.Number.{numberOf, numberOf4}
 use Rattle.telegram.specs.declared.sender.Sender.{Sender}
 use Rattle.state.specs.declared.control.Control.{Control}
 use Rattle.state.specs.declared.state.Incoming.{Incoming}
@@ -15,7 +15,7 @@ use Rattle.state.specs.declared.state.Outputs.{Outputs}
 use Rattle.state.specs.declared.state.Reply.{Reply}
 use Rattle.state.specs.declared.state.Sets.{Sets}
 use Rattle.state.specs.declared.state.State.{State}
-use Rattle.state.specs.Image.{bitOf, flagsOf, outputsCode, inputsCode, image}
+use Rattle.state.specs.Image.{bitOf, flagsOf, modesOf, marksOf, inputsCode, used, image}
 use Rattle.state.specs.Layout.{stateLength}
 use Rattle.state.specs.Memory.{kept, Changes}
 use Rattle.state.specs.Number.{readingNumber, kindNumber, stageNumber, phaseNumber, drawnNumber}
@@ -83,60 +83,60 @@ headerOctets r = r .header .status1 ∷ r .header .status2 ∷ r .header .status
 module _ (m : List ℕ) (s : State) (front : m ≡ kept s m) where
   -- octets 30 to 41
   pub incoming-saved : (i : Incoming) → wrote m 30 (incomingOctets i) ≡ kept (withIncoming s i) m
-  unfolding image
+  unfolding image used
   incoming-saved i = ap (λ (l : List ℕ). wrote l 30 (incomingOctets i)) front
 
   -- octets 33 and 39 to 41
   pub data-saved : (at sum first second : ℕ) → wrote (wrote m 33 (at ∷ [])) 39 (sum ∷ first ∷ second ∷ []) ≡ kept (withData s at sum first second) m
-  unfolding image
+  unfolding image used
   data-saved at sum first second = ap (λ (l : List ℕ). wrote (wrote l 33 (at ∷ [])) 39 (sum ∷ first ∷ second ∷ [])) front
 
   -- octets 10 to 17
   pub sender-saved : (x : Sender) → wrote (wrote m 16 (kindNumber (x .kind) ∷ stageNumber (x .stage) ∷ [])) 10 (senderOctets x) ≡ kept (withSender s x) m
-  unfolding image
+  unfolding image used
   sender-saved x = ap (λ (l : List ℕ). wrote (wrote l 16 (kindNumber (x .kind) ∷ stageNumber (x .stage) ∷ [])) 10 (senderOctets x)) front
 
   -- octets 6 to 9, 18 and 19
   pub outline-saved : (r : Reply) → wrote (wrote m 18 (drawnNumber (r .drawn) ∷ r .place ∷ [])) 6 (headerOctets r) ≡ kept (withOutline s r) m
-  unfolding image
+  unfolding image used
   outline-saved r = ap (λ (l : List ℕ). wrote (wrote l 18 (drawnNumber (r .drawn) ∷ r .place ∷ [])) 6 (headerOctets r)) front
 
   -- octets 4 and 5
   pub events-saved : (e : Events) → wrote m 4 (wordOctets (e .word)) ≡ kept (withEventWord s e) m
-  unfolding image
+  unfolding image used
   events-saved e = ap (λ (l : List ℕ). wrote l 4 (wordOctets (e .word))) front
 
   -- octets 42 and 43
   pub ticks-saved : (n : ℕ) → wrote m 42 (wordOctets n) ≡ kept (withTicks s n) m
-  unfolding image
+  unfolding image used
   ticks-saved n = ap (λ (l : List ℕ). wrote l 42 (wordOctets n)) front
 
   -- octets 0 to 3, 21, 26, 27, 44, 45, 56 and 57
-  pub standing-saved : (c : Control) → wrote (wrote (wrote (wrote (wrote m 21 (phaseNumber (c .phase) ∷ [])) 44 (wordOctets (c .watchdog .reload))) 0 (c .owner ∷ c .group ∷ c .stored ∷ flagsOf (c .flags) ∷ [])) 26 (c .diagnosis .«delayed_flags» ∷ bitOf (c .noted) ∷ [])) 56 (c .diagnosis .count ∷ c .diagnosis .«delayed_count» ∷ []) ≡ kept (withStanding s c) m
-  unfolding image
-  standing-saved c = ap (λ (l : List ℕ). wrote (wrote (wrote (wrote (wrote l 21 (phaseNumber (c .phase) ∷ [])) 44 (wordOctets (c .watchdog .reload))) 0 (c .owner ∷ c .group ∷ c .stored ∷ flagsOf (c .flags) ∷ [])) 26 (c .diagnosis .«delayed_flags» ∷ bitOf (c .noted) ∷ [])) 56 (c .diagnosis .count ∷ c .diagnosis .«delayed_count» ∷ [])) front
+  pub standing-saved : (c : Control) → wrote (wrote (wrote (wrote (wrote m 21 (phaseNumber (c .phase) ∷ [])) 44 (wordOctets (c .watchdog .reload))) 0 (c .owner ∷ c .group ∷ c .stored ∷ flagsOf (c .flags) (c .noted) ∷ [])) 26 (c .diagnosis .«delayed_flags» ∷ modesOf (c .modes) ∷ [])) 56 (c .diagnosis .count ∷ c .diagnosis .«delayed_count» ∷ []) ≡ kept (withStanding s c) m
+  unfolding image used
+  standing-saved c = ap (λ (l : List ℕ). wrote (wrote (wrote (wrote (wrote l 21 (phaseNumber (c .phase) ∷ [])) 44 (wordOctets (c .watchdog .reload))) 0 (c .owner ∷ c .group ∷ c .stored ∷ flagsOf (c .flags) (c .noted) ∷ [])) 26 (c .diagnosis .«delayed_flags» ∷ modesOf (c .modes) ∷ [])) 56 (c .diagnosis .count ∷ c .diagnosis .«delayed_count» ∷ [])) front
 
-  -- octet 22
-  pub outputs-saved : (o : Outputs) → wrote m 22 (outputsCode o ∷ []) ≡ kept (withOutputs s o) m
-  unfolding image
-  outputs-saved o = ap (λ (l : List ℕ). wrote l 22 (outputsCode o ∷ [])) front
+  -- octets 22 and 29
+  pub outputs-saved : (o : Outputs) → wrote (wrote m 22 (numberOf4 (o .set .place) ∷ [])) 29 (marksOf o ∷ []) ≡ kept (withOutputs s o) m
+  unfolding image used
+  outputs-saved o = ap (λ (l : List ℕ). wrote (wrote l 22 (numberOf4 (o .set .place) ∷ [])) 29 (marksOf o ∷ [])) front
 
   -- octet 23
   pub inputs-saved : (t : Triple) → wrote m 23 (inputsCode t ∷ []) ≡ kept (withInputs s t) m
-  unfolding image
+  unfolding image used
   inputs-saved t = ap (λ (l : List ℕ). wrote l 23 (inputsCode t ∷ [])) front
 
   -- octets 24, 58 and 59
   pub parameters-saved : (x : Sets) → wrote (wrote m 24 (numberOf (x .set .place) ∷ [])) 58 (x .shown ∷ x .waiting ∷ []) ≡ kept (withParameters s x) m
-  unfolding image
+  unfolding image used
   parameters-saved x = ap (λ (l : List ℕ). wrote (wrote l 24 (numberOf (x .set .place) ∷ [])) 58 (x .shown ∷ x .waiting ∷ [])) front
 
   -- octets 25, 60 and 61
   pub configuration-saved : (x : Sets) → wrote (wrote m 25 (numberOf (x .set .place) ∷ [])) 60 (x .shown ∷ x .waiting ∷ []) ≡ kept (withConfiguration s x) m
-  unfolding image
+  unfolding image used
   configuration-saved x = ap (λ (l : List ℕ). wrote (wrote l 25 (numberOf (x .set .place) ∷ [])) 60 (x .shown ∷ x .waiting ∷ [])) front
 
   -- octet 28
   pub swapped-saved : (b : Bool) → wrote m 28 (bitOf b ∷ []) ≡ kept (withSwapped s b) m
-  unfolding image
+  unfolding image used
   swapped-saved b = ap (λ (l : List ℕ). wrote l 28 (bitOf b ∷ [])) front

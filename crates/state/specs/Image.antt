@@ -1,12 +1,15 @@
--- The image of a state: 64 octets.
-use Prim.Native.Nat.{ℕ, _+_, _*_, _/_, _%_}
+-- The image of a state: 128 octets, of which the first 64 have fields.
+use Prim.Native.Nat.{ℕ, _+_, _-_, _*_, _/_, _%_}
 use mathlib.Core.Bool.{Bool, true, false}
-use mathlib.Core.List.{List, [], _∷_}
+use mathlib.Core.List.{List, [], _∷_, _++_}
+use lib.ListN.{replicate}
 use Rattle.buffers.specs.declared.triple.Triple.{Triple}
-use Rattle.buffers.specs.Number.{numberOf}
+use Rattle.buffers.specs.Number.{numberOf, numberOf4}
 use Rattle.state.specs.declared.control.Flags.{Flags}
+use Rattle.state.specs.declared.control.Modes.{Modes}
 use Rattle.state.specs.declared.state.Outputs.{Outputs}
 use Rattle.state.specs.declared.state.State.{State}
+use Rattle.state.specs.Layout.{stateLength, usedLength}
 use Rattle.state.specs.Number.{readingNumber, kindNumber, stageNumber, phaseNumber, drawnNumber}
 
 -- a mark as a number
@@ -14,33 +17,37 @@ abbrev pub bitOf : Bool → ℕ
 bitOf true = 1
 bitOf false = 0
 
--- the flags in one octet, bit 0 first
-abbrev pub flagsOf : Flags → ℕ
-flagsOf f =
+-- the flags and the note of a clear in one octet, bit 0 first
+abbrev pub flagsOf : Flags → Bool → ℕ
+flagsOf f noted =
     bitOf (f .«prm_fault»)
     + 2 * bitOf (f .«cfg_fault»)
-    + 4 * bitOf (f .«not_supported»)
+    + 4 * bitOf noted
     + 8 * bitOf (f .«ext_diag»)
     + 16 * bitOf (f .«stat_diag»)
     + 32 * bitOf (f .overflow)
     + 64 * bitOf (f .«diag_flag»)
     + 128 * bitOf (f .«parameters_good»)
 
--- the output set in one octet: its roles, whether they are zeros by the station, whether they are new
-abbrev pub outputsCode : Outputs → ℕ
-outputsCode o = 4 * numberOf (o .set .place) + 2 * bitOf (o .zeros) + bitOf (o .set .fresh)
+-- the modes in one octet, bit 0 first
+abbrev pub modesOf : Modes → ℕ
+modesOf m = bitOf (m .sync) + 2 * bitOf (m .freeze) + 4 * bitOf (m .«sync_allowed») + 8 * bitOf (m .«freeze_allowed»)
+
+-- the marks of the output set in one octet: whether next is new, whether it is zeros by the station, whether something is held back
+abbrev pub marksOf : Outputs → ℕ
+marksOf o = bitOf (o .set .fresh) + 2 * bitOf (o .zeros) + 4 * bitOf (o .set .withheld)
 
 -- the input set in one octet: its roles, whether next is new
 abbrev pub inputsCode : Triple → ℕ
 inputsCode t = 2 * numberOf (t .place) + bitOf (t .fresh)
 
--- the image, octet by octet from 0 on; the octets 29, 54, 55, 62 and 63 are not used
-unfoldable pub image : State → List ℕ
-image s =
+-- those with fields, octet by octet from 0 on; among them 54, 55, 62 and 63 are not used
+unfoldable pub used : State → List ℕ
+used s =
     s .control .owner
     ∷ s .control .group
     ∷ s .control .stored
-    ∷ flagsOf (s .control .flags)
+    ∷ flagsOf (s .control .flags) (s .control .noted)
     ∷ s .control .events .word % 256
     ∷ s .control .events .word / 256
     ∷ s .reply .header .status1
@@ -59,14 +66,14 @@ image s =
     ∷ s .reply .place
     ∷ s .setup .address
     ∷ phaseNumber (s .control .phase)
-    ∷ outputsCode (s .outputs)
+    ∷ numberOf4 (s .outputs .set .place)
     ∷ inputsCode (s .inputs)
     ∷ numberOf (s .parameters .set .place)
     ∷ numberOf (s .configuration .set .place)
     ∷ s .control .diagnosis .«delayed_flags»
-    ∷ bitOf (s .control .noted)
+    ∷ modesOf (s .control .modes)
     ∷ bitOf (s .swapped)
-    ∷ 0
+    ∷ marksOf (s .outputs)
     ∷ kindNumber (s .incoming .reader .kind)
     ∷ readingNumber (s .incoming .reader .phase)
     ∷ s .incoming .reader .count
@@ -102,3 +109,11 @@ image s =
     ∷ 0
     ∷ 0
     ∷ []
+
+-- the octets 64 to 127 are not used yet
+abbrev pub unused : List ℕ
+unused = replicate (stateLength - usedLength) 0
+
+-- the image
+unfoldable pub image : State → List ℕ
+image s = used s ++ unused

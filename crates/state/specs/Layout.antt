@@ -5,9 +5,13 @@ use mathlib.Core.List.{List, [], _∷_}
 use lib.ListN.{length, getD}
 use Rattle.state.specs.declared.setup.Setup.{Setup}
 
--- "The first 64 octets hold the state"
+-- "the state part 128 octets" (document 02, Req 01)
 abbrev pub stateLength : ℕ
-stateLength = 64
+stateLength = 128
+
+-- so many of them have fields; the others are 0
+abbrev pub usedLength : ℕ
+usedLength = 64
 
 -- "each length rounded up to a multiple of 8"
 unfoldable pub roundedUp : ℕ → ℕ
@@ -32,9 +36,10 @@ diagnosisRow = 4
 abbrev pub getCfgRow : ℕ
 getCfgRow = 5
 
--- "three output buffers, three input, three parameter, three configuration, two diagnosis, one Get_Cfg"
+-- "three output buffers, three input, three parameter, three configuration, two diagnosis, one Get_Cfg", and "The output set gets a
+-- fourth buffer" (document 02, Req 01)
 abbrev pub rowCounts : List ℕ
-rowCounts = 3 ∷ 3 ∷ 3 ∷ 3 ∷ 2 ∷ 1 ∷ []
+rowCounts = 4 ∷ 3 ∷ 3 ∷ 3 ∷ 2 ∷ 1 ∷ []
 
 -- how many buffers there are of a row
 abbrev pub rowCount : ℕ → ℕ
@@ -97,8 +102,9 @@ allLengths n =
       «get_cfg_len» = n;
     }
 
--- "All six lengths 96 end at 1,504", "all 97 end at 1,624", "All 244 end at 3,784"
+-- "the ends in document 01 grow by one output buffer and 64; all six lengths 244 then end at 4,096"; 88 are the most that fit in 1,536
 pub record BuffersEnd : Type 0 where
-  pub all-96 : endOf (allLengths 96) ≡ 1504
-  pub all-97 : endOf (allLengths 97) ≡ 1624
-  pub all-244 : endOf (allLengths 244) ≡ 3784
+  pub all-88 : endOf (allLengths 88) ≡ 1536
+  pub all-96 : endOf (allLengths 96) ≡ 1664
+  pub all-97 : endOf (allLengths 97) ≡ 1792
+  pub all-244 : endOf (allLengths 244) ≡ 4096

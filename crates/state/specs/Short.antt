@@ -6,17 +6,17 @@ use lib.Dec.{eqb}
 use lib.ListN.{getD}
 use Rattle.state.specs.Well.{within}
 
--- the longest of them: "All six lengths 96 end at 1,504 and fit in 1,536"
+-- the longest of them: all six lengths 88 end at 1,536, the length of the shortest memory
 abbrev pub shortLength : ℕ
-shortLength = 96
+shortLength = 88
 
 -- where the buffers of short lengths end at most
 abbrev pub shortEnd : ℕ
-shortEnd = 1504
+shortEnd = 1536
 
--- where the buffers of any lengths end at most: "All 244 end at 3,784"
+-- where the buffers of any lengths end at most: "all six lengths 244 then end at 4,096"
 abbrev pub lastEnd : ℕ
-lastEnd = 3784
+lastEnd = 4096
 
 -- the word of the lengths where all of them are short
 abbrev pub shortTests : List ℕ → List Bool

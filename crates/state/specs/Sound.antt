@@ -4,7 +4,7 @@ use mathlib.Core.Path.{_≡_}
 use mathlib.Core.Logic.{_⊎_}
 use mathlib.Core.Bool.{not}
 use lib.Dec.{eqb}
-use Rattle.buffers.specs.Triple.{Permutation}
+use Rattle.buffers.specs.Roles.{Permutation}
 use Rattle.telegram.specs.Counts.{ReadCounts, SentCounts}
 use Rattle.state.specs.declared.setup.Setup.{Setup}
 use Rattle.state.specs.declared.control.Diagnosis.{Diagnosis}
@@ -56,13 +56,13 @@ pub record Sound (s : State) : Type 0 where
   -- Start took its setup
   pub setup : Ranged (s .setup)
   -- the roles of the output set are a permutation
-  pub outputs : Permutation (s .outputs .set .place)
+  pub outputs : Permutation 4 (s .outputs .set .place)
   -- so are those of the input set
-  pub inputs : Permutation (s .inputs .place)
+  pub inputs : Permutation 3 (s .inputs .place)
   -- of the parameter set
-  pub parameters : Permutation (s .parameters .set .place)
+  pub parameters : Permutation 3 (s .parameters .set .place)
   -- and of the configuration set
-  pub configuration : Permutation (s .configuration .set .place)
+  pub configuration : Permutation 3 (s .configuration .set .place)
   -- parameters have 7 octets to the set length
   pub parameter-counts : SetsCounted 7 (s .setup .«parameter_len») (s .parameters)
   -- and a configuration 1 to the set length
@@ -73,5 +73,5 @@ pub record Sound (s : State) : Type 0 where
   pub reading : ReadCounts (s .incoming .reader)
   -- the reply counts its data octets and those that were sent
   pub sending : SentCounts (s .reply .sender)
-  -- the buffer that a reply leaves from is one of three
-  pub place : s .reply .place ≤ 2
+  -- the output buffer that a reply leaves from is one of four
+  pub place : s .reply .place ≤ 3

@@ -6,6 +6,7 @@ use lib.ListN.{replicate}
 use lib.Dec.{ltb}
 use Rattle.buffers.specs.Events.{noEvents}
 use Rattle.buffers.specs.Triple.{initial}
+use Rattle.buffers.specs.Quad as quad
 use Rattle.octets.specs.Part.{pasted}
 use Rattle.telegram.specs.Reading.{off}
 use Rattle.telegram.specs.Sending.{empty}
@@ -65,7 +66,6 @@ firstControl =
           record {
             «prm_fault» = false;
             «cfg_fault» = false;
-            «not_supported» = false;
             «ext_diag» = false;
             «stat_diag» = false;
             overflow = false;
@@ -75,6 +75,7 @@ firstControl =
       events = noEvents;
       noted = false;
       diagnosis = record { count = 6; «delayed_count» = 0; «delayed_flags» = 0 };
+      modes = record { sync = false; freeze = false; «sync_allowed» = false; «freeze_allowed» = false };
     }
 
 -- nothing shown, nothing waits
@@ -97,7 +98,7 @@ initialState s =
     record {
       setup = s;
       control = firstControl;
-      outputs = record { set = initial; zeros = false };
+      outputs = record { set = quad.initial; zeros = false };
       inputs = initial;
       parameters = noSets;
       configuration = noSets;

@@ -10,9 +10,10 @@ use Rattle.telegram.specs.declared.reader.Reader.{Reader}
 use Rattle.telegram.specs.declared.sender.Stage.{Stage}
 use Rattle.telegram.specs.declared.sender.Sender.{Sender}
 use Rattle.buffers.specs.declared.triple.Triple.{Triple}
-use Rattle.buffers.specs.Number.{numbered}
+use Rattle.buffers.specs.Number.{numbered, numbered4}
 use Rattle.state.specs.declared.setup.Setup.{Setup}
 use Rattle.state.specs.declared.control.Flags.{Flags}
+use Rattle.state.specs.declared.control.Modes.{Modes}
 use Rattle.state.specs.declared.control.Diagnosis.{Diagnosis}
 use Rattle.state.specs.declared.control.Control.{Control}
 use Rattle.state.specs.declared.state.Outputs.{Outputs}
@@ -55,13 +56,16 @@ flagsIn x =
     record {
       «prm_fault» = odd x;
       «cfg_fault» = bitAt x 2;
-      «not_supported» = bitAt x 4;
       «ext_diag» = bitAt x 8;
       «stat_diag» = bitAt x 16;
       overflow = bitAt x 32;
       «diag_flag» = bitAt x 64;
       «parameters_good» = bitAt x 128;
     }
+
+-- the modes of an octet
+abbrev pub modesIn : ℕ → Modes
+modesIn x = record { sync = odd x; freeze = bitAt x 2; «sync_allowed» = bitAt x 4; «freeze_allowed» = bitAt x 8 }
 
 -- octets 56, 57 and 26
 abbrev pub diagnosisIn : List ℕ → Diagnosis
@@ -78,13 +82,14 @@ controlIn l =
       watchdog = record { reload = wordAt l 44; remaining = wordAt l 42 };
       flags = flagsIn (getD l 3 0);
       events = record { word = wordAt l 4 };
-      noted = eqb (getD l 27 0) 1;
+      noted = bitAt (getD l 3 0) 4;
       diagnosis = diagnosisIn l;
+      modes = modesIn (getD l 27 0);
     }
 
--- the output set of an octet
-abbrev pub outputsIn : ℕ → Outputs
-outputsIn x = record { set = numbered (x / 4) (odd x); zeros = bitAt x 2 }
+-- the output set of its roles and its marks
+abbrev pub outputsIn : ℕ → ℕ → Outputs
+outputsIn roles marks = record { set = numbered4 roles (odd marks) (bitAt marks 4); zeros = bitAt marks 2 }
 
 -- the input set of an octet
 abbrev pub inputsIn : ℕ → Triple
@@ -154,7 +159,7 @@ unpacked l =
     record {
       setup = setupIn l (wordAt l 46);
       control = controlIn l;
-      outputs = outputsIn (getD l 22 0);
+      outputs = outputsIn (getD l 22 0) (getD l 29 0);
       inputs = inputsIn (getD l 23 0);
       parameters = setsIn l 24 58;
       configuration = setsIn l 25 60;

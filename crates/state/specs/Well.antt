@@ -5,6 +5,8 @@ use mathlib.Core.List.{List, [], _∷_}
 use lib.Dec.{leb, eqb}
 use lib.ListN.{getD}
 use Rattle.state.specs.declared.setup.Setup.{Setup}
+use Rattle.state.specs.Image.{unused}
+use Rattle.state.specs.Layout.{usedLength}
 use Rattle.state.specs.Unpack.{setupIn}
 
 -- a and each of l
@@ -72,10 +74,10 @@ lineTests m =
     ∷ []
 
 -- the most that the codes may be, octets 16 to 31: of the reply its kind, stage, what was drawn and the place; the address, the
--- phase, the output set, the input set; the parameter and the configuration set, the flags of a delayed diagnosis, the note of a
--- clear, which diagnosis buffer is the controller's, an octet that is not used, the kind and the phase of the telegram that is read
+-- phase, the roles of the outputs, the input set; the parameter and the configuration set, the flags of a delayed diagnosis, the modes,
+-- which diagnosis buffer is the controller's, the marks of the outputs, the kind and the phase of the telegram that is read
 abbrev pub codeLimits : List ℕ
-codeLimits = 3 ∷ 10 ∷ 8 ∷ 2 ∷ 126 ∷ 2 ∷ 23 ∷ 11 ∷ 5 ∷ 5 ∷ 7 ∷ 1 ∷ 1 ∷ 0 ∷ 3 ∷ 12 ∷ []
+codeLimits = 3 ∷ 10 ∷ 8 ∷ 3 ∷ 126 ∷ 2 ∷ 23 ∷ 11 ∷ 5 ∷ 5 ∷ 7 ∷ 15 ∷ 1 ∷ 7 ∷ 3 ∷ 12 ∷ []
 
 -- the octets from i on, each against its limit
 abbrev pub limitTests : List ℕ → ℕ → List ℕ → List Bool
@@ -86,9 +88,13 @@ limitTests m i (limit ∷ limits) = leb (getD m i 0) limit ∷ limitTests m (suc
 abbrev pub codeTests : List ℕ → List Bool
 codeTests m = limitTests m 16 codeLimits
 
+-- the octets 64 to 127, which are not used
+abbrev pub unusedTests : List ℕ → List Bool
+unusedTests m = limitTests m usedLength unused
+
 -- all of them
 abbrev pub imageTests : List ℕ → List Bool
-imageTests m = all (countTests m) ∷ all (lineTests m) ∷ all (codeTests m) ∷ all (lengthsTests m) ∷ []
+imageTests m = all (countTests m) ∷ all (lineTests m) ∷ all (codeTests m) ∷ all (unusedTests m) ∷ all (lengthsTests m) ∷ []
 
 -- the octets are the image of a sound state
 unfoldable pub wellImage : List ℕ → Bool

@@ -5,6 +5,12 @@ use Rattle.buffers.specs.declared.events.Events.{Events}
 use Rattle.buffers.specs.declared.triple.Triple.{Triple}
 use Rattle.telegram.specs.declared.sender.Sender.{Sender}
 use Rattle.telegram.specs.Reading.{readTo}
+use Rattle.state.specs.declared.setup.Setup.{Setup}
+use Rattle.state.specs.declared.control.Phase.{Phase}
+use Rattle.state.specs.declared.control.Watchdog.{Watchdog}
+use Rattle.state.specs.declared.control.Flags.{Flags}
+use Rattle.state.specs.declared.control.Diagnosis.{Diagnosis}
+use Rattle.state.specs.declared.control.Modes.{Modes}
 use Rattle.state.specs.declared.control.Control.{Control}
 use Rattle.state.specs.declared.state.Outputs.{Outputs}
 use Rattle.state.specs.declared.state.Sets.{Sets}
@@ -12,118 +18,45 @@ use Rattle.state.specs.declared.state.Incoming.{Incoming}
 use Rattle.state.specs.declared.state.Reply.{Reply}
 use Rattle.state.specs.declared.state.State.{State}
 
--- with one field changed
-abbrev pub withControl : State → Control → State
-withControl s x =
+-- a state of its parts
+abbrev stateOf : Setup → Control → Outputs → Triple → Sets → Sets → Bool → Incoming → Reply → State
+stateOf setup control outputs inputs parameters configuration swapped incoming reply =
     record {
-      setup = s .setup;
-      control = x;
-      outputs = s .outputs;
-      inputs = s .inputs;
-      parameters = s .parameters;
-      configuration = s .configuration;
-      swapped = s .swapped;
-      incoming = s .incoming;
-      reply = s .reply;
+      setup = setup;
+      control = control;
+      outputs = outputs;
+      inputs = inputs;
+      parameters = parameters;
+      configuration = configuration;
+      swapped = swapped;
+      incoming = incoming;
+      reply = reply;
     }
+
+-- with one part changed
+abbrev pub withControl : State → Control → State
+withControl s x = stateOf (s .setup) x (s .outputs) (s .inputs) (s .parameters) (s .configuration) (s .swapped) (s .incoming) (s .reply)
 
 abbrev pub withOutputs : State → Outputs → State
-withOutputs s x =
-    record {
-      setup = s .setup;
-      control = s .control;
-      outputs = x;
-      inputs = s .inputs;
-      parameters = s .parameters;
-      configuration = s .configuration;
-      swapped = s .swapped;
-      incoming = s .incoming;
-      reply = s .reply;
-    }
+withOutputs s x = stateOf (s .setup) (s .control) x (s .inputs) (s .parameters) (s .configuration) (s .swapped) (s .incoming) (s .reply)
 
 abbrev pub withInputs : State → Triple → State
-withInputs s x =
-    record {
-      setup = s .setup;
-      control = s .control;
-      outputs = s .outputs;
-      inputs = x;
-      parameters = s .parameters;
-      configuration = s .configuration;
-      swapped = s .swapped;
-      incoming = s .incoming;
-      reply = s .reply;
-    }
+withInputs s x = stateOf (s .setup) (s .control) (s .outputs) x (s .parameters) (s .configuration) (s .swapped) (s .incoming) (s .reply)
 
 abbrev pub withParameters : State → Sets → State
-withParameters s x =
-    record {
-      setup = s .setup;
-      control = s .control;
-      outputs = s .outputs;
-      inputs = s .inputs;
-      parameters = x;
-      configuration = s .configuration;
-      swapped = s .swapped;
-      incoming = s .incoming;
-      reply = s .reply;
-    }
+withParameters s x = stateOf (s .setup) (s .control) (s .outputs) (s .inputs) x (s .configuration) (s .swapped) (s .incoming) (s .reply)
 
 abbrev pub withConfiguration : State → Sets → State
-withConfiguration s x =
-    record {
-      setup = s .setup;
-      control = s .control;
-      outputs = s .outputs;
-      inputs = s .inputs;
-      parameters = s .parameters;
-      configuration = x;
-      swapped = s .swapped;
-      incoming = s .incoming;
-      reply = s .reply;
-    }
+withConfiguration s x = stateOf (s .setup) (s .control) (s .outputs) (s .inputs) (s .parameters) x (s .swapped) (s .incoming) (s .reply)
 
 abbrev pub withSwapped : State → Bool → State
-withSwapped s x =
-    record {
-      setup = s .setup;
-      control = s .control;
-      outputs = s .outputs;
-      inputs = s .inputs;
-      parameters = s .parameters;
-      configuration = s .configuration;
-      swapped = x;
-      incoming = s .incoming;
-      reply = s .reply;
-    }
+withSwapped s x = stateOf (s .setup) (s .control) (s .outputs) (s .inputs) (s .parameters) (s .configuration) x (s .incoming) (s .reply)
 
 abbrev pub withIncoming : State → Incoming → State
-withIncoming s x =
-    record {
-      setup = s .setup;
-      control = s .control;
-      outputs = s .outputs;
-      inputs = s .inputs;
-      parameters = s .parameters;
-      configuration = s .configuration;
-      swapped = s .swapped;
-      incoming = x;
-      reply = s .reply;
-    }
+withIncoming s x = stateOf (s .setup) (s .control) (s .outputs) (s .inputs) (s .parameters) (s .configuration) (s .swapped) x (s .reply)
 
 abbrev pub withReply : State → Reply → State
-withReply s x =
-    record {
-      setup = s .setup;
-      control = s .control;
-      outputs = s .outputs;
-      inputs = s .inputs;
-      parameters = s .parameters;
-      configuration = s .configuration;
-      swapped = s .swapped;
-      incoming = s .incoming;
-      reply = x;
-    }
+withReply s x = stateOf (s .setup) (s .control) (s .outputs) (s .inputs) (s .parameters) (s .configuration) (s .swapped) (s .incoming) x
 
 -- with what a data octet changes of the telegram that is coming: how many were read, the checksum and the first two
 abbrev pub withData : State → ℕ → ℕ → ℕ → ℕ → State
@@ -140,52 +73,40 @@ abbrev pub withOutline : State → Reply → State
 withOutline s r =
     withReply s (record { drawn = r .drawn; sender = s .reply .sender; place = r .place; header = r .header })
 
+-- a control part of its parts
+abbrev pub controlOf : Phase → ℕ → ℕ → ℕ → Watchdog → Flags → Events → Bool → Diagnosis → Modes → Control
+controlOf phase owner group stored watchdog flags events noted diagnosis modes =
+    record {
+      phase = phase;
+      owner = owner;
+      group = group;
+      stored = stored;
+      watchdog = watchdog;
+      flags = flags;
+      events = events;
+      noted = noted;
+      diagnosis = diagnosis;
+      modes = modes;
+    }
+
 -- with the control part but for the events and the ticks that remain
 abbrev pub withStanding : State → Control → State
 withStanding s c =
     withControl s
-    (record {
-      phase = c .phase;
-      owner = c .owner;
-      group = c .group;
-      stored = c .stored;
-      watchdog = record { reload = c .watchdog .reload; remaining = s .control .watchdog .remaining };
-      flags = c .flags;
-      events = s .control .events;
-      noted = c .noted;
-      diagnosis = c .diagnosis;
-    })
+    (controlOf (c .phase) (c .owner) (c .group) (c .stored)
+    (record { reload = c .watchdog .reload; remaining = s .control .watchdog .remaining }) (c .flags) (s .control .events) (c .noted) (c .diagnosis)
+    (c .modes))
 
 -- with the events
 abbrev pub withEventWord : State → Events → State
 withEventWord s x =
     let c = s .control in
-    withControl s
-    (record {
-      phase = c .phase;
-      owner = c .owner;
-      group = c .group;
-      stored = c .stored;
-      watchdog = c .watchdog;
-      flags = c .flags;
-      events = x;
-      noted = c .noted;
-      diagnosis = c .diagnosis;
-    })
+    withControl s (controlOf (c .phase) (c .owner) (c .group) (c .stored) (c .watchdog) (c .flags) x (c .noted) (c .diagnosis) (c .modes))
 
 -- with the ticks that remain of the watchdog
 abbrev pub withTicks : State → ℕ → State
 withTicks s n =
     let c = s .control in
     withControl s
-    (record {
-      phase = c .phase;
-      owner = c .owner;
-      group = c .group;
-      stored = c .stored;
-      watchdog = record { reload = c .watchdog .reload; remaining = n };
-      flags = c .flags;
-      events = c .events;
-      noted = c .noted;
-      diagnosis = c .diagnosis;
-    })
+    (controlOf (c .phase) (c .owner) (c .group) (c .stored) (record { reload = c .watchdog .reload; remaining = n }) (c .flags) (c .events) (c .noted)
+    (c .diagnosis) (c .modes))

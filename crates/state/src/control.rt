@@ -18,12 +18,19 @@ pub struct Watchdog {
 pub struct Flags {
     pub prm_fault: bool,
     pub cfg_fault: bool,
-    pub not_supported: bool,
     pub ext_diag: bool,
     pub stat_diag: bool,
     pub overflow: bool,
     pub diag_flag: bool,
     pub parameters_good: bool,
+}
+
+// Sync and freeze: whether each mode is on, and whether Set_Prm allowed it.
+pub struct Modes {
+    pub sync: bool,
+    pub freeze: bool,
+    pub sync_allowed: bool,
+    pub freeze_allowed: bool,
 }
 
 // How many octets diagnosis has, and a new diagnosis that is delayed: its count, 0 where none is, and its flags.
@@ -46,6 +53,7 @@ pub struct Control {
     // a clear waits until the line is idle
     pub noted: bool,
     pub diagnosis: Diagnosis,
+    pub modes: Modes,
 }
 
 impl Control {

@@ -1,5 +1,7 @@
 // The image of a state: the octets that hold it, laid out one by one.
 use crate::control::Flags;
+use crate::control::Modes;
+use crate::layout;
 use crate::number::drawn_number;
 use crate::number::kind_number;
 use crate::number::phase_number;
@@ -13,7 +15,7 @@ ghost use mathlib.Core.List.{_++_};
 ghost use Prim.Native.Nat.{_≤_, _/_, _%_};
 ghost use lib.ListN.{length, drop};
 ghost use Rattle.state.specs.Layout.{stateLength};
-ghost use Rattle.state.specs.Image.{bitOf, flagsOf, outputsCode, inputsCode, image};
+ghost use Rattle.state.specs.Image.{bitOf, flagsOf, modesOf, marksOf, inputsCode, used, image};
 
 // A mark as a number.
 pub fn bit(b: bool) -> u8
@@ -36,13 +38,13 @@ pub fn high(word: u16) -> u8
     (word / 256) as u8
 }
 
-// The flags in one octet.
-pub fn flags(f: Flags) -> u8
-    ensures { λ r. ⌜ r ≡ flagsOf f ⌝ }
+// The flags and the note of a clear in one octet.
+pub fn flags(f: Flags, noted: bool) -> u8
+    ensures { λ r. ⌜ r ≡ flagsOf f noted ⌝ }
 {
     bit(f.prm_fault)
         + 2 * bit(f.cfg_fault)
-        + 4 * bit(f.not_supported)
+        + 4 * bit(noted)
         + 8 * bit(f.ext_diag)
         + 16 * bit(f.stat_diag)
         + 32 * bit(f.overflow)
@@ -50,11 +52,18 @@ pub fn flags(f: Flags) -> u8
         + 128 * bit(f.parameters_good)
 }
 
-// The output set in one octet: its roles, whether they are zeros by the station, and whether they are new.
-pub fn outputs_code(o: Outputs) -> u8
-    ensures { λ r. ⌜ r ≡ outputsCode o ⌝ }
+// The modes in one octet.
+pub fn modes(m: Modes) -> u8
+    ensures { λ r. ⌜ r ≡ modesOf m ⌝ }
 {
-    4 * o.set.number() + 2 * bit(o.zeros) + bit(o.set.fresh)
+    bit(m.sync) + 2 * bit(m.freeze) + 4 * bit(m.sync_allowed) + 8 * bit(m.freeze_allowed)
+}
+
+// The marks of the output set in one octet: whether it is new, whether it is zeros by the station, whether something is held back.
+pub fn output_marks(o: Outputs) -> u8
+    ensures { λ r. ⌜ r ≡ marksOf o ⌝ }
+{
+    bit(o.set.fresh) + 2 * bit(o.zeros) + 4 * bit(o.set.withheld)
 }
 
 // The input set in one octet: its roles, and whether next is new.
@@ -64,9 +73,9 @@ pub fn inputs_code(t: Triple) -> u8
     2 * t.number() + bit(t.fresh)
 }
 
-// The octets in their order.
+// The octets that are used, in their order.
 pub fn octets(s: State) -> [u8; 64]
-    ensures { λ r. ⌜ r ≡ image s ⌝ }
+    ensures { λ r. ⌜ r ≡ used s ⌝ }
 {
     let control = s.control;
     let phase = control.phase;
@@ -83,7 +92,7 @@ pub fn octets(s: State) -> [u8; 64]
         control.owner,
         control.group,
         control.stored,
-        flags(control.flags),
+        flags(control.flags, control.noted),
         low(control.events.word),
         high(control.events.word),
         reply.header.status1,
@@ -102,14 +111,14 @@ pub fn octets(s: State) -> [u8; 64]
         reply.place,
         s.setup.address,
         phase_number(phase),
-        outputs_code(s.outputs),
+        s.outputs.set.number(),
         inputs_code(s.inputs),
         s.parameters.set.number(),
         s.configuration.set.number(),
         control.diagnosis.delayed_flags,
-        bit(control.noted),
+        modes(control.modes),
         bit(s.swapped),
-        0,
+        output_marks(s.outputs),
         kind_number(reading_kind),
         reading_number(reading),
         reader.count,
@@ -154,4 +163,9 @@ pub fn save(s: State, mem: &mut [u8])
 {
     let a = octets(s);
     octets::copy(&a, mem);
+    octets::clear_at(
+        mem,
+        layout::USED_LENGTH,
+        layout::STATE_LENGTH - layout::USED_LENGTH,
+    );
 }

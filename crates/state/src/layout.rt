@@ -5,16 +5,19 @@ ghost use Prim.Native.Nat.{_≤_, _^_};
 ghost use Rattle.state.specs.Layout.{roundedUp, placeAt, outputsAt, inputsAt, parametersAt, configurationAt, diagnosisAt, getCfgAt, endOf};
 
 // How many octets hold the state.
-pub const STATE_LENGTH: usize = 64;
+pub const STATE_LENGTH: usize = 128;
 
-// Where the buffers end at most if all lengths are at most 96.
-pub const SHORT_END: usize = 1504;
+// How many of them have fields; the others are 0.
+pub const USED_LENGTH: usize = 64;
+
+// Where the buffers end at most if all lengths are at most 88.
+pub const SHORT_END: usize = 1536;
 
 // Where they end at most with any lengths.
-pub const LAST_END: usize = 3784;
+pub const LAST_END: usize = 4096;
 
 // How many output buffers there are,
-pub const OUTPUT_BUFFERS: u8 = 3;
+pub const OUTPUT_BUFFERS: u8 = 4;
 
 // how many for inputs,
 pub const INPUT_BUFFERS: u8 = 3;

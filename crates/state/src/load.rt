@@ -2,6 +2,7 @@
 use crate::control::Control;
 use crate::control::Diagnosis;
 use crate::control::Flags;
+use crate::control::Modes;
 use crate::control::Watchdog;
 use crate::number::drawn_numbered;
 use crate::number::kind_numbered;
@@ -16,6 +17,7 @@ use crate::state::Reply;
 use crate::state::Sets;
 use crate::state::State;
 use buffers::events::Events;
+use buffers::quad::Quad;
 use buffers::triple::Triple;
 use telegram::Kind;
 use telegram::reader;
@@ -26,7 +28,7 @@ ghost use mathlib.Core.Path.{_≡_};
 ghost use Prim.Native.Nat.{_+_, _≤_, _<_};
 ghost use lib.ListN.{length};
 ghost use Rattle.state.specs.Layout.{stateLength};
-ghost use Rattle.state.specs.Unpack.{wordAt, setupIn, flagsIn, setsIn, readerIn, senderIn, headerIn, unpacked};
+ghost use Rattle.state.specs.Unpack.{wordAt, setupIn, flagsIn, modesIn, setsIn, readerIn, senderIn, headerIn, unpacked};
 
 // An octet as a word.
 fn wide(octet: u8) -> u16
@@ -75,12 +77,23 @@ fn flags_in(x: u8) -> Flags
     Flags {
         prm_fault: x % 2 == 1,
         cfg_fault: x / 2 % 2 == 1,
-        not_supported: x / 4 % 2 == 1,
         ext_diag: x / 8 % 2 == 1,
         stat_diag: x / 16 % 2 == 1,
         overflow: x / 32 % 2 == 1,
         diag_flag: x / 64 % 2 == 1,
         parameters_good: x / 128 % 2 == 1,
+    }
+}
+
+// The modes of an octet.
+fn modes_in(x: u8) -> Modes
+    ensures { λ r. ⌜ r ≡ modesIn x ⌝ }
+{
+    Modes {
+        sync: x % 2 == 1,
+        freeze: x / 2 % 2 == 1,
+        sync_allowed: x / 4 % 2 == 1,
+        freeze_allowed: x / 8 % 2 == 1,
     }
 }
 
@@ -110,7 +123,7 @@ pub fn noted(mem: &[u8]) -> bool
     requires { ⌜ stateLength ≤ length (now mem) ⌝ }
     ensures { λ r. ⌜ r ≡ unpacked (now (mem .entry)) .control .noted ⌝ }
 {
-    mem[27] == 1
+    mem[3] / 4 % 2 == 1
 }
 
 // The control part.
@@ -130,6 +143,7 @@ pub fn control(mem: &[u8]) -> Control
         events: events(mem),
         noted: noted(mem),
         diagnosis: diagnosis(mem),
+        modes: modes_in(mem[27]),
     }
 }
 
@@ -151,11 +165,11 @@ pub fn outputs(mem: &[u8]) -> Outputs
     requires { ⌜ stateLength ≤ length (now mem) ⌝ }
     ensures { λ r. ⌜ r ≡ unpacked (now (mem .entry)) .outputs ⌝ }
 {
-    let code = mem[22];
-    let set = Triple::numbered(code / 4, code % 2 == 1);
+    let marks = mem[29];
+    let set = Quad::numbered(mem[22], marks % 2 == 1, marks / 4 % 2 == 1);
     Outputs {
         set,
-        zeros: code / 2 % 2 == 1,
+        zeros: marks / 2 % 2 == 1,
     }
 }
 

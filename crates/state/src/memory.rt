@@ -46,5 +46,8 @@ pub fn holds_state(mem: &[u8]) -> bool
     if !well::well_codes(mem) {
         return false;
     }
+    if !well::well_unused(mem) {
+        return false;
+    }
     has_room(mem)
 }

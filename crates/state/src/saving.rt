@@ -6,7 +6,8 @@ use crate::image::flags;
 use crate::image::high;
 use crate::image::inputs_code;
 use crate::image::low;
-use crate::image::outputs_code;
+use crate::image::modes;
+use crate::image::output_marks;
 use crate::number::drawn_number;
 use crate::number::kind_number;
 use crate::number::phase_number;
@@ -122,8 +123,8 @@ fn save_standing(control: Control, mem: &mut [u8])
     ensures { λ _. ⌜ Changes (now (mem .entry)) (now (mem .exit)) (λ s. withStanding s control) ⌝ }
 {
     let phase = control.phase;
-    let packed = flags(control.flags);
-    let noted = bit(control.noted);
+    let packed = flags(control.flags, control.noted);
+    let packed_modes = modes(control.modes);
     mem[21] = phase_number(phase);
     mem[44] = low(control.watchdog.reload);
     mem[45] = high(control.watchdog.reload);
@@ -132,7 +133,7 @@ fn save_standing(control: Control, mem: &mut [u8])
     mem[2] = control.stored;
     mem[3] = packed;
     mem[26] = control.diagnosis.delayed_flags;
-    mem[27] = noted;
+    mem[27] = packed_modes;
     mem[56] = control.diagnosis.count;
     mem[57] = control.diagnosis.delayed_count;
 }
@@ -147,12 +148,14 @@ pub fn save_control(control: Control, mem: &mut [u8])
     save_ticks(control.watchdog.remaining, mem);
 }
 
-// The output set: octet 22.
+// The output set: octets 22 and 29.
 pub fn save_outputs(outputs: Outputs, mem: &mut [u8])
     requires { ⌜ stateLength ≤ length (now mem) ⌝ }
     ensures { λ _. ⌜ Changes (now (mem .entry)) (now (mem .exit)) (λ s. withOutputs s outputs) ⌝ }
 {
-    mem[22] = outputs_code(outputs);
+    let marks = output_marks(outputs);
+    mem[22] = outputs.set.number();
+    mem[29] = marks;
 }
 
 // The input set: octet 23.

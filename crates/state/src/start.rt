@@ -3,6 +3,7 @@ use crate::answer::Refusal;
 use crate::control::Control;
 use crate::control::Diagnosis;
 use crate::control::Flags;
+use crate::control::Modes;
 use crate::control::Phase;
 use crate::control::Watchdog;
 use crate::image;
@@ -16,6 +17,7 @@ use crate::state::Reply;
 use crate::state::Sets;
 use crate::state::State;
 use buffers::events::Events;
+use buffers::quad::Quad;
 use buffers::triple::Triple;
 use telegram::reader::Reader;
 use telegram::sender::Sender;
@@ -104,7 +106,6 @@ fn first_control() -> Control
         flags: Flags {
             prm_fault: false,
             cfg_fault: false,
-            not_supported: false,
             ext_diag: false,
             stat_diag: false,
             overflow: false,
@@ -117,6 +118,12 @@ fn first_control() -> Control
             count: 6,
             delayed_count: 0,
             delayed_flags: 0,
+        },
+        modes: Modes {
+            sync: false,
+            freeze: false,
+            sync_allowed: false,
+            freeze_allowed: false,
         },
     }
 }
@@ -157,7 +164,7 @@ pub fn initial(setup: Setup) -> State
         setup: setup,
         control: first_control(),
         outputs: Outputs {
-            set: Triple::new(),
+            set: Quad::new(),
             zeros: false,
         },
         inputs: Triple::new(),

@@ -1,13 +1,14 @@
 // The whole state that is kept between calls.
 use crate::control::Control;
 use crate::setup::Setup;
+use buffers::quad::Quad;
 use buffers::triple::Triple;
 use telegram::reader::Reader;
 use telegram::sender::Sender;
 
 // The output buffers. zeros: what was published last were zeros by the station.
 pub struct Outputs {
-    pub set: Triple,
+    pub set: Quad,
     pub zeros: bool,
 }
 

@@ -1,13 +1,14 @@
 // Whether the octets of the state part are the image of a sound state. What is nearly always so is tested by words: short lengths, and
 // no set open and no diagnosis delayed. Each test that fails ends the check. The single octets of a word are tested before the word
 // where that can be: of a word that is loaded already the compiler would take the octets by shifts, in the usual case too.
+use crate::layout;
 use ranges::checks;
 ghost use mathlib.Core.Path.{_≡_};
 ghost use Prim.Native.Nat.{_≤_};
 ghost use lib.ListN.{length};
 ghost use Rattle.state.specs.Layout.{stateLength};
 ghost use Rattle.state.specs.Short.{shortTests};
-ghost use Rattle.state.specs.Well.{all, within, noneOr, setCounts, partDone, lengthsTests, setTests, countTests, lineTests, codeTests};
+ghost use Rattle.state.specs.Well.{all, within, noneOr, setCounts, partDone, lengthsTests, setTests, countTests, lineTests, codeTests, unusedTests};
 
 // lo to hi.
 fn within(lo: u8, x: u8, hi: u8) -> bool
@@ -102,7 +103,15 @@ pub fn well_codes(mem: &[u8]) -> bool
     requires { ⌜ stateLength ≤ length (now mem) ⌝ }
     ensures { λ r. ⌜ r ≡ all (codeTests (now (mem .entry))) ⌝ }
 {
-    checks::two_words_within(mem, 16, 0x0b17_027e_0208_0a03, 0x0c03_0001_0107_0505)
+    checks::two_words_within(mem, 16, 0x0b17_027e_0308_0a03, 0x0c03_0701_0f07_0505)
+}
+
+// The octets 64 to 127, which are not used, are 0.
+pub fn well_unused(mem: &[u8]) -> bool
+    requires { ⌜ stateLength ≤ length (now mem) ⌝ }
+    ensures { λ r. ⌜ r ≡ all (unusedTests (now (mem .entry))) ⌝ }
+{
+    checks::nothing_in(mem, layout::USED_LENGTH)
 }
 
 // The lengths, where all of them are short.
@@ -110,7 +119,7 @@ pub fn short_lengths(mem: &[u8]) -> bool
     requires { ⌜ stateLength ≤ length (now mem) ⌝ }
     ensures { λ r. ⌜ r ≡ all (shortTests (now (mem .entry))) ⌝ }
 {
-    checks::word_between(mem, 48, 0x0000_0106_0107_0101, 0x0000_6060_6060_6060)
+    checks::word_between(mem, 48, 0x0000_0106_0107_0101, 0x0000_5858_5858_5858)
 }
 
 // The lengths, one by one.

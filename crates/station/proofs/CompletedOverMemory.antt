@@ -6,13 +6,13 @@ use mathlib.Core.List.{List}
 use lib.Dec.{eqb}
 use Rattle.buffers.specs.declared.events.Events.{Events}
 use Rattle.buffers.specs.declared.triple.Triple.{Triple}
-use Rattle.buffers.specs.Events.{raised, outputsEvent}
-use Rattle.buffers.specs.Triple.{heldOf}
+use Rattle.buffers.specs.Roles.{heldOf}
 use Rattle.telegram.specs.declared.Kind.the-variants.{Sd2}
 use Rattle.telegram.specs.declared.sender.Sender.{Sender}
 use Rattle.telegram.specs.Sending.{sending}
 use Rattle.telegram.proofs.Run.{no-true}
 use Rattle.state.specs.declared.setup.Setup.{Setup}
+use Rattle.state.specs.declared.control.Modes.{Modes}
 use Rattle.state.specs.declared.control.Control.{Control}
 use Rattle.state.specs.declared.state.Drawn.{Drawn}
 use Rattle.state.specs.declared.state.Drawn.the-variants as drawn
@@ -27,23 +27,25 @@ use Rattle.state.proofs.Choice.{either, and-left, and-right}
 use Rattle.state.proofs.Written.{again, onto, then}
 use Rattle.rules.specs.declared.outcome.OutputsDeed.{OutputsDeed}
 use Rattle.rules.specs.declared.outcome.OutputsDeed.the-variants as outputs-deed
+use Rattle.rules.specs.declared.outcome.InputsDeed.{InputsDeed}
 use Rattle.rules.specs.declared.outcome.Outcome.{Outcome}
 use Rattle.rules.specs.declared.request.Request.{Request}
 use Rattle.rules.specs.declared.request.Service.{Service}
 use Rattle.rules.specs.declared.request.Service.the-variants.{Nothing, Status, Reject, GlobalControl, DataExchange, SetPrm, ChkCfg, SlaveDiag, GetCfg, ReadInputs, ReadOutputs}
-use Rattle.rules.specs.Control.{owns, raise}
+use Rattle.rules.specs.Control.{owns, withEvents}
 use Rattle.rules.specs.Diagnosis.{headerOf}
+use Rattle.rules.specs.Modes.{exchangeOutputs, exchangeInputs, announced}
 use Rattle.rules.specs.Replies.{exchangeFc}
 use Rattle.rules.specs.Requests.{masterOf, acts, toStation, refilled, serviceOf}
 use Rattle.rules.specs.Services.{exchanges, goodExchange, serve}
 use Rattle.rules.proofs.GoodExchange.{refilled-exchanges, exchange-good}
 use Rattle.steps.specs.Stepped.{packedAfter}
-use Rattle.steps.specs.Outcome.{openSets, onOutputs, onInputs, onState, onMemory, carried}
+use Rattle.steps.specs.Outcome.{occupied, onOutputs, onInputs, onState, onMemory, carried}
 use Rattle.steps.specs.Reading.{dataIn, outcomeOf, answered}
 use Rattle.steps.specs.Replies.{replyFor}
-use Rattle.station.specs.Completing.{isDataExchange, accepts}
+use Rattle.station.specs.Completing.{isDataExchange, isGoodExchange}
 
--- ---- what comes of an accepted Data_Exchange
+-- ---- what comes of a good Data_Exchange
 
 -- no other service is it
 is-data-exchange : (x : Service) → isDataExchange x ≡ true → x ≡ DataExchange
@@ -59,26 +61,26 @@ is-data-exchange GetCfg e = no-true e
 is-data-exchange ReadInputs e = no-true e
 is-data-exchange ReadOutputs e = no-true e
 
--- accepted is what is good
-accepted-good : (s : State) (m : List ℕ) (r : Request) → accepts s r ≡ true → outcomeOf s m r ≡ goodExchange (refilled (s .setup) (s .control) r)
+-- such a telegram has the outcome of a good Data_Exchange
+exchange-is-good : (s : State) (m : List ℕ) (r : Request) → isGoodExchange s r ≡ true → outcomeOf s m r ≡ goodExchange (refilled (s .setup) (s .control) r)
 unfolding outcomeOf
-accepted-good s m r e =
+exchange-is-good s m r e =
     let g = s .setup in
     let c = s .control in
     let asked = isDataExchange (serviceOf g r) in
     let fits = eqb (r .count) (g .«output_len») in
     let both = and-left (asked && exchanges c r) fits e in
     let service = is-data-exchange (serviceOf g r) (and-left asked (exchanges c r) both) in
-    (λ j. serve (service j) g (refilled g c r) (openSets s) r (dataIn s m))
+    (λ j. serve (service j) g (refilled g c r) (occupied s) r (dataIn s m))
     ∙ exchange-good g (refilled g c r) r (refilled-exchanges g c r ∙ and-right asked (exchanges c r) both) (and-right (asked && exchanges c r) fits e)
 
 -- of the control part only the events and the ticks that remain change
-only-ticks : (s : State) (r : Request)
+only-ticks : (s : State) (r : Request) (e : Events)
     → let k = refilled (s .setup) (s .control) r in
-    withTicks (withEventWord s (raised (k .events) outputsEvent)) (k .watchdog .remaining) .control ≡ raise k outputsEvent
+    withTicks (withEventWord s e) (k .watchdog .remaining) .control ≡ withEvents k e
 unfolding refilled
-only-ticks s r =
-    either (λ (k : Control). withTicks (withEventWord s (raised (k .events) outputsEvent)) (k .watchdog .remaining) .control ≡ raise k outputsEvent)
+only-ticks s r e =
+    either (λ (k : Control). withTicks (withEventWord s e) (k .watchdog .remaining) .control ≡ withEvents k e)
     (acts (s .setup) r && toStation (s .setup) r && owns (s .control) (masterOf r)) refl refl
 
 -- ---- the reply
@@ -88,7 +90,7 @@ abbrev Draws : Drawn → Setup → Control → ℕ → ℕ → Reply → Type 0
 Draws d setup c held master x =
     (t : State) → t .setup ≡ setup → t .control ≡ c → heldOf (t .outputs .set .place) ≡ held → x ≡ replyFor d t master
 
--- that to an accepted Data_Exchange, made of its parts
+-- that to a good Data_Exchange, made of its parts
 pub exchange-drawn : (setup : Setup) (c : Control) (held master fc : ℕ) (sender : Sender) (header : Header) → fc ≡ exchangeFc c
     → sender ≡ sending Sd2 master (setup .address) fc (setup .«input_len») → header ≡ headerOf c
     → Draws drawn.Exchange setup c held master (record { drawn = drawn.Exchange; sender = sender; place = held; header = header })
@@ -100,10 +102,10 @@ exchange-drawn setup c held master fc sender header ef es eh t e f g =
     λ j. record { drawn = drawn.Exchange; sender = sends j; place = sym g j; header = (eh ∙ ap headerOf (sym f)) j }
 
 -- it does not look at the events
-raised-draws : (s : State) (c : Control) (n master : ℕ)
-    → replyFor drawn.Exchange (withControl s c) master ≡ replyFor drawn.Exchange (withControl s (raise c n)) master
+events-draw : (s : State) (c : Control) (e : Events) (master : ℕ)
+    → replyFor drawn.Exchange (withControl s c) master ≡ replyFor drawn.Exchange (withControl s (withEvents c e)) master
 unfolding replyFor headerOf
-raised-draws s c n master = refl
+events-draw s c e master = refl
 
 -- ---- the memory
 
@@ -111,7 +113,13 @@ raised-draws s c n master = refl
 zeros-same : (d : OutputsDeed) (s : State) (i : Incoming) (m : List ℕ) → onMemory d s m ≡ onMemory d (withIncoming s i) m
 zeros-same outputs-deed.Keep s i m = refl
 zeros-same outputs-deed.Publish s i m = refl
+zeros-same outputs-deed.HoldBack s i m = refl
+zeros-same outputs-deed.Release s i m = refl
 zeros-same outputs-deed.Zeros s i m = refl
+
+-- a Data_Exchange writes none
+exchange-leaves : (q : Modes) (s : State) (m : List ℕ) → m ≡ onMemory (exchangeOutputs q) s m
+exchange-leaves q s m = either (λ (d : OutputsDeed). m ≡ onMemory d s m) (q .sync) refl refl
 
 -- the parts as the code has them: the setup and the output set that it read, that set after the deed, the place of the held outputs, the master
 module _ (m : List ℕ) (s : State) (i : Incoming) (r : Request) (setup : Setup) (was outputs : Outputs) (held master : ℕ) (read : setup ≡ s .setup)
@@ -135,32 +143,35 @@ module _ (m : List ℕ) (s : State) (i : Incoming) (r : Request) (setup : Setup)
       onto l n₂ n₃ s₂ (withReply s₂ x) e₂ (p₃ s₂ (again l n₂ s₂ e₂))
       ∙ (λ j. kept (withReply s₂ (replies j)) (zeros-same (o .outputs) s i m j))
 
-  -- an accepted Data_Exchange: the telegram, the events, the ticks that remain, both sets and the reply
-  pub accepted-over : m ≡ kept s m → accepts s r ≡ true → (c control : Control) (inputs brings : Triple) (events : Events) (x : Reply)
-      → c ≡ s .control → control ≡ refilled setup c r → outputs ≡ onOutputs outputs-deed.Publish was → inputs ≡ s .inputs
-      → brings ≡ onInputs outputs-deed.Publish inputs → events ≡ raised (control .events) outputsEvent → Draws drawn.Exchange setup control held master x
+  -- a good Data_Exchange: the telegram, the events, the ticks that remain, both sets and the reply
+  pub exchanged-over : m ≡ kept s m → isGoodExchange s r ≡ true → (c control : Control) (deed : OutputsDeed) (way : InputsDeed) (inputs brings : Triple)
+      (events : Events) (x : Reply) → c ≡ s .control → control ≡ refilled setup c r → deed ≡ exchangeOutputs (control .modes)
+      → outputs ≡ onOutputs deed was → way ≡ exchangeInputs (control .modes) → inputs ≡ s .inputs → brings ≡ onInputs way inputs
+      → events ≡ announced deed (control .events) → Draws drawn.Exchange setup control held master x
       → (n₁ n₂ n₃ n₄ n₅ n₆ : List ℕ) → Changes m n₁ (λ t. withIncoming t i) → Changes n₁ n₂ (λ t. withEventWord t events)
       → Changes n₂ n₃ (λ t. withTicks t (control .watchdog .remaining)) → Changes n₃ n₄ (λ t. withOutputs t outputs)
       → Changes n₄ n₅ (λ t. withInputs t brings) → Changes n₅ n₆ (λ t. withReply t x)
       → n₆ ≡ packedAfter (answered (withIncoming s i) m (outcomeOf s m r) r)
   unfolding carried answered
-  accepted-over front good c control inputs brings events x ec er eo ei eb ev draws n₁ n₂ n₃ n₄ n₅ n₆ p₁ p₂ p₃ p₄ p₅ p₆ =
+  exchanged-over front good c control deed way inputs brings events x ec er ed eo ew ei eb ev draws n₁ n₂ n₃ n₄ n₅ n₆ p₁ p₂ p₃ p₄ p₅ p₆ =
       let k : Control = refilled (s .setup) (s .control) r in
       let t : State = onState (withIncoming s i) (goodExchange k) (r .count) in
       let refills : control ≡ k = er ∙ (λ j. refilled (read j) (ec j) r) in
-      let publishes : outputs ≡ t .outputs = eo ∙ ap (onOutputs outputs-deed.Publish) read-outputs in
-      let raises : events ≡ raised (k .events) outputsEvent = ev ∙ (λ j. raised (refills j .events) outputsEvent) in
+      let does : deed ≡ exchangeOutputs (k .modes) = ed ∙ (λ j. exchangeOutputs (refills j .modes)) in
+      let goes : way ≡ exchangeInputs (k .modes) = ew ∙ (λ j. exchangeInputs (refills j .modes)) in
+      let publishes : outputs ≡ t .outputs = eo ∙ (λ j. onOutputs (does j) (read-outputs j)) in
+      let announces : events ≡ t .control .events = ev ∙ (λ j. announced (does j) (refills j .events)) in
       let replies : x ≡ replyFor drawn.Exchange t (masterOf r) =
-      drawn-for drawn.Exchange control x draws (withControl t k) refl (sym refills) publishes ∙ raised-draws t k outputsEvent (masterOf r)
+      drawn-for drawn.Exchange control x draws (withControl t k) refl (sym refills) publishes ∙ events-draw t k (t .control .events) (masterOf r)
       in
       then m n₅ n₆ _ _ (then m n₄ n₅ _ _ (then m n₃ n₄ _ _ (then m n₂ n₃ _ _ (then m n₁ n₂ _ _ p₁ p₂) p₃) p₄) p₅) p₆ s front
       ∙ (λ j.
       kept
       (record {
         setup = s .setup;
-        control = withTicks (withEventWord s (raises j)) (refills j .watchdog .remaining) .control;
+        control = withTicks (withEventWord s (announces j)) (refills j .watchdog .remaining) .control;
         outputs = publishes j;
-        inputs = (eb ∙ ap (onInputs outputs-deed.Publish) ei) j;
+        inputs = (eb ∙ (λ l. onInputs (goes l) (ei l))) j;
         parameters = s .parameters;
         configuration = s .configuration;
         swapped = s .swapped;
@@ -168,5 +179,6 @@ module _ (m : List ℕ) (s : State) (i : Incoming) (r : Request) (setup : Setup)
         reply = replies j;
       })
       m)
-      ∙ (λ j. kept (withReply (withControl t (only-ticks s r j)) (replyFor drawn.Exchange t (masterOf r))) m)
-      ∙ ap (λ (o : Outcome). packedAfter (answered (withIncoming s i) m o r)) (sym (accepted-good s m r good))
+      ∙ (λ j. kept (withReply (withControl t (only-ticks s r (t .control .events) j)) (replyFor drawn.Exchange t (masterOf r)))
+      (exchange-leaves (k .modes) (withIncoming s i) m j))
+      ∙ ap (λ (o : Outcome). packedAfter (answered (withIncoming s i) m o r)) (sym (exchange-is-good s m r good))

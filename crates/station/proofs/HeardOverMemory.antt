@@ -8,7 +8,8 @@ use lib.Dec.{eqb, ltb}
 use lib.ListN.{take, set}
 use lib.Seq.{take-set-le}
 use borrow.Author.Tests.{not-true}
-use Rattle.buffers.specs.Triple.{fillOf}
+use Rattle.buffers.specs.Roles.{fillOf}
+use Rattle.buffers.specs.Roles as role
 use Rattle.octets.specs.Part.{storedIn}
 use Rattle.telegram.specs.declared.Datum.{Datum}
 use Rattle.telegram.specs.declared.Datum.the-variants.{Number}
@@ -107,13 +108,13 @@ module _ (m : List ℕ) (s : State) (h : Holds m s) where
       let safe = holds-safe m s h in
       one-of (ltb (s .incoming .reader .da) 128) _ _ _
       (stored-behind m (outputsAt (s .setup) (fillOf (s .outputs .set .place))) (s .setup .«output_len») k b
-      (behind outputRow (fillOf (s .outputs .set .place)) (safe .outputs .fill-in)))
+      (behind outputRow (fillOf (s .outputs .set .place)) (safe .outputs .within role.fill (omega arith))))
       (one-of (eqb (s .incoming .reader .dsap) 61) _ _ _
       (stored-behind m (parametersAt (s .setup) (fillOf (s .parameters .set .place))) (s .setup .«parameter_len») k b
-      (behind parameterRow (fillOf (s .parameters .set .place)) (safe .parameters .fill-in)))
+      (behind parameterRow (fillOf (s .parameters .set .place)) (safe .parameters .within role.fill (omega arith))))
       (one-of (eqb (s .incoming .reader .dsap) 62) _ _ _
       (stored-behind m (configurationAt (s .setup) (fillOf (s .configuration .set .place))) (s .setup .«configuration_len») k b
-      (behind configurationRow (fillOf (s .configuration .set .place)) (safe .configuration .fill-in)))
+      (behind configurationRow (fillOf (s .configuration .set .place)) (safe .configuration .within role.fill (omega arith))))
       refl))
 
   -- ---- what the code leaves

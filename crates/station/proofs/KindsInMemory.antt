@@ -8,7 +8,8 @@ use lib.Dec.{eqb, leb, ltb}
 use lib.ListN.{length, take, set}
 use lib.Seq.{take-set-le}
 use borrow.Author.Tests.{ltb-true}
-use Rattle.buffers.specs.Triple.{heldOf}
+use Rattle.buffers.specs.Roles.{heldOf}
+use Rattle.buffers.specs.Roles as role
 use Rattle.state.specs.declared.answer.Refusal.the-variants.{Range, Absent}
 use Rattle.state.specs.declared.state.State.{State}
 use Rattle.state.specs.Layout as layout
@@ -54,10 +55,10 @@ module _ (s : State) (m : List ℕ) (kind index : ℕ) (safe : Safe s m) where
           (cond b₄ (startOf (s .setup) inputRow (heldOf (s .inputs .place)))
           (startOf (s .setup) diagnosisRow (userPlace (s .swapped))))))
           + index)
-      go true b₂ b₃ b₄ b₅ f = in-buffer outputRow (heldOf (s .outputs .set .place)) (safe .outputs .held-in) f
-      go false true b₃ b₄ b₅ f = in-buffer parameterRow (heldOf (s .parameters .set .place)) (safe .parameters .held-in) f
-      go false false true b₄ b₅ f = in-buffer configurationRow (heldOf (s .configuration .set .place)) (safe .configuration .held-in) f
-      go false false false true b₅ f = in-buffer inputRow (heldOf (s .inputs .place)) (safe .inputs .held-in) f
+      go true b₂ b₃ b₄ b₅ f = in-buffer outputRow (heldOf (s .outputs .set .place)) (safe .outputs .within role.held (omega arith)) f
+      go false true b₃ b₄ b₅ f = in-buffer parameterRow (heldOf (s .parameters .set .place)) (safe .parameters .within role.held (omega arith)) f
+      go false false true b₄ b₅ f = in-buffer configurationRow (heldOf (s .configuration .set .place)) (safe .configuration .within role.held (omega arith)) f
+      go false false false true b₅ f = in-buffer inputRow (heldOf (s .inputs .place)) (safe .inputs .within role.held (omega arith)) f
       go false false false false true f = in-buffer diagnosisRow (userPlace (s .swapped)) (user-in (s .swapped)) f
       go false false false false false f = let z : index < 0 = ltb-true index 0 f in absurd (omega arith)
 

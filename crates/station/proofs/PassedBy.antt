@@ -3,7 +3,7 @@ use Prim.Native.Nat.{ℕ}
 use mathlib.Core.Path.{_≡_, sym, ap, _∙_}
 use mathlib.Core.Bool.{false, cond, _&&_}
 use mathlib.Core.List.{List}
-use Rattle.buffers.specs.Triple.{heldOf}
+use Rattle.buffers.specs.Roles.{heldOf}
 use Rattle.telegram.specs.Sending.{empty}
 use Rattle.state.specs.declared.state.Drawn.the-variants as drawn
 use Rattle.state.specs.declared.state.Incoming.{Incoming}
@@ -22,7 +22,7 @@ use Rattle.rules.specs.Phases.{drawing}
 use Rattle.rules.specs.Requests.{masterOf, acts, toStation, refilled, functionService, serviceOf}
 use Rattle.rules.specs.Services.{serve}
 use Rattle.steps.specs.Stepped.{packedAfter}
-use Rattle.steps.specs.Outcome.{openSets, carried}
+use Rattle.steps.specs.Outcome.{occupied, carried}
 use Rattle.steps.specs.Replies.{replyFor}
 use Rattle.steps.specs.Reading.{dataIn, outcomeOf, answered}
 
@@ -36,7 +36,7 @@ module _ (s : State) (m : List ℕ) (r : Request) (e : acts (s .setup) r ≡ fal
       λ j.
       serve (cond (e j) (functionService r) Nothing) g
       (cond (e j && toStation g r && owns c (masterOf r)) (withWatchdog c (record { reload = c .watchdog .reload; remaining = c .watchdog .reload })) c)
-      (openSets s)
+      (occupied s)
       r
       (dataIn s m)
 

@@ -7,7 +7,8 @@ use mathlib.Core.Bool.{Bool, true, false, _||_}
 use mathlib.Core.List.{List}
 use lib.Dec.{eqb}
 use lib.ListN.{length}
-use Rattle.buffers.specs.Triple.{fillOf}
+use Rattle.buffers.specs.Roles.{fillOf}
+use Rattle.buffers.specs.Roles as role
 use Rattle.telegram.specs.declared.sender.Sender.{Sender}
 use Rattle.telegram.specs.declared.sender.Sent.{Sent}
 use Rattle.telegram.specs.Reading.{start}
@@ -34,7 +35,7 @@ use Rattle.state.proofs.Damage.{fronted-same}
 module _ (m : List ℕ) (s : State) (h : Holds m s) where
   -- the inputs that are sent
   pub inputs-room : inputsAt (s .setup) (fillOf (s .inputs .place)) + s .setup .«input_len» ≤ length m
-  inputs-room = buffer-room s m inputRow (fillOf (s .inputs .place)) (holds-safe m s h) (holds-safe m s h .inputs .fill-in)
+  inputs-room = buffer-room s m inputRow (fillOf (s .inputs .place)) (holds-safe m s h) (holds-safe m s h .inputs .within role.fill (omega arith))
 
   -- the outputs that the reply leaves from
   pub outputs-room : outputsAt (s .setup) (s .reply .place) + s .setup .«output_len» ≤ length m

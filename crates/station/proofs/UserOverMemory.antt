@@ -4,8 +4,8 @@ use mathlib.Core.Path.{_≡_, refl, sym, ap, _∙_}
 use mathlib.Core.Bool.{Bool, true, false, cond, not, _&&_}
 use mathlib.Core.List.{List}
 use lib.Dec.{eqb, leb}
-use Rattle.buffers.specs.declared.triple.Triple.{Triple}
-use Rattle.buffers.specs.Triple.{taken}
+use Rattle.buffers.specs.declared.quad.Quad.{Quad}
+use Rattle.buffers.specs.Quad.{taken}
 use Rattle.state.specs.declared.answer.Answer.the-variants.{Value}
 use Rattle.state.specs.declared.control.Control.{Control}
 use Rattle.state.specs.declared.setup.Setup.{Setup}
@@ -40,7 +40,7 @@ module _ (s : State) (m : List ℕ) where
     takes-none e front = rw (seen e) (record { answers = refl; leaves = front })
 
     -- they are
-    pub takes-new : not (outputs .set .fresh) ≡ false → {set : Triple} {k : ℕ} {n : List ℕ} → set ≡ taken (outputs .set)
+    pub takes-new : not (outputs .set .fresh) ≡ false → {set : Quad} {k : ℕ} {n : List ℕ} → set ≡ taken (outputs .set)
         → k ≡ cond (outputs .zeros) 2 1 → n ≡ kept (withOutputs s (record { set = set; zeros = outputs .zeros })) m
         → Meets (packed m (takeOutputs s m)) (Value k) n
     unfolding takeOutputs

@@ -22,6 +22,6 @@ isDataExchange GetCfg = false
 isDataExchange ReadInputs = false
 isDataExchange ReadOutputs = false
 
--- a telegram is a Data_Exchange that is accepted: from the owner in DATA_EXCH, with as many octets as there are outputs
-abbrev pub accepts : State → Request → Bool
-accepts s r = isDataExchange (serviceOf (s .setup) r) && exchanges (s .control) r && eqb (r .count) (s .setup .«output_len»)
+-- a telegram is a good Data_Exchange: from the owner in DATA_EXCH, with as many octets as there are outputs
+abbrev pub isGoodExchange : State → Request → Bool
+isGoodExchange s r = isDataExchange (serviceOf (s .setup) r) && exchanges (s .control) r && eqb (r .count) (s .setup .«output_len»)

@@ -1,20 +1,21 @@
-// The last octet of a telegram over the memory that holds the state, where nothing waits for the end of the line's business. An accepted
+// The last octet of a telegram over the memory that holds the state, where nothing waits for the end of the line's business. A good
 // Data_Exchange, which nearly every telegram to the station is, and a telegram that does not act, which is nearly every other one on the
 // line, have ways of their own.
 use crate::reading::prm_at;
 use crate::reading::request_by;
 use crate::replies::draw;
-use buffers::events::Events;
 use outcomes::carry::is_open;
 use outcomes::carry::on_inputs;
 use outcomes::carry::on_outputs;
 use outcomes::over::carry_over;
 use rules::diagnosis::header_of;
+use rules::modes::announced;
+use rules::modes::exchange_inputs;
+use rules::modes::exchange_outputs;
 use rules::outcome::Outcome;
-use rules::outcome::OutputsDeed;
 use rules::replies::exchange_fc;
 use rules::request::Data;
-use rules::request::OpenSets;
+use rules::request::Occupied;
 use rules::request::Prm;
 use rules::request::Request;
 use rules::request::Service;
@@ -41,7 +42,7 @@ use telegram::Kind;
 use telegram::sender::Sender;
 ghost use mathlib.Core.Bool.{true, false};
 ghost use mathlib.Core.Path.{_≡_};
-ghost use Rattle.buffers.specs.Triple.{heldOf};
+ghost use Rattle.buffers.specs.Roles.{heldOf};
 ghost use Rattle.state.specs.declared.state.State.{State};
 ghost use Rattle.state.specs.Memory.{Holds};
 ghost use Rattle.state.specs.Unpack.{unpacked};
@@ -50,7 +51,7 @@ ghost use Rattle.rules.specs.Requests.{acts};
 ghost use Rattle.steps.specs.Stepped.{packedAfter};
 ghost use Rattle.steps.specs.Replies.{replyFor};
 ghost use Rattle.steps.specs.Reading.{requestBy, prmIn, outcomeOf, answered};
-ghost use Rattle.station.specs.Completing.{isDataExchange, accepts};
+ghost use Rattle.station.specs.Completing.{isDataExchange, isGoodExchange};
 
 // The octets of Set_Prm in the parameters' fill buffer.
 fn prm_in(mem: &[u8]) -> Prm
@@ -71,16 +72,18 @@ fn outcome_in(mem: &[u8], r: Request) -> Outcome
     let incoming = load::incoming(mem);
     let service = service_of(setup, r);
     let control = refilled(setup, load::control(mem), r);
-    let sets = OpenSets {
+    let outputs = load::outputs(mem);
+    let occupied = Occupied {
         parameters: is_open(load::parameters(mem)),
         configuration: is_open(load::configuration(mem)),
+        outputs: outputs.set.withheld,
     };
     let octets = Data {
         prm: prm_in(mem),
         first: incoming.first,
         second: incoming.second,
     };
-    serve(service, setup, control, sets, r, octets)
+    serve(service, setup, control, occupied, r, octets)
 }
 
 // An outcome carried out, the telegram read to its end, and the reply drawn.
@@ -117,17 +120,17 @@ fn is_data_exchange(service: Service) -> bool
     }
 }
 
-// Whether a telegram is a Data_Exchange that is accepted.
-fn is_accepted(mem: &[u8], r: Request) -> bool
+// Whether a telegram is a good Data_Exchange.
+fn is_good_exchange(mem: &[u8], r: Request) -> bool
     requires { ⌜ Holds (now mem) (unpacked (now mem)) ⌝ }
-    ensures { λ b. ⌜ b ≡ accepts (unpacked (now (mem .entry))) r ⌝ }
+    ensures { λ b. ⌜ b ≡ isGoodExchange (unpacked (now (mem .entry))) r ⌝ }
 {
     let setup = load::setup(mem);
     let service = service_of(setup, r);
     is_data_exchange(service) & exchanges(load::control(mem), r) & (r.count == setup.output_len)
 }
 
-// The reply to an accepted Data_Exchange.
+// The reply to a good Data_Exchange.
 fn exchange_reply(setup: Setup, control: Control, held: u8, master: u8) -> Reply
     ensures { λ r. ⌜ ((s : State) → s .setup ≡ setup → s .control ≡ control → heldOf (s .outputs .set .place) ≡ held → r ≡ replyFor Drawn.Exchange s master) ⌝ }
 {
@@ -147,18 +150,19 @@ fn exchange_reply(setup: Setup, control: Control, held: u8, master: u8) -> Reply
     }
 }
 
-// An accepted Data_Exchange.
-fn accept(mem: &mut [u8], i: Incoming, r: Request)
-    requires { ⌜ (Holds (now mem) (unpacked (now mem))) × (accepts (unpacked (now mem)) r ≡ true) ⌝ }
+// A good Data_Exchange: its data is published, or held back in sync.
+fn exchange(mem: &mut [u8], i: Incoming, r: Request)
+    requires { ⌜ (Holds (now mem) (unpacked (now mem))) × (isGoodExchange (unpacked (now mem)) r ≡ true) ⌝ }
     ensures { λ _. ⌜ now (mem .exit) ≡ packedAfter (answered (withIncoming (unpacked (now (mem .entry))) i) (now (mem .entry)) (outcomeOf (unpacked (now (mem .entry))) (now (mem .entry)) r) r) ⌝ }
 {
     let setup = load::setup(&mem[..]);
     let control = refilled(setup, load::control(&mem[..]), r);
-    let outputs = on_outputs(OutputsDeed::Publish, load::outputs(&mem[..]));
-    let inputs = on_inputs(OutputsDeed::Publish, load::inputs(&mem[..]));
+    let deed = exchange_outputs(control.modes);
+    let outputs = on_outputs(deed, load::outputs(&mem[..]));
+    let inputs = on_inputs(exchange_inputs(control.modes), load::inputs(&mem[..]));
     let reply = exchange_reply(setup, control, outputs.set.held(), master_of(r));
     save_incoming(i, mem);
-    save_events(control.events.raise(Events::OUTPUTS), mem);
+    save_events(announced(deed, control.events), mem);
     save_ticks(control.watchdog.remaining, mem);
     save_outputs(outputs, mem);
     save_inputs(inputs, mem);
@@ -190,8 +194,8 @@ pub fn complete(mem: &mut [u8], i: Incoming)
 {
     let reader = i.reader;
     let r = request_by(reader);
-    if is_accepted(&mem[..], r) {
-        accept(mem, i, r);
+    if is_good_exchange(&mem[..], r) {
+        exchange(mem, i, r);
         return;
     }
     if !acts(load::setup(&mem[..]), r) {

@@ -6,7 +6,7 @@ use outcomes::carry::settle;
 use outcomes::line::begun;
 use rules::outcome::Outcome;
 use rules::request::Data;
-use rules::request::OpenSets;
+use rules::request::Occupied;
 use rules::request::Prm;
 use rules::request::Request;
 use rules::requests::master_of;
@@ -164,16 +164,17 @@ fn outcome_of(s: State, mem: &[u8], r: Request) -> Outcome
     let incoming = s.incoming;
     let service = service_of(setup, r);
     let control = refilled(setup, s.control, r);
-    let sets = OpenSets {
+    let occupied = Occupied {
         parameters: is_open(s.parameters),
         configuration: is_open(s.configuration),
+        outputs: s.outputs.set.withheld,
     };
     let octets = Data {
         prm: prm_in(s, mem),
         first: incoming.first,
         second: incoming.second,
     };
-    serve(service, setup, control, sets, r, octets)
+    serve(service, setup, control, occupied, r, octets)
 }
 
 // An outcome carried out, and the reply drawn.

@@ -18,7 +18,7 @@ use telegram::sender::Sender;
 ghost use Prim.Native.Nat.{_+_, _≤_};
 ghost use mathlib.Core.Path.{_≡_};
 ghost use lib.ListN.{length, getD};
-ghost use Rattle.buffers.specs.Triple.{heldOf};
+ghost use Rattle.buffers.specs.Roles.{heldOf};
 ghost use Rattle.octets.specs.Part.{part};
 ghost use Rattle.state.specs.declared.state.State.{State};
 ghost use Rattle.state.specs.Memory.{Holds};

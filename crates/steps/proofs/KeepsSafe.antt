@@ -7,8 +7,11 @@ use mathlib.Core.List.{List}
 use lib.Dec.{eqb, ltb}
 use lib.ListN.{length, replicate, length-replicate}
 use Rattle.buffers.specs.declared.triple.Triple.{Triple}
-use Rattle.buffers.specs.Triple.{Permutation, fillOf, nextOf, brought}
-use Rattle.buffers.proofs.Roles.{published-permutes, taken-permutes, brought-permutes, shown-permutes}
+use Rattle.buffers.specs.Roles.{Permutation, fillOf, nextOf}
+use Rattle.buffers.specs.Roles as role
+use Rattle.buffers.specs.Triple.{brought}
+use Rattle.buffers.proofs.Triples.{published-permutes, taken-permutes, brought-permutes, shown-permutes}
+use Rattle.buffers.proofs.Quads as quads
 use Rattle.octets.proofs.Parts.{pasted-length, stored-length}
 use Rattle.telegram.specs.declared.Datum.{Datum}
 use Rattle.telegram.specs.declared.Datum.the-variants.{Number, Nothing}
@@ -29,6 +32,8 @@ use Rattle.state.proofs.Choice.{either}
 use Rattle.state.proofs.Places.{inside, get-cfg-inside}
 use Rattle.rules.specs.declared.outcome.OutputsDeed.{OutputsDeed}
 use Rattle.rules.specs.declared.outcome.OutputsDeed.the-variants as outputs-deed
+use Rattle.rules.specs.declared.outcome.InputsDeed.{InputsDeed}
+use Rattle.rules.specs.declared.outcome.InputsDeed.the-variants as inputs-deed
 use Rattle.rules.specs.declared.outcome.SetDeed.{SetDeed}
 use Rattle.rules.specs.declared.outcome.SetDeed.the-variants as set-deed
 use Rattle.rules.specs.declared.outcome.Outcome.{Outcome}
@@ -75,7 +80,7 @@ get-cfg-room s m h =
 -- the octets of Set_Prm
 pub prm-room : (s : State) (m : List ℕ) → Safe s m → parametersAt (s .setup) (fillOf (s .parameters .set .place)) + 7 ≤ length m
 prm-room s m h =
-    let u = buffer-room s m parameterRow (fillOf (s .parameters .set .place)) h (h .parameters .fill-in) in
+    let u = buffer-room s m parameterRow (fillOf (s .parameters .set .place)) h (h .parameters .within role.fill (omega arith)) in
     let v = h .long in
     omega arith
 
@@ -91,33 +96,57 @@ safe-steps r s m e h = rw (e .states, e .leaves) h
 -- ---- a memory of the same length
 
 pub safe-length : (s : State) (m n : List ℕ) → length n ≡ length m → Safe s m → Safe s n
-safe-length s m n e h = omega arith
+safe-length s m n e h =
+    record {
+      outputs = h .outputs;
+      inputs = h .inputs;
+      parameters = h .parameters;
+      configuration = h .configuration;
+      reply = h .reply;
+      long = h .long;
+      room = rw e (h .room);
+    }
 
 -- ---- other parts of the state
+
+-- all but the setup and the sets of parameters and of configuration
+safe-others : (s : State) (m : List ℕ) (c : Control) (o : Outputs) (t : Triple) (swapped : Bool) (i : Incoming) (r : Reply)
+    → Permutation 4 (o .set .place) → Permutation 3 (t .place) → r .place ≤ 3 → Safe s m
+    → Safe (record { setup = s .setup; control = c; outputs = o; inputs = t; parameters = s .parameters; configuration = s .configuration; swapped = swapped; incoming = i; reply = r }) m
+safe-others s m c o t swapped i r p q g h =
+    record {
+      outputs = p;
+      inputs = q;
+      parameters = h .parameters;
+      configuration = h .configuration;
+      reply = g;
+      long = h .long;
+      room = h .room;
+    }
 
 -- another control part, and which diagnosis buffer is whose
 pub safe-control : (s : State) (m : List ℕ) (c : Control) (swapped : Bool) → Safe s m
     → Safe (record { setup = s .setup; control = c; outputs = s .outputs; inputs = s .inputs; parameters = s .parameters; configuration = s .configuration; swapped = swapped; incoming = s .incoming; reply = s .reply }) m
-safe-control s m c swapped h = omega arith
+safe-control s m c swapped h = safe-others s m c (s .outputs) (s .inputs) swapped (s .incoming) (s .reply) (h .outputs) (h .inputs) (h .reply) h
 
 -- other roles of the outputs
-pub safe-outputs : (s : State) (m : List ℕ) (o : Outputs) → Permutation (o .set .place) → Safe s m → Safe (withOutputs s o) m
-safe-outputs s m o p h = omega arith
+pub safe-outputs : (s : State) (m : List ℕ) (o : Outputs) → Permutation 4 (o .set .place) → Safe s m → Safe (withOutputs s o) m
+safe-outputs s m o p h = safe-others s m (s .control) o (s .inputs) (s .swapped) (s .incoming) (s .reply) p (h .inputs) (h .reply) h
 
 -- and of the inputs
-pub safe-inputs : (s : State) (m : List ℕ) (t : Triple) → Permutation (t .place) → Safe s m → Safe (withInputs s t) m
-safe-inputs s m t p h = omega arith
+pub safe-inputs : (s : State) (m : List ℕ) (t : Triple) → Permutation 3 (t .place) → Safe s m → Safe (withInputs s t) m
+safe-inputs s m t p h = safe-others s m (s .control) (s .outputs) t (s .swapped) (s .incoming) (s .reply) (h .outputs) p (h .reply) h
 
 -- another reading
 pub safe-incoming : (s : State) (m : List ℕ) (i : Incoming) → Safe s m → Safe (withIncoming s i) m
-safe-incoming s m i h = omega arith
+safe-incoming s m i h = safe-others s m (s .control) (s .outputs) (s .inputs) (s .swapped) i (s .reply) (h .outputs) (h .inputs) (h .reply) h
 
 pub safe-read-by : (s : State) (m : List ℕ) (r : Reader) → Safe s m → Safe (readBy s r) m
 safe-read-by s m r h = safe-incoming s m (record { reader = r; first = s .incoming .first; second = s .incoming .second }) h
 
 -- another reply
-pub safe-reply : (s : State) (m : List ℕ) (r : Reply) → r .place ≤ 2 → Safe s m → Safe (withReply s r) m
-safe-reply s m r g h = omega arith
+pub safe-reply : (s : State) (m : List ℕ) (r : Reply) → r .place ≤ 3 → Safe s m → Safe (withReply s r) m
+safe-reply s m r g h = safe-others s m (s .control) (s .outputs) (s .inputs) (s .swapped) (s .incoming) r (h .outputs) (h .inputs) g h
 
 pub safe-no-reply : (s : State) (m : List ℕ) → Safe s m → Safe (withReply s noReply) m
 safe-no-reply s m h = safe-reply s m noReply (omega arith) h
@@ -127,28 +156,29 @@ safe-beginning s m r h = safe-no-reply (readBy s r) m (safe-read-by s m r h)
 
 -- ---- an outcome carried out
 
-pub outputs-permute : (d : OutputsDeed) (o : Outputs) → Permutation (o .set .place) → Permutation (onOutputs d o .set .place)
+pub outputs-permute : (d : OutputsDeed) (o : Outputs) → Permutation 4 (o .set .place) → Permutation 4 (onOutputs d o .set .place)
 outputs-permute outputs-deed.Keep o p = p
-outputs-permute outputs-deed.Publish o p = published-permutes (o .set) p
+outputs-permute outputs-deed.Publish o p = quads.published-permutes (o .set) p
+outputs-permute outputs-deed.HoldBack o p = quads.held-back-permutes (o .set) p
+outputs-permute outputs-deed.Release o p = quads.released-permutes (o .set) p
 outputs-permute outputs-deed.Zeros o p = p
 
-pub inputs-permute : (d : OutputsDeed) (t : Triple) → Permutation (t .place) → Permutation (onInputs d t .place)
-inputs-permute outputs-deed.Keep t p = p
-inputs-permute outputs-deed.Publish t p = go (t .fresh)
+pub inputs-permute : (d : InputsDeed) (t : Triple) → Permutation 3 (t .place) → Permutation 3 (onInputs d t .place)
+inputs-permute inputs-deed.Keep t p = p
+inputs-permute inputs-deed.Bring t p = go (t .fresh)
   where
-    go : (b : Bool) → Permutation (cond b (brought t) t .place)
+    go : (b : Bool) → Permutation 3 (cond b (brought t) t .place)
     go true = brought-permutes t p
     go false = p
-inputs-permute outputs-deed.Zeros t p = p
 
-received-permutes : (s : Sets) (count : ℕ) → Permutation (s .set .place) → Permutation (receivedSet s count .set .place)
+received-permutes : (s : Sets) (count : ℕ) → Permutation 3 (s .set .place) → Permutation 3 (receivedSet s count .set .place)
 received-permutes s count p = go (isOpen s) _ _ (published-permutes (s .set) p) (shown-permutes (s .set) p)
   where
-    go : (b : Bool) (x y : Sets) → Permutation (x .set .place) → Permutation (y .set .place) → Permutation (cond b x y .set .place)
+    go : (b : Bool) (x y : Sets) → Permutation 3 (x .set .place) → Permutation 3 (y .set .place) → Permutation 3 (cond b x y .set .place)
     go true x y g h = g
     go false x y g h = h
 
-pub sets-permute : (d : SetDeed) (s : Sets) (count : ℕ) → Permutation (s .set .place) → Permutation (onSets d s count .set .place)
+pub sets-permute : (d : SetDeed) (s : Sets) (count : ℕ) → Permutation 3 (s .set .place) → Permutation 3 (onSets d s count .set .place)
 sets-permute set-deed.Keep s count p = p
 sets-permute set-deed.Receive s count p = received-permutes s count p
 sets-permute set-deed.Advance s count p = taken-permutes (s .set) p
@@ -158,17 +188,19 @@ sets-permute set-deed.Drop s count p = p
 pub on-memory-length : (d : OutputsDeed) (s : State) (m : List ℕ) → Safe s m → length (onMemory d s m) ≡ length m
 on-memory-length outputs-deed.Keep s m h = refl
 on-memory-length outputs-deed.Publish s m h = refl
+on-memory-length outputs-deed.HoldBack s m h = refl
+on-memory-length outputs-deed.Release s m h = refl
 on-memory-length outputs-deed.Zeros s m h =
     pasted-length m (outputsAt (s .setup) (nextOf (s .outputs .set .place))) (replicate (s .setup .«output_len») 0)
     (rw (length-replicate {A = ℕ} (s .setup .«output_len») 0)
-    (buffer-room s m outputRow (nextOf (s .outputs .set .place)) h (h .outputs .next-in)))
+    (buffer-room s m outputRow (nextOf (s .outputs .set .place)) h (h .outputs .within role.next (omega arith))))
 
 pub safe-carried : (s : State) (m : List ℕ) (o : Outcome) (count : ℕ) → Safe s m → Safely (carried s m o count)
 unfolding carried
 safe-carried s m o count h =
     record {
       outputs = outputs-permute (o .outputs) (s .outputs) (h .outputs);
-      inputs = inputs-permute (o .outputs) (s .inputs) (h .inputs);
+      inputs = inputs-permute (o .inputs) (s .inputs) (h .inputs);
       parameters = sets-permute (o .parameters) (s .parameters) count (h .parameters);
       configuration = sets-permute (o .configuration) (s .configuration) count (h .configuration);
       reply = h .reply;
@@ -194,7 +226,7 @@ safe-settle s m h = safe-carried (afterReply s) m (clearNoted (busy s) (afterRep
 
 pub safe-reply-for : (s : State) (m : List ℕ) (d : Drawn) (master : ℕ) → Safe s m → Safe (withReply s (replyFor d s master)) m
 unfolding replyFor
-safe-reply-for s m d master h = let u = h .outputs .held-in in safe-reply s m (replyFor d s master) (omega arith) h
+safe-reply-for s m d master h = let u = h .outputs .within role.held (omega arith) in safe-reply s m (replyFor d s master) (omega arith) h
 
 -- ---- an octet heard
 

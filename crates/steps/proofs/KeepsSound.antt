@@ -7,7 +7,9 @@ use mathlib.Core.List.{List}
 use mathlib.Core.Logic.{inl, inr}
 use lib.Dec.{leb}
 use borrow.Author.Tests.{leb-true, eqb-false, not-true, not-false}
-use Rattle.buffers.proofs.Roles.{taken-permutes, handed-over-permutes}
+use Rattle.buffers.specs.Roles as role
+use Rattle.buffers.proofs.Triples.{handed-over-permutes}
+use Rattle.buffers.proofs.Quads.{taken-permutes}
 use Rattle.telegram.specs.declared.Datum.{Datum}
 use Rattle.telegram.specs.declared.Datum.the-variants.{Number, Nothing}
 use Rattle.telegram.specs.declared.reader.Reader.{Reader}
@@ -55,14 +57,14 @@ SoundTold t = Sound (t .state)
 
 -- ---- an outcome carried out
 
-sound-carried : {Given Clear : Type 0} {At : ℕ → Type 0} {o : Outcome} (s : State) (m : List ℕ) (count : ℕ) → Sound s
-    → Lawful (s .setup) (s .control) count Given Clear At o → SoundStep (carried s m o count)
+sound-carried : {Given Held Moved Clear : Type 0} {At : ℕ → Type 0} {o : Outcome} (s : State) (m : List ℕ) (count : ℕ) → Sound s
+    → Lawful (s .setup) (s .control) count Given Held Moved Clear At o → SoundStep (carried s m o count)
 unfolding carried
-sound-carried {Given} {Clear} {At} {o} s m count h w =
+sound-carried {Given} {Held} {Moved} {Clear} {At} {o} s m count h w =
     record {
       setup = h .setup;
       outputs = outputs-permute (o .outputs) (s .outputs) (h .outputs);
-      inputs = inputs-permute (o .outputs) (s .inputs) (h .inputs);
+      inputs = inputs-permute (o .inputs) (s .inputs) (h .inputs);
       parameters = sets-permute (o .parameters) (s .parameters) count (h .parameters);
       configuration = sets-permute (o .configuration) (s .configuration) count (h .configuration);
       parameter-counts = sets-counts 7 (s .setup .«parameter_len») (omega arith) _ count (λ v. v .1) (o .parameters) (s .parameters) (w .parameters-come) (h .parameter-counts);
@@ -120,7 +122,7 @@ sender-counts drawn.Diagnosis s master h =
 sound-reply-for : (s : State) (d : Drawn) (master : ℕ) → Sound s → Sound (withReply s (replyFor d s master))
 unfolding replyFor
 sound-reply-for s d master h =
-    let u = h .outputs .held-in in
+    let u = h .outputs .within role.held (omega arith) in
     sound-reply s h (replyFor d s master) (record { counts = sender-counts d s master h; place = omega arith })
 
 -- ---- an octet heard

@@ -11,7 +11,7 @@ use Rattle.rules.specs.declared.request.Request.{Request}
 use Rattle.rules.specs.Diagnosis.{isDelayed, delayed}
 use Rattle.rules.proofs.NoteStays.{note-stays}
 use Rattle.steps.specs.Line.{begun}
-use Rattle.steps.specs.Outcome.{openSets, carried, settle}
+use Rattle.steps.specs.Outcome.{occupied, carried, settle}
 use Rattle.steps.specs.Reading.{storedAs, readBy, requestBy, dataIn, outcomeOf, answered, completed, settleAfter, beginning, heardAs}
 use Rattle.steps.proofs.NothingWaits.{idle}
 use Rattle.steps.proofs.OutcomeServed.{outcome-served}
@@ -22,7 +22,7 @@ module _ (s : State) (m : List ℕ) (quiet : delayed (s .control) || s .control 
   outcome-quiet : (r : Request) → delayed (outcomeOf s m r .control) || outcomeOf s m r .control .noted ≡ false
   unfolding outcomeOf
   outcome-quiet r =
-      (λ j. isDelayed (outcome-served s m r .lawful .counts-stay j) || note-stays (s .setup) (s .control) (openSets s) r (dataIn s m) j)
+      (λ j. isDelayed (outcome-served s m r .lawful .counts-stay j) || note-stays (s .setup) (s .control) (occupied s) r (dataIn s m) j)
       ∙ quiet
 
   -- so after it settling changes nothing

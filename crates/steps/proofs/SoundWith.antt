@@ -3,7 +3,7 @@ use Prim.Native.Nat.{_≤_}
 use native.Mathlib.Omega.{arith}
 use mathlib.Core.Bool.{Bool}
 use Rattle.buffers.specs.declared.triple.Triple.{Triple}
-use Rattle.buffers.specs.Triple.{Permutation}
+use Rattle.buffers.specs.Roles.{Permutation}
 use Rattle.telegram.specs.declared.reader.Reader.{Reader}
 use Rattle.telegram.specs.Counts.{ReadCounts, SentCounts}
 use Rattle.telegram.proofs.Counts.{empty-counts}
@@ -20,12 +20,12 @@ use Rattle.steps.specs.Reading.{readOn, readBy, beginning}
 -- what a reply keeps
 pub record ReplySound (r : Reply) : Type 0 where
   pub counts : SentCounts (r .sender)
-  pub place : r .place ≤ 2
+  pub place : r .place ≤ 3
 
 module _ (s : State) (h : Sound s) where
   -- all but the setup and the sets of parameters and of configuration
   with-others : (c : Control) (o : Outputs) (t : Triple) (swapped : Bool) (i : Incoming) (r : Reply)
-      → DiagnosisCounted (s .setup .«diagnosis_len») (c .diagnosis) → Permutation (o .set .place) → Permutation (t .place) → ReadCounts (i .reader) → ReplySound r
+      → DiagnosisCounted (s .setup .«diagnosis_len») (c .diagnosis) → Permutation 4 (o .set .place) → Permutation 3 (t .place) → ReadCounts (i .reader) → ReplySound r
       → Sound (record { setup = s .setup; control = c; outputs = o; inputs = t; parameters = s .parameters; configuration = s .configuration; swapped = swapped; incoming = i; reply = r })
   with-others c o t swapped i r d p q a b = record {
     setup = h .setup;
@@ -50,11 +50,11 @@ module _ (s : State) (h : Sound s) where
   sound-control c swapped d = with-others c (s .outputs) (s .inputs) swapped (s .incoming) (s .reply) d (h .outputs) (h .inputs) (h .reading) reply-same
 
   -- other roles of the outputs
-  pub sound-outputs : (o : Outputs) → Permutation (o .set .place) → Sound (withOutputs s o)
+  pub sound-outputs : (o : Outputs) → Permutation 4 (o .set .place) → Sound (withOutputs s o)
   sound-outputs o p = with-others (s .control) o (s .inputs) (s .swapped) (s .incoming) (s .reply) (h .diagnosis-counts) p (h .inputs) (h .reading) reply-same
 
   -- and of the inputs
-  pub sound-inputs : (t : Triple) → Permutation (t .place) → Sound (withInputs s t)
+  pub sound-inputs : (t : Triple) → Permutation 3 (t .place) → Sound (withInputs s t)
   sound-inputs t p = with-others (s .control) (s .outputs) t (s .swapped) (s .incoming) (s .reply) (h .diagnosis-counts) (h .outputs) p (h .reading) reply-same
 
   -- another reading

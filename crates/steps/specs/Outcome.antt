@@ -5,7 +5,9 @@ use mathlib.Core.List.{List}
 use lib.Dec.{eqb}
 use lib.ListN.{replicate}
 use Rattle.buffers.specs.declared.triple.Triple.{Triple}
-use Rattle.buffers.specs.Triple.{nextOf, published, taken, brought, shown, marked, dropped}
+use Rattle.buffers.specs.Roles.{nextOf}
+use Rattle.buffers.specs.Triple.{published, taken, brought, shown, dropped}
+use Rattle.buffers.specs.Quad as quad
 use Rattle.octets.specs.Part.{pasted}
 use Rattle.state.specs.declared.control.Control.{Control}
 use Rattle.state.specs.declared.state.Outputs.{Outputs}
@@ -14,10 +16,12 @@ use Rattle.state.specs.declared.state.State.{State}
 use Rattle.state.specs.Layout.{outputsAt}
 use Rattle.rules.specs.declared.outcome.OutputsDeed.{OutputsDeed}
 use Rattle.rules.specs.declared.outcome.OutputsDeed.the-variants as outputs-deed
+use Rattle.rules.specs.declared.outcome.InputsDeed.{InputsDeed}
+use Rattle.rules.specs.declared.outcome.InputsDeed.the-variants as inputs-deed
 use Rattle.rules.specs.declared.outcome.SetDeed.{SetDeed}
 use Rattle.rules.specs.declared.outcome.SetDeed.the-variants as set-deed
 use Rattle.rules.specs.declared.outcome.Outcome.{Outcome}
-use Rattle.rules.specs.declared.request.OpenSets.{OpenSets}
+use Rattle.rules.specs.declared.request.Occupied.{Occupied}
 use Rattle.rules.specs.Line.{clearNoted}
 use Rattle.rules.specs.Diagnosis.{delayed, caughtUp}
 use Rattle.steps.specs.Stepped.{Stepped}
@@ -27,21 +31,23 @@ use Rattle.steps.specs.Line.{busy, diagnosisLeaves}
 abbrev pub isOpen : Sets → Bool
 isOpen s = not (eqb (s .shown) 0)
 
--- which are
-abbrev pub openSets : State → OpenSets
-openSets s = record { parameters = isOpen (s .parameters); configuration = isOpen (s .configuration) }
+-- what the rules look at of the buffers
+abbrev pub occupied : State → Occupied
+occupied s =
+    record { parameters = isOpen (s .parameters); configuration = isOpen (s .configuration); outputs = s .outputs .set .withheld }
 
 -- the data received is in fill; zeros are written into next
 abbrev pub onOutputs : OutputsDeed → Outputs → Outputs
 onOutputs outputs-deed.Keep o = o
-onOutputs outputs-deed.Publish o = record { set = published (o .set); zeros = false }
-onOutputs outputs-deed.Zeros o = record { set = marked (o .set); zeros = true }
+onOutputs outputs-deed.Publish o = record { set = quad.published (o .set); zeros = false }
+onOutputs outputs-deed.HoldBack o = record { set = quad.heldBack (o .set); zeros = o .zeros }
+onOutputs outputs-deed.Release o = record { set = quad.released (o .set); zeros = false }
+onOutputs outputs-deed.Zeros o = record { set = quad.renewed (o .set); zeros = true }
 
--- with outputs accepted new inputs come to the buffer that is sent from
-abbrev pub onInputs : OutputsDeed → Triple → Triple
-onInputs outputs-deed.Keep t = t
-onInputs outputs-deed.Publish t = cond (t .fresh) (brought t) t
-onInputs outputs-deed.Zeros t = t
+-- new inputs come to the buffer that is sent from
+abbrev pub onInputs : InputsDeed → Triple → Triple
+onInputs inputs-deed.Keep t = t
+onInputs inputs-deed.Bring t = cond (t .fresh) (brought t) t
 
 -- count: of the data received, which is in fill
 abbrev pub receivedSet : Sets → ℕ → Sets
@@ -64,7 +70,7 @@ onState s o count =
       setup = s .setup;
       control = o .control;
       outputs = onOutputs (o .outputs) (s .outputs);
-      inputs = onInputs (o .outputs) (s .inputs);
+      inputs = onInputs (o .inputs) (s .inputs);
       parameters = onSets (o .parameters) (s .parameters) count;
       configuration = onSets (o .configuration) (s .configuration) count;
       swapped = s .swapped;
@@ -77,6 +83,8 @@ onState s o count =
 abbrev pub onMemory : OutputsDeed → State → List ℕ → List ℕ
 onMemory outputs-deed.Keep s m = m
 onMemory outputs-deed.Publish s m = m
+onMemory outputs-deed.HoldBack s m = m
+onMemory outputs-deed.Release s m = m
 onMemory outputs-deed.Zeros s m = pasted m (outputsAt (s .setup) (nextOf (s .outputs .set .place))) (replicate (s .setup .«output_len») 0)
 
 -- an outcome carried out

@@ -4,7 +4,7 @@ use mathlib.Core.Bool.{Bool, true, false, cond}
 use mathlib.Core.List.{List}
 use lib.Dec.{eqb, ltb}
 use lib.ListN.{getD}
-use Rattle.buffers.specs.Triple.{fillOf}
+use Rattle.buffers.specs.Roles.{fillOf}
 use Rattle.octets.specs.Part.{storedIn}
 use Rattle.telegram.specs.declared.Datum.{Datum}
 use Rattle.telegram.specs.declared.Datum.the-variants.{Number, Nothing}
@@ -24,7 +24,7 @@ use Rattle.rules.specs.Services.{outcomeBy}
 use Rattle.state.specs.With.{withIncoming, withReply}
 use Rattle.steps.specs.Stepped.{Stepped, unchanged}
 use Rattle.steps.specs.Line.{begun}
-use Rattle.steps.specs.Outcome.{openSets, carried, settle}
+use Rattle.steps.specs.Outcome.{occupied, carried, settle}
 use Rattle.state.specs.Start.{noReply}
 use Rattle.steps.specs.Replies.{replyFor}
 
@@ -93,7 +93,7 @@ dataIn s m = record { prm = prmIn s m; first = s .incoming .first; second = s .i
 
 -- what comes of a telegram
 unfoldable pub outcomeOf : State → List ℕ → Request → Outcome
-outcomeOf s m r = outcomeBy (s .setup) (s .control) (openSets s) r (dataIn s m)
+outcomeOf s m r = outcomeBy (s .setup) (s .control) (occupied s) r (dataIn s m)
 
 -- carried out, and the reply drawn
 unfoldable pub answered : State → List ℕ → Outcome → Request → Stepped

@@ -4,7 +4,7 @@ use mathlib.Core.Bool.{Bool, true, false, cond}
 use mathlib.Core.List.{List}
 use lib.Dec.{eqb, ltb}
 use lib.ListN.{getD}
-use Rattle.buffers.specs.Triple.{fillOf, heldOf}
+use Rattle.buffers.specs.Roles.{fillOf, heldOf}
 use Rattle.octets.specs.Part.{part}
 use Rattle.telegram.specs.declared.Kind.the-variants.{Sd1, Sd2}
 use Rattle.telegram.specs.declared.Datum.{Datum}

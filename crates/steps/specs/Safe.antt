@@ -3,17 +3,17 @@
 use Prim.Native.Nat.{ℕ, _≤_}
 use mathlib.Core.List.{List}
 use lib.ListN.{length}
-use Rattle.buffers.specs.Triple.{Permutation}
+use Rattle.buffers.specs.Roles.{Permutation}
 use Rattle.state.specs.declared.state.State.{State}
 use Rattle.state.specs.Layout.{endOf}
 
 -- s is safe over the memory m
 pub record Safe (s : State) (m : List ℕ) : Type 0 where
-  pub outputs : Permutation (s .outputs .set .place)
-  pub inputs : Permutation (s .inputs .place)
-  pub parameters : Permutation (s .parameters .set .place)
-  pub configuration : Permutation (s .configuration .set .place)
-  pub reply : s .reply .place ≤ 2
+  pub outputs : Permutation 4 (s .outputs .set .place)
+  pub inputs : Permutation 3 (s .inputs .place)
+  pub parameters : Permutation 3 (s .parameters .set .place)
+  pub configuration : Permutation 3 (s .configuration .set .place)
+  pub reply : s .reply .place ≤ 3
   -- Set_Prm's octets are read from a buffer of at least 7
   pub long : 7 ≤ s .setup .«parameter_len»
   pub room : endOf (s .setup) ≤ length m

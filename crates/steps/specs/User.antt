@@ -5,7 +5,9 @@ use mathlib.Core.List.{List}
 use lib.Dec.{eqb, leb}
 use lib.ListN.{getD, set}
 use Rattle.buffers.specs.Events.{acknowledged, pendingOf}
-use Rattle.buffers.specs.Triple.{heldOf, taken, handedOver}
+use Rattle.buffers.specs.Roles.{heldOf}
+use Rattle.buffers.specs.Triple.{handedOver}
+use Rattle.buffers.specs.Quad.{taken}
 use Rattle.state.specs.declared.answer.Refusal.the-variants.{Judging, Range, Absent, Delayed}
 use Rattle.state.specs.declared.state.State.{State}
 use Rattle.state.specs.Layout.{outputsAt, inputsAt, parametersAt, configurationAt, diagnosisAt}

@@ -18,11 +18,23 @@ on-state-requires-2 c κs = search needs
 enum-told-3 : tie.Need-enum-told-3
 enum-told-3 c = search needs
 
+on-state-requires-3 : tie.Need-on-state-requires-3
+on-state-requires-3 c κs = search needs
+
+enum-told-4 : tie.Need-enum-told-4
+enum-told-4 c = search needs
+
+on-state-requires-4 : tie.Need-on-state-requires-4
+on-state-requires-4 c κs = search needs
+
+enum-told-5 : tie.Need-enum-told-5
+enum-told-5 c = search needs
+
 clear-next-requires : tie.Need-clear-next-requires
 clear-next-requires c κs = search needs
 
-on-state-requires-3 : tie.Need-on-state-requires-3
-on-state-requires-3 c κs = search needs
+on-state-requires-5 : tie.Need-on-state-requires-5
+on-state-requires-5 c κs = search needs
 
 returns : tie.Need-returns
 unfolding carried
@@ -32,15 +44,23 @@ returns-2 : tie.Need-returns-2
 unfolding carried
 returns-2 c = record { states = c .on-state2 .ensures; leaves = rw (c .before .enum-told2 .given .1) }
 
+returns-3 : tie.Need-returns-3
+unfolding carried
+returns-3 c = record { states = c .on-state3 .ensures; leaves = rw (c .before .enum-told3 .given .1) }
+
+returns-4 : tie.Need-returns-4
+unfolding carried
+returns-4 c = record { states = c .on-state4 .ensures; leaves = rw (c .before .enum-told4 .given .1) }
+
 same-length : tie.Need-same-length
 same-length c = search needs
 
-returns-3 : tie.Need-returns-3
+returns-5 : tie.Need-returns-5
 unfolding carried
-returns-3 c =
+returns-5 c =
     record {
-      states = c .on-state3 .ensures;
-      leaves = rw (c .before .before .before .before .before .enum-told3 .given .1)
+      states = c .on-state5 .ensures;
+      leaves = rw (c .before .before .before .before .before .enum-told5 .given .1)
           (c .before .before .before .clear-next .ensures);
     }
 
@@ -53,9 +73,15 @@ carry-out-spec =
     enum-told-2
     on-state-requires-2
     enum-told-3
-    clear-next-requires
     on-state-requires-3
+    enum-told-4
+    on-state-requires-4
+    enum-told-5
+    clear-next-requires
+    on-state-requires-5
     returns
     returns-2
+    returns-3
+    returns-4
     same-length
-    returns-3)
+    returns-5)

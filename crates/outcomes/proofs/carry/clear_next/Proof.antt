@@ -1,4 +1,6 @@
 use borrow.Author.Needs.{needs}
+use native.Mathlib.Omega.{arith}
+use Rattle.buffers.specs.Roles as role
 use Rattle.state.specs.Layout.{outputRow}
 use Rattle.steps.proofs.KeepsSafe.{buffer-room}
 use Rattle.outcomes.proofs.carry.clear_next.Statement.{statement}
@@ -17,7 +19,7 @@ clear-at-requires : tie.Need-clear-at-requires
 clear-at-requires c κs =
     rw (c .before .before .outputs-at .ensures, c .before .before .before .next .ensures)
     (buffer-room _ _ outputRow _ (c .before .before .before .before .before .pre)
-    (c .before .before .before .before .before .pre .outputs .next-in))
+    (c .before .before .before .before .before .pre .outputs .within role.next (omega arith)))
 
 same-length : tie.Need-same-length
 same-length c = search needs

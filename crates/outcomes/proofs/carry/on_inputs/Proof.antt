@@ -11,19 +11,12 @@ enum-told-2 c = search needs
 bring-new-requires : tie.Need-bring-new-requires
 bring-new-requires c κs = search needs
 
-enum-told-3 : tie.Need-enum-told-3
-enum-told-3 c = search needs
-
 returns : tie.Need-returns
 returns c = search needs
 
 returns-2 : tie.Need-returns-2
 returns-2 c = rw (c .bring-new .ensures, c .before .enum-told2 .given .1)
 
-returns-3 : tie.Need-returns-3
-returns-3 c = search needs
-
 pub on-inputs-spec : {M : Type 1} → statement M
 on-inputs-spec =
-    tie.close
-    (tie.spec enum-told enum-told-2 bring-new-requires enum-told-3 returns returns-2 returns-3)
+    tie.close (tie.spec enum-told enum-told-2 bring-new-requires returns returns-2)

@@ -12,6 +12,12 @@ enum-told-2 c = search needs
 enum-told-3 : tie.Need-enum-told-3
 enum-told-3 c = search needs
 
+enum-told-4 : tie.Need-enum-told-4
+enum-told-4 c = search needs
+
+enum-told-5 : tie.Need-enum-told-5
+enum-told-5 c = search needs
+
 clear-next-requires : tie.Need-clear-next-requires
 clear-next-requires c κs = search needs
 
@@ -21,11 +27,17 @@ returns c = search needs
 returns-2 : tie.Need-returns-2
 returns-2 c = search needs
 
+returns-3 : tie.Need-returns-3
+returns-3 c = search needs
+
+returns-4 : tie.Need-returns-4
+returns-4 c = search needs
+
 same-length : tie.Need-same-length
 same-length c = search needs
 
-returns-3 : tie.Need-returns-3
-returns-3 c = rw (c .before .before .before .before .enum-told3 .given .1) (c .before .before .clear-next .ensures)
+returns-5 : tie.Need-returns-5
+returns-5 c = rw (c .before .before .before .before .enum-told5 .given .1) (c .before .before .clear-next .ensures)
 
 pub carry-buffers-spec : {M : Type 1} → statement M
 carry-buffers-spec =
@@ -34,8 +46,12 @@ carry-buffers-spec =
     enum-told
     enum-told-2
     enum-told-3
+    enum-told-4
+    enum-told-5
     clear-next-requires
     returns
     returns-2
+    returns-3
+    returns-4
     same-length
-    returns-3)
+    returns-5)

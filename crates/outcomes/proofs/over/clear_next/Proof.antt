@@ -1,5 +1,7 @@
 -- `outcomes::over::clear_next` meets its contract.
 use denote.Ref.{now}
+use native.Mathlib.Omega.{arith}
+use Rattle.buffers.specs.Roles as role
 use Rattle.state.specs.Layout.{outputRow}
 use Rattle.state.specs.Unpack.{unpacked}
 use Rattle.steps.proofs.Holding.{holds-safe}
@@ -28,7 +30,7 @@ clear-at-requires c κs =
     let m = now (c .before .before .before .before .before .before .before .before .before .args .mem) in
     let safe = holds-safe m (unpacked m) (c .before .before .before .before .before .before .before .before .before .pre) in
     rw (c .before .before .outputs-at .ensures, c .before .before .before .next .ensures, c .before .before .before .before .outputs .ensures, c .before .before .before .before .before .before .setup .ensures)
-    (buffer-room (unpacked m) m outputRow _ safe (safe .outputs .next-in))
+    (buffer-room (unpacked m) m outputRow _ safe (safe .outputs .within role.next (omega arith)))
 
 same-length : tie.Need-same-length
 same-length c = search needs

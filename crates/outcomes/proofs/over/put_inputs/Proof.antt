@@ -1,9 +1,9 @@
 -- `outcomes::over::put_inputs` meets its contract.
-use mathlib.Core.Path.{ap, _∙_}
+use mathlib.Core.Path.{_∙_}
 use denote.Ref.{now}
-use Rattle.buffers.specs.declared.triple.Triple.{Triple}
 use Rattle.state.specs.Memory.{kept}
 use Rattle.state.specs.With.{withInputs}
+use Rattle.outcomes.proofs.CarriedOver.{put}
 use borrow.Author.Needs.{needs}
 use Rattle.outcomes.proofs.over.put_inputs.Statement.{statement}
 use Rattle.outcomes.proofs.over.put_inputs.Tie as tie
@@ -20,9 +20,6 @@ on-inputs-requires c κs = search needs
 save-inputs-requires : tie.Need-save-inputs-requires
 save-inputs-requires c κs = search needs
 
-enum-told-3 : tie.Need-enum-told-3
-enum-told-3 c = search needs
-
 returns : tie.Need-returns
 returns c = rw (c .enum-told .given .1) (λ s e f. f ∙ (λ i. kept (withInputs s (e i)) (now (c .before .before .before .args .mem))))
 
@@ -30,10 +27,7 @@ same-length : tie.Need-same-length
 same-length c = search needs
 
 returns-2 : tie.Need-returns-2
-returns-2 c = rw (c .before .before .before .before .before .enum-told2 .given .1) (λ s e f. c .before .before .save-inputs .ensures s f ∙ ap (λ (x : Triple). kept (withInputs s x) (now (c .before .before .before .before .before .before .before .before .args .mem))) (c .before .before .before .before .on-inputs .ensures))
-
-returns-3 : tie.Need-returns-3
-returns-3 c = rw (c .enum-told3 .given .1) (λ s e f. f ∙ (λ i. kept (withInputs s (e i)) (now (c .before .before .before .args .mem))))
+returns-2 c = rw (c .before .before .before .before .before .enum-told2 .given .1) (λ s _. put withInputs (c .before .before .save-inputs .ensures) (c .before .before .before .before .on-inputs .ensures) s)
 
 pub put-inputs-spec : {M : Type 1} → statement M
 put-inputs-spec =
@@ -43,8 +37,6 @@ put-inputs-spec =
     enum-told-2
     on-inputs-requires
     save-inputs-requires
-    enum-told-3
     returns
     same-length
-    returns-2
-    returns-3)
+    returns-2)

@@ -1,3 +1,4 @@
+-- `rules::diagnosis::status1` meets its contract.
 use borrow.Author.Needs.{needs}
 use Rattle.rules.proofs.diagnosis.status1.Statement.{statement}
 use Rattle.rules.proofs.diagnosis.status1.Tie as tie
@@ -38,24 +39,14 @@ mul-result-4 c = search needs
 add-result-3 : tie.Need-add-result-3
 add-result-3 c = search needs
 
-one-requires-5 : tie.Need-one-requires-5
-one-requires-5 c κs = search needs
-
-mul-result-5 : tie.Need-mul-result-5
-mul-result-5 c = search needs
-
-add-result-4 : tie.Need-add-result-4
-add-result-4 c = search needs
-
 returns : tie.Need-returns
 returns c =
     rw (
-      c .one5 .ensures .0,
-      c .before .one4 .ensures .0,
-      c .before .before .one3 .ensures .0,
-      c .before .before .before .one2 .ensures .0,
-      c .before .before .before .before .one .ensures .0,
-      c .before .before .before .before .before .in-exchange .ensures,
+      c .one4 .ensures .0,
+      c .before .one3 .ensures .0,
+      c .before .before .one2 .ensures .0,
+      c .before .before .before .one .ensures .0,
+      c .before .before .before .before .in-exchange .ensures,
     )
 
 pub status1-spec : {M : Type 1} → statement M
@@ -74,7 +65,4 @@ status1-spec =
     one-requires-4
     mul-result-4
     add-result-3
-    one-requires-5
-    mul-result-5
-    add-result-4
     returns)

@@ -1,16 +1,14 @@
-use borrow.Author.Needs.{needs}
+-- `rules::phases::wait_cfg` meets its contract.
 use Rattle.rules.specs.Phases.{waitCfg}
+use borrow.Author.Needs.{needs}
 use Rattle.rules.proofs.phases.wait_cfg.Statement.{statement}
 use Rattle.rules.proofs.phases.wait_cfg.Tie as tie
 
 in-exchange-requires : tie.Need-in-exchange-requires
 in-exchange-requires c κs = search needs
 
-left-exchange-requires : tie.Need-left-exchange-requires
-left-exchange-requires c κs = search needs
-
-raise-requires : tie.Need-raise-requires
-raise-requires c κs = search needs
+left-requires : tie.Need-left-requires
+left-requires c κs = search needs
 
 with-phase-requires : tie.Need-with-phase-requires
 with-phase-requires c κs = search needs
@@ -20,10 +18,9 @@ unfolding waitCfg
 returns c =
     rw (
       c .with-phase .ensures,
-      c .before .raise .ensures,
-      c .before .before .left-exchange .ensures,
-      ← c .before .before .before .before .in-exchange .ensures,
-      c .before .before .before .if1 .taken,
+      c .before .left .ensures,
+      ← c .before .before .before .in-exchange .ensures,
+      c .before .before .if1 .taken,
     )
 
 with-phase-requires-2 : tie.Need-with-phase-requires-2
@@ -38,8 +35,7 @@ wait-cfg-spec =
     tie.close
     (tie.spec
     in-exchange-requires
-    left-exchange-requires
-    raise-requires
+    left-requires
     with-phase-requires
     returns
     with-phase-requires-2

@@ -1,5 +1,6 @@
-use borrow.Author.Needs.{needs}
+-- `rules::services::parametrized` meets its contract.
 use Rattle.rules.specs.Services.{parametrized}
+use borrow.Author.Needs.{needs}
 use Rattle.rules.proofs.services.parametrized.Statement.{statement}
 use Rattle.rules.proofs.services.parametrized.Tie as tie
 
@@ -15,17 +16,27 @@ showing-requires c κs = search needs
 ticks-of-requires : tie.Need-ticks-of-requires
 ticks-of-requires c κs = search needs
 
+allowed-requires : tie.Need-allowed-requires
+allowed-requires c κs = search needs
+
 returns : tie.Need-returns
 unfolding parametrized
 returns c =
     rw (
-      c .before .before .ticks-of .ensures,
-      c .before .before .before .showing .ensures,
-      c .before .before .before .before .clear .ensures,
-      c .before .before .before .before .before .wait-cfg .ensures,
+      c .allowed .ensures,
+      c .before .before .before .ticks-of .ensures,
+      c .before .before .before .before .showing .ensures,
+      c .before .before .before .before .before .clear .ensures,
+      c .before .before .before .before .before .before .wait-cfg .ensures,
     )
 
 pub parametrized-spec : {M : Type 1} → statement M
 parametrized-spec =
     tie.close
-    (tie.spec wait-cfg-requires clear-requires showing-requires ticks-of-requires returns)
+    (tie.spec
+    wait-cfg-requires
+    clear-requires
+    showing-requires
+    ticks-of-requires
+    allowed-requires
+    returns)

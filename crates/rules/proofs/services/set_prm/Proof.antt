@@ -60,25 +60,6 @@ returns-4 c =
     let at1 = at2 .before in
     rw (free at1, at2 .if2 .left, ne-eqb _ _ (at3 .if3 .left), c .before .if4 .taken, c .drawing2 .ensures)
 
-not-supported-requires : tie.Need-not-supported-requires
-not-supported-requires c κs = search needs
-
-returns-5 : tie.Need-returns-5
-unfolding setPrm
-returns-5 c =
-    let at4 = c .before .before in
-    let at3 = at4 .before in
-    let at2 = at3 .before in
-    let at1 = at2 .before in
-    rw (
-      free at1,
-      at2 .if2 .left,
-      ne-eqb _ _ (at3 .if3 .left),
-      at4 .if4 .left,
-      c .before .if5 .taken,
-      c .not-supported .ensures,
-    )
-
 other-ident-requires : tie.Need-other-ident-requires
 other-ident-requires c κs = search needs
 
@@ -88,11 +69,10 @@ bad-watchdog-requires c κs = search needs
 prm-fault-requires-2 : tie.Need-prm-fault-requires-2
 prm-fault-requires-2 c κs = search needs
 
-returns-6 : tie.Need-returns-6
+returns-5 : tie.Need-returns-5
 unfolding setPrm
-returns-6 c =
-    let at5 = c .before .before .before .before in
-    let at4 = at5 .before in
+returns-5 c =
+    let at4 = c .before .before .before .before in
     let at3 = at4 .before in
     let at2 = at3 .before in
     let at1 = at2 .before in
@@ -101,21 +81,19 @@ returns-6 c =
       at2 .if2 .left,
       ne-eqb _ _ (at3 .if3 .left),
       at4 .if4 .left,
-      at5 .if5 .left,
       ← c .before .before .before .other-ident .ensures,
       ← c .before .before .bad-watchdog .ensures,
-      c .before .if6 .taken,
+      c .before .if5 .taken,
       c .prm-fault2 .ensures,
     )
 
 good-prm-requires : tie.Need-good-prm-requires
 good-prm-requires c κs = search needs
 
-returns-7 : tie.Need-returns-7
+returns-6 : tie.Need-returns-6
 unfolding setPrm
-returns-7 c =
-    let at5 = c .before .before .before .before in
-    let at4 = at5 .before in
+returns-6 c =
+    let at4 = c .before .before .before .before in
     let at3 = at4 .before in
     let at2 = at3 .before in
     let at1 = at2 .before in
@@ -124,10 +102,9 @@ returns-7 c =
       at2 .if2 .left,
       ne-eqb _ _ (at3 .if3 .left),
       at4 .if4 .left,
-      at5 .if5 .left,
       ← c .before .before .before .other-ident .ensures,
       ← c .before .before .bad-watchdog .ensures,
-      c .before .if6 .left,
+      c .before .if5 .left,
       c .good-prm .ensures,
       at1 .before .before .before .before .before .master-of .ensures,
     )
@@ -146,11 +123,9 @@ set-prm-spec =
     returns-3
     drawing-requires-2
     returns-4
-    not-supported-requires
-    returns-5
     other-ident-requires
     bad-watchdog-requires
     prm-fault-requires-2
-    returns-6
+    returns-5
     good-prm-requires
-    returns-7)
+    returns-6)

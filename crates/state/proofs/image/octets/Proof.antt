@@ -1,7 +1,7 @@
 -- `state::image::octets` meets its contract: each called octet is what the image has there, and the others are the fields themselves.
 use mathlib.Core.List.{_∷_, _++_}
 use Rattle.octets.specs.Part.{part}
-use Rattle.state.specs.Image.{image}
+use Rattle.state.specs.Image.{used}
 use borrow.Author.Needs.{needs}
 use Rattle.state.proofs.image.octets.Statement.{statement}
 use Rattle.state.proofs.image.octets.Tie as tie
@@ -27,23 +27,26 @@ drawn-number-requires c κs = search needs
 phase-number-requires : tie.Need-phase-number-requires
 phase-number-requires c κs = search needs
 
-outputs-code-requires : tie.Need-outputs-code-requires
-outputs-code-requires c κs = search needs
+number-requires : tie.Need-number-requires
+number-requires c κs = search needs
 
 inputs-code-requires : tie.Need-inputs-code-requires
 inputs-code-requires c κs = search needs
 
-number-requires : tie.Need-number-requires
-number-requires c κs = search needs
-
 number-requires-2 : tie.Need-number-requires-2
 number-requires-2 c κs = search needs
+
+number-requires-3 : tie.Need-number-requires-3
+number-requires-3 c κs = search needs
+
+modes-requires : tie.Need-modes-requires
+modes-requires c κs = search needs
 
 bit-requires : tie.Need-bit-requires
 bit-requires c κs = search needs
 
-bit-requires-2 : tie.Need-bit-requires-2
-bit-requires-2 c κs = search needs
+output-marks-requires : tie.Need-output-marks-requires
+output-marks-requires c κs = search needs
 
 kind-number-requires-2 : tie.Need-kind-number-requires-2
 kind-number-requires-2 c κs = search needs
@@ -70,7 +73,7 @@ high-requires-4 : tie.Need-high-requires-4
 high-requires-4 c κs = search needs
 
 returns : tie.Need-returns
-unfolding image
+unfolding used
 returns c =
     let c1 = c .before in
     let c2 = c1 .before in
@@ -92,27 +95,28 @@ returns c =
     let c18 = c17 .before in
     let c19 = c18 .before in
     let c20 = c19 .before in
-    let same = part (image (c20 .before .before .before .before .before .before .args .s)) in
+    let c21 = c20 .before in
+    let same = part (used (c21 .before .before .before .before .before .before .args .s)) in
     λ i.
     same 0 3
-    ++ c20 .flags .ensures i
-    ∷ c19 .low .ensures i
-    ∷ c18 .high .ensures i
+    ++ c21 .flags .ensures i
+    ∷ c20 .low .ensures i
+    ∷ c19 .high .ensures i
     ∷ same 6 10
-    ++ c17 .kind-number .ensures i
-    ∷ c16 .stage-number .ensures i
-    ∷ c15 .drawn-number .ensures i
+    ++ c18 .kind-number .ensures i
+    ∷ c17 .stage-number .ensures i
+    ∷ c16 .drawn-number .ensures i
     ∷ same 19 2
-    ++ c14 .phase-number .ensures i
-    ∷ c13 .outputs-code .ensures i
-    ∷ c12 .inputs-code .ensures i
-    ∷ c11 .number .ensures i
-    ∷ c10 .number2 .ensures i
+    ++ c15 .phase-number .ensures i
+    ∷ c14 .number .ensures i
+    ∷ c13 .inputs-code .ensures i
+    ∷ c12 .number2 .ensures i
+    ∷ c11 .number3 .ensures i
     ∷ same 26 1
-    ++ c9 .bit .ensures .0 i
-    ∷ c8 .bit2 .ensures .0 i
-    ∷ same 29 1
-    ++ c7 .kind-number2 .ensures i
+    ++ c10 .modes .ensures i
+    ∷ c9 .bit .ensures .0 i
+    ∷ c8 .output-marks .ensures i
+    ∷ c7 .kind-number2 .ensures i
     ∷ c6 .reading-number .ensures i
     ∷ same 32 10
     ++ c5 .low2 .ensures i
@@ -134,12 +138,13 @@ octets-spec =
     stage-number-requires
     drawn-number-requires
     phase-number-requires
-    outputs-code-requires
-    inputs-code-requires
     number-requires
+    inputs-code-requires
     number-requires-2
+    number-requires-3
+    modes-requires
     bit-requires
-    bit-requires-2
+    output-marks-requires
     kind-number-requires-2
     reading-number-requires
     low-requires-2

@@ -42,9 +42,35 @@ noted-requires c κs = search needs
 diagnosis-requires : tie.Need-diagnosis-requires
 diagnosis-requires c κs = search needs
 
+shared-slice-read-modes-in : tie.Need-shared-slice-read-modes-in
+shared-slice-read-modes-in c = search needs
+
+modes-in-requires : tie.Need-modes-in-requires
+modes-in-requires c κs = search needs
+
 returns : tie.Need-returns
 unfolding unpacked
-returns c = let m = now (c .before .before .before .before .before .before .before .before .before .before .before .before .before .args .mem) in λ i. record { phase = c .before .before .before .before .before .before .before .before .phase-numbered .ensures i; owner = getD m 0 0; group = getD m 1 0; stored = getD m 2 0; watchdog = record { reload = c .before .before .before .before .before .before .before .before .before .before .word-at2 .ensures i; remaining = c .before .before .before .before .before .before .before .before .before .before .before .word-at .ensures i }; flags = c .before .before .before .flags-in .ensures i; events = c .before .before .events .ensures i; noted = c .before .noted .ensures i; diagnosis = c .diagnosis .ensures i }
+returns c =
+    let diagnosed = c .before .before in
+    let noted = diagnosed .before in
+    let raised = noted .before in
+    let flagged = raised .before in
+    let phased = flagged .before .before .before .before .before in
+    let reloaded = phased .before .before in
+    let m = now (reloaded .before .before .before .args .mem) in
+    λ i.
+    record {
+      phase = phased .phase-numbered .ensures i;
+      owner = getD m 0 0;
+      group = getD m 1 0;
+      stored = getD m 2 0;
+      watchdog = record { reload = reloaded .word-at2 .ensures i; remaining = reloaded .before .word-at .ensures i };
+      flags = flagged .flags-in .ensures i;
+      events = raised .events .ensures i;
+      noted = noted .noted .ensures i;
+      diagnosis = diagnosed .diagnosis .ensures i;
+      modes = c .modes-in .ensures i;
+    }
 
 pub control-spec : {M : Type 1} → statement M
 control-spec =
@@ -62,4 +88,6 @@ control-spec =
     events-requires
     noted-requires
     diagnosis-requires
+    shared-slice-read-modes-in
+    modes-in-requires
     returns)

@@ -45,20 +45,29 @@ returns-4 : tie.Need-returns-4
 unfolding holdsState wellImage
 returns-4 c = all-fails (tests (now (c .before .before .before .before .before .before .before .before .args .mem))) 2 (sym (c .before .well-codes .ensures) ∙ not-true _ (c .if4 .taken))
 
-has-room-requires : tie.Need-has-room-requires
-has-room-requires c κs = search needs
+well-unused-requires : tie.Need-well-unused-requires
+well-unused-requires c κs = search needs
 
 returns-5 : tie.Need-returns-5
 unfolding holdsState wellImage
-returns-5 c =
-    let s₄ = c .before in
+returns-5 c = all-fails (tests (now (c .before .before .before .before .before .before .before .before .before .before .args .mem))) 3 (sym (c .before .well-unused .ensures) ∙ not-true _ (c .if5 .taken))
+
+has-room-requires : tie.Need-has-room-requires
+has-room-requires c κs = search needs
+
+returns-6 : tie.Need-returns-6
+unfolding holdsState wellImage
+returns-6 c =
+    let s₅ = c .before in
+    let s₄ = s₅ .before .before in
     let s₃ = s₄ .before .before in
     let s₂ = s₃ .before .before in
     let counts = ap not (sym (s₂ .before .well-counts .ensures)) ∙ s₂ .if2 .left in
     let line = ap not (sym (s₃ .before .well-line .ensures)) ∙ s₃ .if3 .left in
     let codes = ap not (sym (s₄ .before .well-codes .ensures)) ∙ s₄ .if4 .left in
+    let unused = ap not (sym (s₅ .before .well-unused .ensures)) ∙ s₅ .if5 .left in
     c .has-room .ensures
-    ∙ others-decide 3 (tests (now (s₂ .before .before .before .before .args .mem))) (counts, (line, (codes, tt)))
+    ∙ others-decide 4 (tests (now (s₂ .before .before .before .before .args .mem))) (counts, (line, (codes, (unused, tt))))
 
 pub holds-state-spec : {M : Type 1} → statement M
 holds-state-spec =
@@ -71,5 +80,7 @@ holds-state-spec =
     returns-3
     well-codes-requires
     returns-4
+    well-unused-requires
+    returns-5
     has-room-requires
-    returns-5)
+    returns-6)

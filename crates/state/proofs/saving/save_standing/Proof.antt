@@ -12,8 +12,8 @@ use Rattle.state.proofs.saving.save_standing.Tie as tie
 flags-requires : tie.Need-flags-requires
 flags-requires c κs = search needs
 
-bit-requires : tie.Need-bit-requires
-bit-requires c κs = search needs
+modes-requires : tie.Need-modes-requires
+modes-requires c κs = search needs
 
 phase-number-requires : tie.Need-phase-number-requires
 phase-number-requires c κs = search needs
@@ -61,14 +61,14 @@ same-length : tie.Need-same-length
 same-length c = simp length-set
 
 returns : tie.Need-returns
-returns c = let m = now (c .before .before .before .before .before .before .args .mem) in let i = c .before .before .before .before .before .before .args .control in λ s e. (λ j. wrote (wrote (wrote (wrote (wrote m 21 (c .before .before .phase-number .ensures j ∷ [])) 44 (c .before .low .ensures j ∷ c .high .ensures j ∷ [])) 0 (i .owner ∷ i .group ∷ i .stored ∷ c .before .before .before .before .flags .ensures j ∷ [])) 26 (i .diagnosis .«delayed_flags» ∷ c .before .before .before .bit .ensures .0 j ∷ [])) 56 (i .diagnosis .count ∷ i .diagnosis .«delayed_count» ∷ [])) ∙ standing-saved m s e i
+returns c = let m = now (c .before .before .before .before .before .before .args .mem) in let i = c .before .before .before .before .before .before .args .control in λ s e. (λ j. wrote (wrote (wrote (wrote (wrote m 21 (c .before .before .phase-number .ensures j ∷ [])) 44 (c .before .low .ensures j ∷ c .high .ensures j ∷ [])) 0 (i .owner ∷ i .group ∷ i .stored ∷ c .before .before .before .before .flags .ensures j ∷ [])) 26 (i .diagnosis .«delayed_flags» ∷ c .before .before .before .modes .ensures j ∷ [])) 56 (i .diagnosis .count ∷ i .diagnosis .«delayed_count» ∷ [])) ∙ standing-saved m s e i
 
 pub save-standing-spec : {M : Type 1} → statement M
 save-standing-spec =
     tie.close
     (tie.spec
     flags-requires
-    bit-requires
+    modes-requires
     phase-number-requires
     slice-write-mem
     low-requires

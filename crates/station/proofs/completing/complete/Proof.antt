@@ -10,17 +10,17 @@ use Rattle.station.proofs.completing.complete.Tie as tie
 request-by-requires : tie.Need-request-by-requires
 request-by-requires c κs = search needs
 
-is-accepted-requires : tie.Need-is-accepted-requires
-is-accepted-requires c κs = search needs
+is-good-exchange-requires : tie.Need-is-good-exchange-requires
+is-good-exchange-requires c κs = search needs
 
-accept-requires : tie.Need-accept-requires
-accept-requires c κs = (c .before .before .before .before .before .before .before .pre, sym (c .before .before .is-accepted .ensures) ∙ c .before .if1 .taken)
+exchange-requires : tie.Need-exchange-requires
+exchange-requires c κs = (c .before .before .before .before .before .before .before .pre, sym (c .before .before .is-good-exchange .ensures) ∙ c .before .if1 .taken)
 
 same-length : tie.Need-same-length
 same-length c = search needs
 
 returns : tie.Need-returns
-returns c = rw (c .before .before .before .before .before .before .before .request-by .ensures) at (c .before .before .accept .ensures)
+returns c = rw (c .before .before .before .before .before .before .before .request-by .ensures) at (c .before .before .exchange .ensures)
 
 setup-requires : tie.Need-setup-requires
 setup-requires c κs = search needs
@@ -54,8 +54,8 @@ complete-spec =
     tie.close
     (tie.spec
     request-by-requires
-    is-accepted-requires
-    accept-requires
+    is-good-exchange-requires
+    exchange-requires
     same-length
     returns
     setup-requires

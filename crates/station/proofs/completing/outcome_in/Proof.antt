@@ -19,6 +19,9 @@ control-requires c κs = search needs
 refilled-requires : tie.Need-refilled-requires
 refilled-requires c κs = search needs
 
+outputs-requires : tie.Need-outputs-requires
+outputs-requires c κs = search needs
+
 parameters-requires : tie.Need-parameters-requires
 parameters-requires c κs = search needs
 
@@ -32,7 +35,7 @@ is-open-requires-2 : tie.Need-is-open-requires-2
 is-open-requires-2 c κs = search needs
 
 prm-in-requires : tie.Need-prm-in-requires
-prm-in-requires c κs = search needs
+prm-in-requires c κs = c .before .before .before .before .before .before .before .before .before .before .before .pre
 
 serve-requires : tie.Need-serve-requires
 serve-requires c κs = search needs
@@ -47,11 +50,12 @@ returns c =
       c .before .before .before .configuration .ensures,
       c .before .before .before .before .is-open .ensures,
       c .before .before .before .before .before .parameters .ensures,
-      c .before .before .before .before .before .before .refilled .ensures,
-      c .before .before .before .before .before .before .before .control .ensures,
-      c .before .before .before .before .before .before .before .before .service-of .ensures,
-      c .before .before .before .before .before .before .before .before .before .incoming .ensures,
-      c .before .before .before .before .before .before .before .before .before .before .setup .ensures,
+      c .before .before .before .before .before .before .outputs .ensures,
+      c .before .before .before .before .before .before .before .refilled .ensures,
+      c .before .before .before .before .before .before .before .before .control .ensures,
+      c .before .before .before .before .before .before .before .before .before .service-of .ensures,
+      c .before .before .before .before .before .before .before .before .before .before .incoming .ensures,
+      c .before .before .before .before .before .before .before .before .before .before .before .setup .ensures,
     )
 
 pub outcome-in-spec : {M : Type 1} → statement M
@@ -63,6 +67,7 @@ outcome-in-spec =
     service-of-requires
     control-requires
     refilled-requires
+    outputs-requires
     parameters-requires
     is-open-requires
     configuration-requires

@@ -1,7 +1,7 @@
 -- `station::completing::pass_by` meets its contract.
 use mathlib.Core.Path.{ap, _∙_}
 use denote.Ref.{now}
-use Rattle.buffers.specs.Triple.{heldOf}
+use Rattle.buffers.specs.Roles.{heldOf}
 use Rattle.state.specs.declared.state.Drawn.the-variants.{Nothing}
 use Rattle.state.specs.declared.state.Outputs.{Outputs}
 use Rattle.state.specs.Unpack.{unpacked}

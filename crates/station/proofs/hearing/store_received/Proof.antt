@@ -1,5 +1,7 @@
 -- `station::hearing::store_received` meets its contract. In each branch: `read` after setup and telegram were read, `set` after the
 -- set was, `at` where its fill buffer is found.
+use native.Mathlib.Omega.{arith}
+use Rattle.buffers.specs.Roles as role
 use Rattle.state.specs.Layout.{outputRow, parameterRow, configurationRow}
 use Rattle.steps.proofs.Holding.{holds-safe}
 use Rattle.station.proofs.StoredOverMemory.{fill-room, fill-stored, names-outputs, names-parameters, names-configuration, names-none}
@@ -31,8 +33,8 @@ store-at-requires c κs =
     let set = at .before .before in
     let read = set .before .before .before .before in
     let safe = holds-safe _ _ (read .before .before .before .before .before .pre) in
-    fill-room safe (read .before .before .setup .ensures) outputRow (λ i. set .outputs .ensures i .set)
-    (at .before .fill .ensures) (at .outputs-at .ensures) (safe .outputs .fill-in)
+    fill-room safe (read .before .before .setup .ensures) outputRow (λ i. set .outputs .ensures i .set .place)
+    (at .before .fill .ensures) (at .outputs-at .ensures) (safe .outputs .within role.fill (omega arith))
 
 same-length : tie.Need-same-length
 same-length c = search needs
@@ -43,7 +45,7 @@ returns c =
     let set = at .before .before in
     let read = set .before .before .before .before in
     let safe = holds-safe _ _ (read .before .before .before .before .before .pre) in
-    fill-stored safe (read .before .before .setup .ensures) outputRow (λ i. set .outputs .ensures i .set)
+    fill-stored safe (read .before .before .setup .ensures) outputRow (λ i. set .outputs .ensures i .set .place)
     (at .before .fill .ensures) (at .outputs-at .ensures) _ _ _
     (names-outputs safe (read .incoming .ensures) _ _ (set .before .before .if1 .taken))
     (c .before .before .store-at .ensures)
@@ -66,8 +68,8 @@ store-at-requires-2 c κs =
     let set = at .before .before in
     let read = set .before .before .before .before .before .before in
     let safe = holds-safe _ _ (read .before .before .before .before .before .pre) in
-    fill-room safe (read .before .before .setup .ensures) parameterRow (λ i. set .parameters .ensures i .set)
-    (at .before .fill2 .ensures) (at .parameters-at .ensures) (safe .parameters .fill-in)
+    fill-room safe (read .before .before .setup .ensures) parameterRow (λ i. set .parameters .ensures i .set .place)
+    (at .before .fill2 .ensures) (at .parameters-at .ensures) (safe .parameters .within role.fill (omega arith))
 
 same-length-2 : tie.Need-same-length-2
 same-length-2 c = search needs
@@ -78,7 +80,7 @@ returns-2 c =
     let set = at .before .before in
     let read = set .before .before .before .before .before .before in
     let safe = holds-safe _ _ (read .before .before .before .before .before .pre) in
-    fill-stored safe (read .before .before .setup .ensures) parameterRow (λ i. set .parameters .ensures i .set)
+    fill-stored safe (read .before .before .setup .ensures) parameterRow (λ i. set .parameters .ensures i .set .place)
     (at .before .fill2 .ensures) (at .parameters-at .ensures) _ _ _
     (names-parameters safe (read .incoming .ensures) _ _ (set .before .before .before .before .if1 .left) (set .before .before .if2 .taken))
     (c .before .before .store-at2 .ensures)
@@ -101,8 +103,8 @@ store-at-requires-3 c κs =
     let set = at .before .before in
     let read = set .before .before .before .before .before .before .before .before in
     let safe = holds-safe _ _ (read .before .before .before .before .before .pre) in
-    fill-room safe (read .before .before .setup .ensures) configurationRow (λ i. set .configuration .ensures i .set)
-    (at .before .fill3 .ensures) (at .configuration-at .ensures) (safe .configuration .fill-in)
+    fill-room safe (read .before .before .setup .ensures) configurationRow (λ i. set .configuration .ensures i .set .place)
+    (at .before .fill3 .ensures) (at .configuration-at .ensures) (safe .configuration .within role.fill (omega arith))
 
 same-length-3 : tie.Need-same-length-3
 same-length-3 c = search needs
@@ -113,7 +115,7 @@ returns-3 c =
     let set = at .before .before in
     let read = set .before .before .before .before .before .before .before .before in
     let safe = holds-safe _ _ (read .before .before .before .before .before .pre) in
-    fill-stored safe (read .before .before .setup .ensures) configurationRow (λ i. set .configuration .ensures i .set)
+    fill-stored safe (read .before .before .setup .ensures) configurationRow (λ i. set .configuration .ensures i .set .place)
     (at .before .fill3 .ensures) (at .configuration-at .ensures) _ _ _
     (names-configuration safe (read .incoming .ensures) _ _ (set .before .before .before .before .before .before .if1 .left) (set .before .before .before .before .if2 .left) (set .before .before .if3 .taken))
     (c .before .before .store-at3 .ensures)

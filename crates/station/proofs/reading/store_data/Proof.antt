@@ -1,5 +1,7 @@
 use borrow.Author.Tests.{lt-ltb, le-ltb, eq-eqb, ne-eqb}
 use borrow.Author.Needs.{needs}
+use native.Mathlib.Omega.{arith}
+use Rattle.buffers.specs.Roles as role
 use Rattle.state.specs.Layout.{outputRow, parameterRow, configurationRow}
 use Rattle.steps.proofs.KeepsSafe.{buffer-room}
 use Rattle.station.proofs.reading.store_data.Statement.{statement}
@@ -18,7 +20,7 @@ store-at-requires : tie.Need-store-at-requires
 store-at-requires c κs =
     rw (c .before .before .outputs-at .ensures, c .before .before .before .fill .ensures)
     (buffer-room _ _ outputRow _ (c .before .before .before .before .before .before .before .before .before .pre)
-    (c .before .before .before .before .before .before .before .before .before .pre .outputs .fill-in))
+    (c .before .before .before .before .before .before .before .before .before .pre .outputs .within role.fill (omega arith)))
 
 same-length : tie.Need-same-length
 same-length c = search needs
@@ -46,7 +48,7 @@ store-at-requires-2 c κs =
     rw (c .before .before .parameters-at .ensures, c .before .before .before .fill2 .ensures)
     (buffer-room _ _ parameterRow _
     (c .before .before .before .before .before .before .before .before .before .before .before .pre)
-    (c .before .before .before .before .before .before .before .before .before .before .before .pre .parameters .fill-in))
+    (c .before .before .before .before .before .before .before .before .before .before .before .pre .parameters .within role.fill (omega arith)))
 
 same-length-2 : tie.Need-same-length-2
 same-length-2 c = search needs
@@ -75,7 +77,7 @@ store-at-requires-3 c κs =
     rw (c .before .before .configuration-at .ensures, c .before .before .before .fill3 .ensures)
     (buffer-room _ _ configurationRow _
     (c .before .before .before .before .before .before .before .before .before .before .before .before .before .pre)
-    (c .before .before .before .before .before .before .before .before .before .before .before .before .before .pre .configuration .fill-in))
+    (c .before .before .before .before .before .before .before .before .before .before .before .before .before .pre .configuration .within role.fill (omega arith)))
 
 same-length-3 : tie.Need-same-length-3
 same-length-3 c = search needs

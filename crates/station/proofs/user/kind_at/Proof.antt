@@ -1,7 +1,7 @@
 -- `station::user::kind_at` meets its contract.
 use mathlib.Core.Path.{_∙_}
 use borrow.Author.Tests.{eq-eqb, ne-eqb}
-use Rattle.buffers.specs.Triple.{heldOf}
+use Rattle.buffers.specs.Roles.{heldOf}
 use Rattle.state.specs.Layout.{outputsAt, inputsAt, parametersAt, configurationAt, diagnosisAt}
 use Rattle.steps.specs.Replies.{userPlace}
 use borrow.Author.Needs.{needs}

@@ -70,7 +70,7 @@ delaying-requires : tie.Need-delaying-requires
 delaying-requires c κs = search needs
 
 save-control-requires : tie.Need-save-control-requires
-save-control-requires c κs = search needs
+save-control-requires c κs = c .before .before .before .before .before .before .before .before .before .before .before .before .before .before .pre .long
 
 same-length-3 : tie.Need-same-length-3
 same-length-3 c = search needs

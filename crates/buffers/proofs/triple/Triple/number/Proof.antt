@@ -1,24 +1,13 @@
 -- `buffers::triple::Triple::number` meets its contract.
-use Prim.Native.Nat.{_+_, _*_, _%_, _≤_}
+use Prim.Native.Nat.{_+_, _*_, _%_}
 use native.Mathlib.Omega.{arith}
-use mathlib.Core.Path.{_≡_, refl, ap}
-use mathlib.Core.Bool.{Bool, true, false, cond}
+use mathlib.Core.Path.{ap}
 use lib.ListN.{getD}
 use lib.Dec.{ltb}
-use mir.Val.{boolByte}
 use borrow.Author.Needs.{needs}
+use Rattle.buffers.proofs.Flag.{flag, flag-le}
 use Rattle.buffers.proofs.triple.Triple.number.Statement.{statement}
 use Rattle.buffers.proofs.triple.Triple.number.Tie as tie
-
--- a flag as a number
-flag : (t : Bool) → boolByte t ≡ cond t 1 0
-flag true = refl
-flag false = refl
-
--- which is 1 at most
-flag-le : (t : Bool) → boolByte t ≤ 1
-flag-le true = omega arith
-flag-le false = omega arith
 
 element-copy-out-later : tie.Need-element-copy-out-later
 element-copy-out-later c = search needs

@@ -1,7 +1,7 @@
--- `station::completing::is_accepted` meets its contract.
+-- `station::completing::is_good_exchange` meets its contract.
 use borrow.Author.Needs.{needs}
-use Rattle.station.proofs.completing.is_accepted.Statement.{statement}
-use Rattle.station.proofs.completing.is_accepted.Tie as tie
+use Rattle.station.proofs.completing.is_good_exchange.Statement.{statement}
+use Rattle.station.proofs.completing.is_good_exchange.Tie as tie
 
 setup-requires : tie.Need-setup-requires
 setup-requires c κs = search needs
@@ -28,8 +28,8 @@ returns c =
       c .before .before .before .before .before .before .setup .ensures,
     )
 
-pub is-accepted-spec : {M : Type 1} → statement M
-is-accepted-spec =
+pub is-good-exchange-spec : {M : Type 1} → statement M
+is-good-exchange-spec =
     tie.close
     (tie.spec
     setup-requires
