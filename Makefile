@@ -16,7 +16,7 @@ LISTS ?= tests/vectors
 OUT := target/c
 
 # The base, document 01, is 1.0; with request n of document 02 it becomes 1.n.
-VERSION := 1.1
+VERSION := 1.2
 PREFIX ?= /usr/local
 
 CC := gcc
@@ -30,7 +30,7 @@ CPPFLAGS := -Iinclude -Iexamples
 COUNTED_CYCLES := 200
 
 HEADERS := include/dp.h examples/refusals.h examples/card.h
-FIRMWARE := examples/card.c examples/master.c $(HEADERS)
+FIRMWARE := examples/card.c examples/older.c examples/master.c examples/firmware.h $(HEADERS)
 WORKLOAD := bench/workload.c bench/workload.h $(HEADERS)
 
 # The programs whose instructions are counted.
@@ -58,7 +58,7 @@ $(OUT)/library: FORCE | $(OUT)
 	@echo '$(LIB) $(LENT)' | cmp -s - $@ || echo '$(LIB) $(LENT)' >$@
 
 $(OUT)/card: $(FIRMWARE) $(LIB) $(OUT)/library | $(OUT)
-	$(CC) $(CPPFLAGS) $(CFLAGS) examples/card.c examples/master.c $(LIB) -o $@
+	$(CC) $(CPPFLAGS) $(CFLAGS) $(filter %.c,$(FIRMWARE)) $(LIB) -o $@
 
 $(OUT)/header-c99: examples/header.c $(HEADERS) $(LIB) $(OUT)/library | $(OUT)
 	$(CC) $(CPPFLAGS) $(CFLAGS) $< $(LIB) -o $@
@@ -78,7 +78,7 @@ $(OUT)/lists: cross/lists.c $(HEADERS) $(LIB) $(OUT)/library | $(OUT)
 
 $(OUT)/lists-wrong: cross/lists.c cross/wrong-stations.c $(HEADERS) $(LIB) $(OUT)/library | $(OUT)
 	$(CC) $(CPPFLAGS) $(CFLAGS) cross/lists.c cross/wrong-stations.c $(LIB) \
-	    -Wl,--wrap=dp_read,--wrap=dp_write,--wrap=dp_start,--wrap=dp_gap -o $@
+	    -Wl,--wrap=dp_read,--wrap=dp_write,--wrap=dp_start,--wrap=dp_gap,--wrap=dp_window_read,--wrap=dp_window_write -o $@
 
 check: check-example check-gsd check-header check-prototypes check-lists
 	@echo "check: all as expected"

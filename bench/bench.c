@@ -76,6 +76,80 @@ PLACE int64_t last_send_leaves(void)
     return CALL(dp_send(MEMORY));
 }
 
+/* ---- The window ---- */
+
+PLACE void window_reads_events(void)
+{
+    CALL(dp_window_read(MEMORY, DP_INTEL, DP_CELL_INT_LOW));
+}
+
+PLACE void window_reads_events_in_motorola_order(void)
+{
+    CALL(dp_window_read(MEMORY, DP_MOTOROLA, DP_CELL_INT_LOW));
+}
+
+PLACE void window_hands_over(void)
+{
+    CALL(dp_window_read(MEMORY, DP_INTEL, DP_CELL_NEW_DIN_BUFFER));
+}
+
+PLACE void window_takes(void)
+{
+    expect("the answer of 0BH", CALL(dp_window_read(MEMORY, DP_INTEL, DP_CELL_NEXT_DOUT_BUFFER)), 1);
+}
+
+PLACE void window_gives_diagnosis(void)
+{
+    CALL(dp_window_read(MEMORY, DP_INTEL, DP_CELL_NEW_DIAG_BUFFER));
+}
+
+PLACE void window_judges_parameters(void)
+{
+    expect("the answer of 0EH", CALL(dp_window_read(MEMORY, DP_INTEL, DP_CELL_USER_PRM_DATA_OK)), 0);
+}
+
+PLACE void window_judges_parameters_bad(void)
+{
+    expect("the answer of 0FH", CALL(dp_window_read(MEMORY, DP_INTEL, DP_CELL_USER_PRM_DATA_NOK)), 0);
+}
+
+PLACE void window_judges_configuration(void)
+{
+    expect("the answer of 10H", CALL(dp_window_read(MEMORY, DP_INTEL, DP_CELL_USER_CFG_DATA_OK)), 0);
+}
+
+PLACE void window_judges_configuration_bad(void)
+{
+    expect("the answer of 11H", CALL(dp_window_read(MEMORY, DP_INTEL, DP_CELL_USER_CFG_DATA_NOK)), 0);
+}
+
+PLACE void window_reads_nothing(void)
+{
+    expect("the last cell", CALL(dp_window_read(MEMORY, DP_INTEL, DP_CELL_LAST)), 0);
+}
+
+PLACE void window_refuses_read(void)
+{
+    expect("a cell behind", dp_window_read(MEMORY, DP_INTEL, DP_CELL_LAST + 1), -DP_REFUSED_CELL);
+}
+
+PLACE void window_acknowledges(uint8_t octet)
+{
+    CALL(dp_window_write(MEMORY, DP_INTEL, DP_CELL_INT_ACK_HIGH, octet));
+}
+
+PLACE void window_writes_nothing(void)
+{
+    CALL(dp_window_write(MEMORY, DP_INTEL, DP_CELL_LAST, 0xFF));
+}
+
+PLACE void window_refuses_write(void)
+{
+    expect("a cell behind", dp_window_write(MEMORY, DP_INTEL, DP_CELL_LAST + 1, 0xFF), -DP_REFUSED_CELL);
+}
+
+/* ---- Scenes ---- */
+
 /* A telegram and its reply, if it draws one. */
 static void other_telegram(const uint8_t *t, size_t count, void (*last)(uint8_t))
 {
@@ -138,19 +212,28 @@ static void put_off_to_end_of_reply(void)
     expect("the outputs taken", CALL(dp_take_outputs(MEMORY)), 2);
 }
 
-/* ---- Sync ---- */
-
-/* From WAIT_PRM into the exchange, with sync allowed. It goes by none of start_up's places, whose figures stay those of
-   start-ups alone. */
-static void allow_sync(void)
+/* Set_Prm, with sync allowed, and Chk_Cfg. They go by none of start_up's places, whose figures stay those of start-ups
+   alone. */
+static void put_set_prm(void)
 {
     static const uint8_t set_prm[] = {0x68, 0x0C, 0x0C, 0x68, 0x85, 0x82, 0x5D, 0x3D, 0x3E,
                                       0xA8, 0xFF, 0xFF, 0x0B, 0x80, 0xB3, 0x00, 0xC3, 0x16};
+    other_telegram(set_prm, sizeof set_prm, octet_of_other_telegram);
+}
+
+static void put_chk_cfg(void)
+{
     static const uint8_t chk_cfg[] = {0x68, 0x09, 0x09, 0x68, 0x85, 0x82, 0x5D, 0x3E,
                                       0x3E, 0x1F, 0x1F, 0x2F, 0x2F, 0x7C, 0x16};
-    other_telegram(set_prm, sizeof set_prm, octet_of_other_telegram);
-    expect("parameters", CALL(dp_judge_parameters(MEMORY, DP_GOOD)), 0);
     other_telegram(chk_cfg, sizeof chk_cfg, octet_of_other_telegram);
+}
+
+/* From WAIT_PRM into the exchange. */
+static void allow_sync(void)
+{
+    put_set_prm();
+    expect("parameters", CALL(dp_judge_parameters(MEMORY, DP_GOOD)), 0);
+    put_chk_cfg();
     expect("configuration", CALL(dp_judge_configuration(MEMORY, DP_GOOD)), 0);
 }
 
@@ -171,6 +254,35 @@ static void outputs_by_sync(void)
     expect("what is taken after the next sync", CALL(dp_take_outputs(MEMORY)), 1);
 }
 
+/* A start-up and a cycle by the window, as an older vat program makes them, and bad judgements. From WAIT_PRM to
+   WAIT_PRM. */
+static void by_window(void)
+{
+    uint8_t t[TELEGRAM];
+    fill_request(t, 1);
+    put_set_prm();
+    window_judges_parameters();
+    put_chk_cfg();
+    window_judges_configuration();
+    other_telegram(t, sizeof t, octet_of_other_telegram);
+    window_reads_events();
+    window_reads_events_in_motorola_order();
+    window_acknowledges(DP_EVENT_BIT(DP_EVENT_OUTPUTS) >> 8);
+    window_takes();
+    window_hands_over();
+    window_gives_diagnosis();
+    window_reads_nothing();
+    window_writes_nothing();
+    window_refuses_read();
+    window_refuses_write();
+    put_set_prm();
+    window_judges_parameters_bad();
+    put_set_prm();
+    expect("parameters", CALL(dp_judge_parameters(MEMORY, DP_GOOD)), 0);
+    put_chk_cfg();
+    window_judges_configuration_bad();
+}
+
 static void rare_calls(void)
 {
     for (int i = 0; i < 10; i++) {
@@ -184,6 +296,8 @@ static void rare_calls(void)
         put_off(gap_leaves);
         put_off_to_end_of_reply();
         outputs_by_sync(); /* in WAIT_PRM, where the Leave master that was put off ended */
+        CALL(dp_leave_master(MEMORY));
+        by_window();
     }
 }
 

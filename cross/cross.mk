@@ -39,7 +39,7 @@ endef
 
 # The example firmware, compiled by the first words and run by the second, over the library of a folder.
 define try_example
-$(1) $(CPPFLAGS) $(CFLAGS) examples/card.c examples/master.c $(3)/libcard.a -o $(3)/card
+$(1) $(CPPFLAGS) $(CFLAGS) $(filter %.c,$(FIRMWARE)) $(3)/libcard.a -o $(3)/card
 $(LIMIT) $(2) $(3)/card </dev/null >$(3)/card.out
 diff examples/card.expected $(3)/card.out
 endef

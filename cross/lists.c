@@ -129,33 +129,74 @@ static int64_t run_ack(uint8_t *lent, uint64_t lent_len, const struct arguments 
     return dp_acknowledge(lent, lent_len, (uint16_t)a->number[0]);
 }
 
-/* form: what stands behind the name, one letter for each: n a number, w one of 16 bits, l a memory's length, x an octet
-   and s a slice in hexadecimal digits. A call with no arguments has `alone` instead of `run`. */
+static int64_t run_winread(uint8_t *lent, uint64_t lent_len, const struct arguments *a)
+{
+    return dp_window_read(lent, lent_len, a->number[0], a->number[1]);
+}
+
+static int64_t run_winwrite(uint8_t *lent, uint64_t lent_len, const struct arguments *a)
+{
+    return dp_window_write(lent, lent_len, a->number[0], a->number[1], (uint8_t)a->number[2]);
+}
+
+/* Whether a call with these arguments only looks. */
+typedef bool looks(const struct arguments *a);
+
+static bool never(const struct arguments *a)
+{
+    (void)a;
+    return false;
+}
+
+static bool always(const struct arguments *a)
+{
+    (void)a;
+    return true;
+}
+
+/* All but the commands. */
+static bool winread_looks(const struct arguments *a)
+{
+    uint32_t address = a->number[1];
+    return address != 0x09 && address != 0x0B && (address < 0x0D || address > 0x11);
+}
+
+/* All but acknowledging. */
+static bool winwrite_looks(const struct arguments *a)
+{
+    return a->number[1] != 0x02 && a->number[1] != 0x03;
+}
+
+/* form: what stands behind the name, one letter for each: n a number, w one of 16 bits, l a memory's length, o the order
+   of a window access, x an octet and s a slice in hexadecimal digits. A call with no arguments has `alone` instead of
+   `run`. */
 struct call {
     const char *name, *form;
     run *run;
     int64_t (*alone)(uint8_t *, uint64_t);
-    bool looks;
+    looks *looks;
 };
 
 static const struct call calls[] = {
-    {"start", "lnwnnnnns", run_start, NULL, false},
-    {"octet", "x", run_octet, NULL, false},
-    {"bad", "x", run_bad, NULL, false},
-    {"gap", "", NULL, dp_gap, false},
-    {"send", "", NULL, dp_send, false},
-    {"tick", "", NULL, dp_tick, false},
-    {"take", "", NULL, dp_take_outputs, false},
-    {"read", "nn", run_read, NULL, true},
-    {"write", "nnx", run_write, NULL, false},
-    {"handover", "", NULL, dp_hand_over_inputs, false},
-    {"diag", "nn", run_diag, NULL, false},
-    {"judgeprm", "n", run_judgeprm, NULL, false},
-    {"judgecfg", "n", run_judgecfg, NULL, false},
-    {"events", "", NULL, dp_events, true},
-    {"ack", "w", run_ack, NULL, false},
-    {"pending", "", NULL, dp_pending, true},
-    {"leave", "", NULL, dp_leave_master, false},
+    {"start", "lnwnnnnns", run_start, NULL, never},
+    {"octet", "x", run_octet, NULL, never},
+    {"bad", "x", run_bad, NULL, never},
+    {"gap", "", NULL, dp_gap, never},
+    {"send", "", NULL, dp_send, never},
+    {"tick", "", NULL, dp_tick, never},
+    {"take", "", NULL, dp_take_outputs, never},
+    {"read", "nn", run_read, NULL, always},
+    {"write", "nnx", run_write, NULL, never},
+    {"handover", "", NULL, dp_hand_over_inputs, never},
+    {"diag", "nn", run_diag, NULL, never},
+    {"judgeprm", "n", run_judgeprm, NULL, never},
+    {"judgecfg", "n", run_judgecfg, NULL, never},
+    {"events", "", NULL, dp_events, always},
+    {"ack", "w", run_ack, NULL, never},
+    {"pending", "", NULL, dp_pending, always},
+    {"leave", "", NULL, dp_leave_master, never},
+    {"winread", "on", run_winread, NULL, winread_looks},
+    {"winwrite", "onx", run_winwrite, NULL, winwrite_looks},
 };
 
 /* ---- A list's lines ---- */
@@ -245,11 +286,25 @@ static size_t octets(const struct source *from, const char *word, uint8_t *into,
     return digits / 2;
 }
 
+/* The order of a window access: 0 for Intel, and for Motorola other values in turn, which all have to act alike. */
+static uint32_t order(const struct source *from, const char *word)
+{
+    static const uint32_t motorola[] = {1, 2, 0x100, 0x10000, 0x80000000, UINT32_MAX};
+    static size_t turn;
+    if (strcmp(word, "i") == 0)
+        return 0;
+    if (strcmp(word, "m") != 0)
+        stop(from, "neither i for Intel nor m for Motorola: ", word);
+    return motorola[turn++ % (sizeof motorola / sizeof motorola[0])];
+}
+
 static void argument(const struct source *from, char kind, const char *word, uint32_t *value, struct arguments *a)
 {
     uint8_t octet;
     if (kind == 's') {
         a->slice_len = octets(from, word, a->slice, SLICE);
+    } else if (kind == 'o') {
+        *value = order(from, word);
     } else if (kind == 'x') {
         if (octets(from, word, &octet, 1) != 1)
             stop(from, "not one octet: ", word);
@@ -310,7 +365,7 @@ static const char *misdeed(const struct call *call, const struct arguments *a, i
         return "changed an octet outside the memory";
     if (memcmp(slice.octets + slice.at, a->slice, a->slice_len) != 0)
         return "changed the slice";
-    if ((answer < 0 || call->looks) && memcmp(memory.octets + memory.at, was, memory.length) != 0)
+    if ((answer < 0 || call->looks(a)) && memcmp(memory.octets + memory.at, was, memory.length) != 0)
         return "changed the memory, which it has to leave as it was";
     return NULL;
 }

@@ -21,6 +21,10 @@ enum { CARD_SILENT = -1 };
 /* Power-up, before any interrupt is let through. */
 void card_power_up(void);
 
+/* The same for the older vat program. Its diagnosis gets count and flags here, once: the chip had them in its RAM, and
+   the window cannot change them. */
+void card_power_up_older(void);
+
 /* The receive interrupt. bad: not 0 if the receiver flags the octet. */
 void card_on_octet(uint8_t octet, uint8_t bad);
 
@@ -36,5 +40,8 @@ void card_on_tick(void);
 
 /* One round of the main loop. */
 void vat_cycle(void);
+
+/* One round of the older vat program's, in place of that one: it works through the window of registers alone. */
+void older_vat_cycle(void);
 
 #endif

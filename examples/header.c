@@ -17,12 +17,14 @@ typedef int64_t (*on_start)(uint8_t *, uint64_t, uint32_t, uint16_t, uint32_t, u
 
 static const on_start start = dp_start;
 static const on_octet octet = dp_octet;
-static const on_write write_octet = dp_write;
+static const on_write writes[] = {dp_write, dp_window_write};
 static const on_mask acknowledge = dp_acknowledge;
-static const on_two_numbers two_numbers[] = {dp_read, dp_new_diagnosis};
+static const on_two_numbers two_numbers[] = {dp_read, dp_new_diagnosis, dp_window_read};
 static const on_number judgements[] = {dp_judge_parameters, dp_judge_configuration};
 static const on_memory memory_alone[] = {dp_gap,    dp_send,    dp_tick,        dp_take_outputs, dp_hand_over_inputs,
                                          dp_events, dp_pending, dp_leave_master};
+
+#define COUNT(list) (sizeof(list) / sizeof(list)[0])
 
 /* The greatest length that all six can have in the shortest memory. */
 enum { SHORT = 88 };
@@ -43,17 +45,19 @@ static int64_t started(size_t memory_len, uint32_t address, uint32_t len)
     return start(memory, memory_len, address, 0x80B3, len, len, len, len, len, get_cfg, len);
 }
 
-/* Every call but Start on a memory in which no station was started. */
+/* Every call but Start on a memory in which no station was started. With 99 for an index, a count, flags or an address
+   the call could be refused by a higher number too. */
 static void expect_damaged(void)
 {
-    for (size_t i = 0; i < sizeof memory_alone / sizeof memory_alone[0]; i++)
+    for (size_t i = 0; i < COUNT(memory_alone); i++)
         expect("a call without a station", memory_alone[i](memory, sizeof memory), -DP_REFUSED_DAMAGED);
-    for (size_t i = 0; i < 2; i++) {
-        expect("two numbers without a station", two_numbers[i](memory, sizeof memory, 1, 1), -DP_REFUSED_DAMAGED);
+    for (size_t i = 0; i < COUNT(two_numbers); i++)
+        expect("two numbers without a station", two_numbers[i](memory, sizeof memory, 1, 99), -DP_REFUSED_DAMAGED);
+    for (size_t i = 0; i < COUNT(judgements); i++)
         expect("judging without a station", judgements[i](memory, sizeof memory, DP_GOOD), -DP_REFUSED_DAMAGED);
-    }
+    for (size_t i = 0; i < COUNT(writes); i++)
+        expect("a write without a station", writes[i](memory, sizeof memory, 4, 99, 0), -DP_REFUSED_DAMAGED);
     expect("dp_octet without a station", octet(memory, sizeof memory, 0, 0), -DP_REFUSED_DAMAGED);
-    expect("dp_write without a station", write_octet(memory, sizeof memory, 4, 0, 0), -DP_REFUSED_DAMAGED);
     expect("dp_acknowledge without a station", acknowledge(memory, sizeof memory, 0), -DP_REFUSED_DAMAGED);
 }
 
@@ -88,10 +92,58 @@ static void expect_fresh(void)
     expect("dp_take_outputs", dp_take_outputs(m, n), 2);
 }
 
+/* What does not depend on the order. Every command here leaves the events as they were. */
+static void expect_cells(uint32_t order)
+{
+    uint8_t *m = memory;
+    size_t n = DP_MEMORY_MIN;
+    expect("New_DIN_Buffer_Cmd", dp_window_read(m, n, order, DP_CELL_NEW_DIN_BUFFER), 0);
+    expect("Next_DOUT_Buffer_Cmd", dp_window_read(m, n, order, DP_CELL_NEXT_DOUT_BUFFER), 0);
+    for (uint32_t cell = DP_CELL_USER_PRM_DATA_OK; cell <= DP_CELL_USER_CFG_DATA_NOK; cell++)
+        expect("a judging cell", dp_window_read(m, n, order, cell), -DP_REFUSED_JUDGING);
+    expect("the last cell", dp_window_read(m, n, order, DP_CELL_LAST), 0);
+    expect("the last cell, written", dp_window_write(m, n, order, DP_CELL_LAST, 0xFF), 0);
+    expect("a command cell, written", dp_window_write(m, n, order, DP_CELL_NEW_DIAG_BUFFER, 0xFF), 0);
+    const uint32_t beyond[] = {DP_CELL_LAST + 1, 0x100 + DP_CELL_INT_ACK_LOW, 0x10000 + DP_CELL_INT_ACK_LOW,
+                               UINT32_MAX};
+    for (size_t i = 0; i < COUNT(beyond); i++) {
+        expect("behind the window", dp_window_read(m, n, order, beyond[i]), -DP_REFUSED_CELL);
+        expect("behind the window, written", dp_window_write(m, n, order, beyond[i], 0xFF), -DP_REFUSED_CELL);
+    }
+}
+
+/* swap: 1 where the order exchanges the halves of a register, otherwise 0. Event 12 is set, in the upper half. */
+static void expect_halves(uint32_t order, uint32_t swap)
+{
+    uint8_t *m = memory;
+    size_t n = DP_MEMORY_MIN;
+    const uint8_t diagnosis = DP_EVENT_BIT(DP_EVENT_DIAGNOSIS) >> 8;
+    expect("New_DIAG_Puffer_Cmd", dp_window_read(m, n, order, DP_CELL_NEW_DIAG_BUFFER), 0);
+    expect_cells(order);
+    expect("Int-Req-Reg, written", dp_window_write(m, n, order, DP_CELL_INT_REQ_HIGH ^ swap, 0xFF), 0);
+    expect("the other half of Int-Ack-Reg", dp_window_write(m, n, order, DP_CELL_INT_ACK_LOW ^ swap, 0xFF), 0);
+    expect("Int-Req-Reg 7..0", dp_window_read(m, n, order, DP_CELL_INT_REQ_LOW ^ swap), 0);
+    expect("Int-Req-Reg 15..8", dp_window_read(m, n, order, DP_CELL_INT_REQ_HIGH ^ swap), diagnosis);
+    expect("Int-Reg 7..0", dp_window_read(m, n, order, DP_CELL_INT_LOW ^ swap), 0);
+    expect("Int-Reg 15..8", dp_window_read(m, n, order, DP_CELL_INT_HIGH ^ swap), diagnosis);
+    expect("Int-Ack-Reg 15..8", dp_window_write(m, n, order, DP_CELL_INT_ACK_HIGH ^ swap, diagnosis), 0);
+    expect("dp_events", dp_events(m, n), 0);
+}
+
+static void expect_window(void)
+{
+    expect("dp_start", started(DP_MEMORY_MIN, 5, SHORT), 0);
+    expect_halves(DP_INTEL, 0);
+    expect_halves(DP_MOTOROLA, 1);
+    expect_halves(0x100, 1);
+    expect_halves(UINT32_MAX, 1);
+}
+
 int main(void)
 {
     expect_damaged();
     expect_start();
     expect_fresh();
+    expect_window();
     return 0;
 }

@@ -1,7 +1,7 @@
 /*
  * A master that takes the card of card.c through a start-up, some exchanges of data, a diagnosis and a clear, falls
- * silent, and comes back to run the vat in step with others, by sync and freeze. It prints each telegram; the vat
- * program prints what it sees. Nothing depends on time or chance.
+ * silent, and comes back to run the vat in step with others, by sync and freeze. Then it meets the older vat program of
+ * older.c. It prints each telegram; the vat program prints what it sees. Nothing depends on time or chance.
  */
 #include "card.h"
 
@@ -22,8 +22,9 @@ enum { CLEAR = 0x02, UNFREEZE = 0x04, FREEZE = 0x08, UNSYNC = 0x10, SYNC = 0x20 
 /* Set_Prm with the watchdog on: 3 x 2 ticks. */
 enum { WATCHDOG_FACTOR_1 = 3, WATCHDOG_FACTOR_2 = 2, WATCHDOG_TICKS = WATCHDOG_FACTOR_1 * WATCHDOG_FACTOR_2 };
 
+enum { LONGEST = 255 };
 struct telegram {
-    uint8_t octets[255];
+    uint8_t octets[LONGEST];
     size_t count;
 };
 
@@ -67,18 +68,23 @@ static struct telegram with_data(uint8_t da, uint8_t sa, uint8_t fc, const uint8
     return t;
 }
 
-/* The reply octet by octet, as long as the card has one. */
-static struct telegram fetch_reply(void)
+/* The reply octet by octet, as long as the card has one and up to a count. */
+static struct telegram fetch_octets(size_t most)
 {
     struct telegram reply = {{0}, 0};
-    for (;;) {
+    while (reply.count < most) {
         int octet = card_on_transmitter_free();
-        if (octet == CARD_SILENT || reply.count == sizeof reply.octets)
+        if (octet == CARD_SILENT)
             break;
         append(&reply, (uint8_t)octet);
     }
     print_octets("card   >", reply.octets, reply.count);
     return reply;
+}
+
+static struct telegram fetch_reply(void)
+{
+    return fetch_octets(LONGEST);
 }
 
 /* Some octets of a telegram, as they come one by one. */
@@ -96,18 +102,28 @@ static struct telegram ask(struct telegram t)
     return fetch_reply();
 }
 
-/* A service point of the station: bit 7 in both addresses, DSAP and SSAP before the data. */
-static struct telegram ask_point(uint8_t da, uint8_t fc, uint8_t dsap, const uint8_t *data, size_t count)
+/* To a service point of the station: bit 7 in both addresses, DSAP and SSAP before the data. */
+static struct telegram to_point(uint8_t da, uint8_t fc, uint8_t dsap, const uint8_t *data, size_t count)
 {
     uint8_t all[32] = {dsap, SSAP};
     for (size_t i = 0; i < count; i++)
         all[i + 2] = data[i];
-    return ask(with_data(da | EXTENSION, MASTER | EXTENSION, fc, all, count + 2));
+    return with_data(da | EXTENSION, MASTER | EXTENSION, fc, all, count + 2);
+}
+
+static struct telegram ask_point(uint8_t da, uint8_t fc, uint8_t dsap, const uint8_t *data, size_t count)
+{
+    return ask(to_point(da, fc, dsap, data, count));
+}
+
+static struct telegram slave_diag_telegram(void)
+{
+    return to_point(CARD_ADDRESS, FC_REQUEST, 60, NULL, 0);
 }
 
 static void slave_diag(void)
 {
-    ask_point(CARD_ADDRESS, FC_REQUEST, 60, NULL, 0);
+    ask(slave_diag_telegram());
 }
 
 /* allowed: PRM_SYNC, PRM_FREEZE, both or 0; limit: the vat's own parameter. */
@@ -154,6 +170,19 @@ static void data_exchange_with_cycle_inside(uint8_t valves, uint8_t heating)
     put_on_line(t.octets, half);
     vat_cycle();
     put_on_line(t.octets + half, t.count - half);
+    fetch_reply();
+}
+
+/* Or while a reply is half sent, here the older vat program's loop, twice. */
+static void slave_diag_with_older_cycles_inside(void)
+{
+    struct telegram t = slave_diag_telegram();
+    size_t half = 9; /* the header has been sent, the diagnosis not yet */
+    card_on_gap();
+    put_on_line(t.octets, t.count);
+    fetch_octets(half);
+    older_vat_cycle();
+    older_vat_cycle();
     fetch_reply();
 }
 
@@ -282,6 +311,49 @@ static void end_sync_and_freeze(void)
     slave_diag();
 }
 
+static void older_start_up(void)
+{
+    title("The card starts again, with the older vat program. Its order is Motorola's: 02H has events 15 to 8.");
+    card_power_up_older();
+    older_vat_cycle();
+    title("Set_Prm: a limit of 0A degrees, too low. Chk_Cfg. 0FH judges bad, and 11H has nothing left to judge (03).");
+    set_prm(0, 0x0A);
+    chk_cfg();
+    older_vat_cycle();
+    title("Slave_Diag: the parameters are at fault, no master (42 05 00 FF). Behind that 02 19, as given at power-up.");
+    slave_diag();
+    title("Set_Prm: a limit of 1E degrees. 0EH judges good.");
+    set_prm(0, 0x1E);
+    older_vat_cycle();
+    title("Chk_Cfg. 10H judges good, and the exchange of data begins.");
+    chk_cfg();
+    older_vat_cycle();
+    title("Slave_Diag: the station is ready, the watchdog is on, its master is 2 (00 0C 00 02).");
+    slave_diag();
+}
+
+static void older_exchange(void)
+{
+    title("Data_Exchange: first valve open, heating 60. 02H and 03H acknowledge, 0BH takes, 09H hands over.");
+    data_exchange(0x01, 0x60);
+    older_vat_cycle();
+    title("Data_Exchange: the same. The vat gets too hot: 0DH, with the count and flags of power-up.");
+    data_exchange(0x01, 0x60);
+    older_vat_cycle();
+}
+
+static void older_diagnosis(void)
+{
+    title("Data_Exchange: FC is 0A. Slave_Diag: while it is answered 0DH is first delayed (00) and then refused (03).");
+    if (data_exchange(0x00, 0x20))
+        slave_diag_with_older_cycles_inside();
+    title("Data_Exchange: heating off. FC is 0A by the diagnosis that was delayed, and 0DH gives a newer one.");
+    data_exchange(0x00, 0x00);
+    older_vat_cycle();
+    title("Slave_Diag: the newest temperature (02 24).");
+    slave_diag();
+}
+
 int main(void)
 {
     card_power_up();
@@ -293,5 +365,8 @@ int main(void)
     sync_outputs();
     freeze_inputs();
     end_sync_and_freeze();
+    older_start_up();
+    older_exchange();
+    older_diagnosis();
     return 0;
 }

@@ -29,6 +29,8 @@ static inline const char *refusal_in_words(int64_t answer)
         return "no such octet is shown, or a new diagnosis is delayed";
     case DP_REFUSED_DELAYED:
         return "an earlier new diagnosis is still delayed";
+    case DP_REFUSED_CELL:
+        return "an address of the window is above 015H";
     default:
         return "a number that this program does not know";
     }

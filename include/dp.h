@@ -26,6 +26,24 @@
  * the newest that were handed over. The master's clear publishes zeros at once and empties what is held back. Both
  * modes end when the exchange of data does, and what is then held back is never published.
  *
+ * The window. A vat program that was written for the chip (SPC3) reads and writes registers by their addresses.
+ * dp_window_read and dp_window_write give it those from 000H to 015H, in the order of an Intel or of a Motorola
+ * processor. Behind a cell that does something stands one of the other calls (enum dp_cell), and a program may use
+ * both. The events have the chip's bits. As on the chip a read of a command cell acts: whoever reads all cells to have
+ * a look has handed over inputs, taken outputs, given a diagnosis and judged sets. What is not as on the chip, and may
+ * have to be changed in such a program:
+ * - A command cell answers what its call answers, and not the chip's codes of buffers and states. So 0 is success at
+ *   09H and 0DH, where the chip names the next buffer and 0 says that there is none, and 0BH answers 0, 1 or 2 as
+ *   dp_take_outputs does. 0 and 1 of the four judging cells mean the same as there; the chip's 3, not allowed, is
+ *   refusal 6 here, and a refusal is below 0.
+ * - There is no mask and no interrupt line. Int-Req-Reg and Int-Reg both show every event that is set, and events are
+ *   cleared through Int-Ack-Reg and never set through Int-Req-Reg.
+ * - All other registers are read as 0 and written without effect: status, mask, mode, the states of the buffers.
+ * - What lay in the chip's RAM above 015H is not in the window. dp_start is given the lengths, dp_read and dp_write
+ *   have the octets of the buffers, and count and flags of the diagnosis are those of the last dp_new_diagnosis that
+ *   was not refused.
+ * - The exchange of data begins with a good configuration and does not wait for the first inputs.
+ *
  * Answers. Every call answers an int64_t: 0 or a value as told below, or, refused, the number of the refusal negated.
  * So an answer below 0 is a refusal, and a refused call has changed nothing. If a call could be refused for several
  * reasons it is refused by the lowest number.
@@ -65,7 +83,8 @@ enum dp_refusal {
     DP_REFUSED_JUDGING = 6, /* no set is open, or configuration is judged before good parameters */
     DP_REFUSED_RANGE = 7,   /* a kind, flags, a count, an index or a judgement is out of range */
     DP_REFUSED_ABSENT = 8,  /* no set shown, or index not below its count; kind 5 while a diagnosis is delayed */
-    DP_REFUSED_DELAYED = 9  /* new diagnosis while one is delayed */
+    DP_REFUSED_DELAYED = 9, /* new diagnosis while one is delayed */
+    DP_REFUSED_CELL = 10    /* an address of the window above 015H */
 };
 
 /* Events: numbers of bits in the event word. The other bits are never set. */
@@ -100,6 +119,31 @@ enum dp_diagnosis_flag {
 
 /* Judgements. */
 enum dp_judgement { DP_BAD = 0, DP_GOOD = 1 };
+
+/* Orders of the window: Motorola's exchanges 00H with 01H and 02H with 03H, and no others. */
+enum dp_order {
+    DP_INTEL = 0,
+    DP_MOTOROLA = 1 /* and so is every other value but 0. In it the first four addresses of dp_cell change in pairs */
+};
+
+/* Cells of the window by Intel's addresses, under the chip's names, and the calls behind them. Behind all other reads
+   and writes, up to the last address, there is none: they answer 0 and change nothing. */
+enum dp_cell {
+    DP_CELL_INT_REQ_LOW = 0x00,       /* Int-Req-Reg, read: bits 7 to 0 of dp_events */
+    DP_CELL_INT_REQ_HIGH = 0x01,      /* Int-Req-Reg, read: bits 15 to 8 */
+    DP_CELL_INT_LOW = 0x02,           /* Int-Reg, read: bits 7 to 0 of dp_events, as at 00H */
+    DP_CELL_INT_HIGH = 0x03,          /* Int-Reg, read: bits 15 to 8 */
+    DP_CELL_INT_ACK_LOW = 0x02,       /* Int-Ack-Reg, written: dp_acknowledge of bits 7 to 0 */
+    DP_CELL_INT_ACK_HIGH = 0x03,      /* Int-Ack-Reg, written: of bits 15 to 8 */
+    DP_CELL_NEW_DIN_BUFFER = 0x09,    /* New_DIN_Buffer_Cmd, read: dp_hand_over_inputs */
+    DP_CELL_NEXT_DOUT_BUFFER = 0x0B,  /* Next_DOUT_Buffer_Cmd, read: dp_take_outputs */
+    DP_CELL_NEW_DIAG_BUFFER = 0x0D,   /* New_DIAG_Puffer_Cmd, read: dp_new_diagnosis, count and flags as they are */
+    DP_CELL_USER_PRM_DATA_OK = 0x0E,  /* User_Prm_Data_OK, read: dp_judge_parameters, good */
+    DP_CELL_USER_PRM_DATA_NOK = 0x0F, /* User_Prm_Data_NOK, read: dp_judge_parameters, bad */
+    DP_CELL_USER_CFG_DATA_OK = 0x10,  /* User_Cfg_Data_OK, read: dp_judge_configuration, good */
+    DP_CELL_USER_CFG_DATA_NOK = 0x11, /* User_Cfg_Data_NOK, read: dp_judge_configuration, bad */
+    DP_CELL_LAST = 0x15               /* the last address */
+};
 
 /*
  * Start: sets a fresh station up in the memory, whatever was there before. It waits for a gap and then for Set_Prm.
@@ -222,6 +266,22 @@ int64_t dp_pending(uint8_t *memory, uint64_t memory_len);
  * Answers 0. Refused by 5.
  */
 int64_t dp_leave_master(uint8_t *memory, uint64_t memory_len);
+
+/*
+ * Reads a cell of the window, in an order (enum dp_order): makes the call behind it (enum dp_cell). A new diagnosis
+ * given so has the count and flags in force: those of the last dp_new_diagnosis that took effect, 6 and 0 if none did.
+ * Reading a set and judging it belong into one critical section here too.
+ * Answers an octet of the event word, 0 to 255; what the call answers; or 0 where there is none. Refused by 5; 6 or 9
+ * as the call is; 10 address.
+ */
+int64_t dp_window_read(uint8_t *memory, uint64_t memory_len, uint32_t order, uint32_t address);
+
+/*
+ * Writes a cell of the window, in an order. Int-Ack-Reg acknowledges the events of its eight bits, never 10 and 11;
+ * each half is written by itself. A write to any other cell changes nothing.
+ * Answers 0. Refused by 5; 10 address.
+ */
+int64_t dp_window_write(uint8_t *memory, uint64_t memory_len, uint32_t order, uint32_t address, uint8_t octet);
 
 #ifdef __cplusplus
 }

@@ -30,24 +30,53 @@ impl StartValues {
     }
 }
 
+/// The order of the octets of a word, in which a window access counts the addresses.
+#[derive(Clone, Copy, PartialEq, Eq, Debug)]
+pub enum Order {
+    Intel,
+    Motorola,
+}
+
 #[derive(Clone, PartialEq, Eq, Debug)]
 pub enum Call {
     Start(StartValues),
-    Octet { octet: u8, bad: bool },
+    Octet {
+        octet: u8,
+        bad: bool,
+    },
     Gap,
     Send,
     Tick,
     Take,
-    Read { kind: u32, index: u32 },
-    Write { kind: u32, index: u32, octet: u8 },
+    Read {
+        kind: u32,
+        index: u32,
+    },
+    Write {
+        kind: u32,
+        index: u32,
+        octet: u8,
+    },
     HandOver,
-    NewDiagnosis { count: u32, flags: u32 },
+    NewDiagnosis {
+        count: u32,
+        flags: u32,
+    },
     JudgeParameters(u32),
     JudgeConfiguration(u32),
     Events,
     Acknowledge(u16),
     Pending,
     Leave,
+    WindowRead {
+        order: Order,
+        address: u32,
+    },
+    WindowWrite {
+        order: Order,
+        address: u32,
+        octet: u8,
+    },
 }
 
 /// The longest memory that a file may ask for; Start refuses everything above 4,096 anyway.
@@ -73,7 +102,22 @@ impl fmt::Display for Call {
             Call::Acknowledge(mask) => write!(f, "ack {mask}"),
             Call::Pending => write!(f, "pending"),
             Call::Leave => write!(f, "leave"),
+            Call::WindowRead { order, address } => write!(f, "winread {order} {address}"),
+            Call::WindowWrite {
+                order,
+                address,
+                octet,
+            } => write!(f, "winwrite {order} {address} {octet:02X}"),
         }
+    }
+}
+
+impl fmt::Display for Order {
+    fn fmt(&self, f: &mut fmt::Formatter<'_>) -> fmt::Result {
+        f.write_str(match self {
+            Order::Intel => "i",
+            Order::Motorola => "m",
+        })
     }
 }
 
@@ -151,6 +195,15 @@ fn parse_call(words: &mut Words) -> Result<Call, String> {
         "ack" => Call::Acknowledge(words.number("the mask", u16::MAX.into())? as u16),
         "pending" => Call::Pending,
         "leave" => Call::Leave,
+        "winread" => Call::WindowRead {
+            order: words.order()?,
+            address: words.number("the address", u32::MAX.into())? as u32,
+        },
+        "winwrite" => Call::WindowWrite {
+            order: words.order()?,
+            address: words.number("the address", u32::MAX.into())? as u32,
+            octet: words.octet()?,
+        },
         unknown => return Err(format!("'{unknown}' is no call")),
     })
 }
@@ -209,6 +262,16 @@ impl<'a> Words<'a> {
         }
     }
 
+    fn order(&mut self) -> Result<Order, String> {
+        match self.next("the order")? {
+            "i" => Ok(Order::Intel),
+            "m" => Ok(Order::Motorola),
+            word => Err(format!(
+                "the order is '{word}', neither i for Intel nor m for Motorola"
+            )),
+        }
+    }
+
     fn slice(&mut self) -> Result<Vec<u8>, String> {
         let word = self.next("the Get_Cfg slice")?;
         if word == "-" {
@@ -259,6 +322,10 @@ mod tests {
             "ack 65535",
             "pending",
             "leave",
+            "winread i 0",
+            "winread m 4294967295",
+            "winwrite i 2 0F",
+            "winwrite m 21 FF",
         ];
         for line in lines {
             assert_eq!(parse(line).unwrap().unwrap().to_string(), line);
@@ -301,6 +368,22 @@ mod tests {
             "start 1536 5 65536 1 1 7 1 6 20",
             "start 1536 5 1 1 1 7 1 6 2",
             "start 99999999999 5 1 1 1 7 1 6 20",
+            "winread",
+            "winread 0",
+            "winread i",
+            "winread x 0",
+            "winread I 0",
+            "winread im 0",
+            "winread 0 i",
+            "winread i -1",
+            "winread i 0B",
+            "winread i 4294967296",
+            "winread i 0 0",
+            "winwrite m 2",
+            "winwrite m 2 1",
+            "winwrite m 2 100",
+            "winwrite 2 01",
+            "winwrite m 2 01 02",
         ] {
             assert!(parse(line).is_err(), "{line}");
         }

@@ -1,6 +1,6 @@
 //! The C library under test, and the memory that is lent to it, with guard octets on both sides.
 
-use crate::call::{Call, StartValues};
+use crate::call::{Call, Order, StartValues};
 use crate::random::Random;
 
 mod library {
@@ -34,6 +34,14 @@ mod library {
         pub fn dp_acknowledge(memory: *mut u8, len: u64, mask: u16) -> i64;
         pub fn dp_pending(memory: *mut u8, len: u64) -> i64;
         pub fn dp_leave_master(memory: *mut u8, len: u64) -> i64;
+        pub fn dp_window_read(memory: *mut u8, len: u64, order: u32, address: u32) -> i64;
+        pub fn dp_window_write(
+            memory: *mut u8,
+            len: u64,
+            order: u32,
+            address: u32,
+            octet: u8,
+        ) -> i64;
     }
 }
 
@@ -108,9 +116,29 @@ const fn pattern() -> [u8; 2 * GUARD] {
     octets
 }
 
+/// Intel is 0, Motorola any other value: these have to act alike.
+const INTEL: u32 = 0;
+const MOTOROLA: [u32; 6] = [1, 2, 0x100, 0x1_0000, 0x8000_0000, u32::MAX];
+
+/// The order of a window access as C takes it. Which of Motorola's values it is follows from the state part and the
+/// address, so that a list makes the same calls whenever it is run.
+fn order_in_c(memory: &[u8], call: &Call) -> u32 {
+    let (Call::WindowRead { order, address } | Call::WindowWrite { order, address, .. }) = call
+    else {
+        return INTEL;
+    };
+    let state = memory.iter().take(STATE);
+    let sum = state.fold(*address, |sum, octet| sum.wrapping_add((*octet).into()));
+    match order {
+        Order::Intel => INTEL,
+        Order::Motorola => MOTOROLA[sum as usize % MOTOROLA.len()],
+    }
+}
+
 /// One call of the library on a lent slice. The slice alone is lent: nothing else may be read or changed.
 pub fn call_library(memory: &mut [u8], call: &Call) -> i64 {
     let len = memory.len() as u64;
+    let order = order_in_c(memory, call);
     let at = memory.as_mut_ptr();
     // Sound: pointer and length are those of a slice that is lent mutably for the time of the call.
     unsafe {
@@ -133,6 +161,10 @@ pub fn call_library(memory: &mut [u8], call: &Call) -> i64 {
             Call::Acknowledge(mask) => library::dp_acknowledge(at, len, mask),
             Call::Pending => library::dp_pending(at, len),
             Call::Leave => library::dp_leave_master(at, len),
+            Call::WindowRead { address, .. } => library::dp_window_read(at, len, order, address),
+            Call::WindowWrite { address, octet, .. } => {
+                library::dp_window_write(at, len, order, address, octet)
+            }
         }
     }
 }
@@ -154,7 +186,7 @@ unsafe fn start(at: *mut u8, len: u64, values: &StartValues) -> i64 {
     )
 }
 
-/// Whether the answer is one that document 01 gives this call in some state.
+/// Whether the answer is one that the documents give this call in some state.
 pub fn is_possible(call: &Call, answer: i64) -> bool {
     match call {
         Call::Start(_) => matches!(answer, -4..=0),
@@ -170,12 +202,35 @@ pub fn is_possible(call: &Call, answer: i64) -> bool {
         }
         Call::Events => matches!(answer, -5 | 0..=0xFFFF),
         Call::Pending => matches!(answer, -5 | 0..=16),
+        Call::WindowRead { address, .. } => is_possible_in_window(*address, answer),
+        Call::WindowWrite { address, .. } => match address {
+            0x00..=0x15 => matches!(answer, -5 | 0),
+            _ => matches!(answer, -10 | -5),
+        },
+    }
+}
+
+/// The same of a read of the window. A call behind it is never out of range, so that no 7 is among them; Motorola
+/// exchanges only addresses with the same answers.
+fn is_possible_in_window(address: u32, answer: i64) -> bool {
+    match address {
+        0x00..=0x03 => matches!(answer, -5 | 0..=255),
+        0x0B => matches!(answer, -5 | 0..=2),
+        0x0D => matches!(answer, -9 | -5 | 0),
+        0x0E..=0x11 => matches!(answer, -6 | -5 | 0 | 1),
+        0x04..=0x15 => matches!(answer, -5 | 0),
+        _ => matches!(answer, -10 | -5),
     }
 }
 
 /// Calls that only look: no rule lets them change anything.
 pub fn only_looks(call: &Call) -> bool {
-    matches!(call, Call::Read { .. } | Call::Events | Call::Pending)
+    match call {
+        Call::Read { .. } | Call::Events | Call::Pending => true,
+        Call::WindowRead { address, .. } => !matches!(address, 0x09 | 0x0B | 0x0D..=0x11),
+        Call::WindowWrite { address, .. } => !matches!(address, 0x02 | 0x03),
+        _ => false,
+    }
 }
 
 /// The station of the library: the memory it lives in and where its buffers end.

@@ -157,6 +157,7 @@ fn meaning(answer: i64) -> &'static str {
         -7 => " (refused: out of range)",
         -8 => " (refused: nothing there to read or write now)",
         -9 => " (refused: a new diagnosis is delayed already)",
+        -10 => " (refused: no address of the window)",
         _ => "",
     }
 }

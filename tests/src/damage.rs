@@ -4,7 +4,7 @@
 //! a state's is said by docs/memory.md (image.rs), and every image here is held to it. In all cases no octet outside
 //! the lent memory is touched and every answer is one that the call can have.
 
-use crate::call::{Call, StartValues};
+use crate::call::{Call, Order, StartValues};
 use crate::card::{call_library, first_change, is_possible, only_looks, Card, Memory, STATE};
 use crate::draft::{self, Draft};
 use crate::image::{is_state, FURTHER, LENGTHS};
@@ -84,6 +84,36 @@ fn every_call() -> Vec<Call> {
         Call::JudgeConfiguration(0),
         Call::Acknowledge(0xFFFF),
         Call::Leave,
+        Call::WindowRead {
+            order: Order::Intel,
+            address: 0x01,
+        },
+        Call::WindowRead {
+            order: Order::Motorola,
+            address: 0x0B,
+        },
+        Call::WindowRead {
+            order: Order::Intel,
+            address: 0x0D,
+        },
+        Call::WindowRead {
+            order: Order::Motorola,
+            address: 0x11,
+        },
+        Call::WindowRead {
+            order: Order::Intel,
+            address: 0x16,
+        },
+        Call::WindowWrite {
+            order: Order::Motorola,
+            address: 0x02,
+            octet: 0xFF,
+        },
+        Call::WindowWrite {
+            order: Order::Intel,
+            address: u32::MAX,
+            octet: 0xFF,
+        },
     ]
 }
 
@@ -260,7 +290,10 @@ impl Trial<'_> {
     /// True if the image is refused. The memory is as before when this is over.
     fn judge(&mut self, memory: &mut Memory) -> Result<bool, String> {
         let refused = memory.call(&Call::Events) == -5;
-        match (is_state(&memory.contents()[..STATE], memory.length()), refused) {
+        match (
+            is_state(&memory.contents()[..STATE], memory.length()),
+            refused,
+        ) {
             (true, true) => return Err("refuses a state with 5".into()),
             (false, false) => return Err("takes it for a state".into()),
             _ => (),
@@ -306,7 +339,7 @@ impl Trial<'_> {
 
     fn wild_call(&mut self) -> Call {
         let random = &mut *self.random;
-        match random.below(16) {
+        match random.below(18) {
             0 | 1 => Call::Send,
             2 => Call::Gap,
             3 | 4 => Call::Octet {
@@ -333,6 +366,15 @@ impl Trial<'_> {
             12 => Call::JudgeConfiguration(random.below(2) as u32),
             13 => Call::Acknowledge(random.next() as u16),
             14 => Call::Pending,
+            15 => Call::WindowRead {
+                order: random.pick(&[Order::Intel, Order::Motorola]),
+                address: random.below(0x18) as u32,
+            },
+            16 => Call::WindowWrite {
+                order: random.pick(&[Order::Intel, Order::Motorola]),
+                address: random.below(0x18) as u32,
+                octet: random.octet(),
+            },
             _ => Call::Leave,
         }
     }

@@ -2,7 +2,7 @@
 //! telegrams make sense in the phase the station is in, and the scenarios walk straight to the places that chance
 //! alone would hardly find. The rest of the list is disorder on purpose.
 
-use crate::call::{Call, StartValues};
+use crate::call::{Call, Order, StartValues};
 use crate::draft::{self, Draft};
 use crate::ledger::{Ledger, Phase, Station, DIAGNOSIS_HEAD};
 use crate::random::Random;
@@ -18,8 +18,10 @@ pub fn list(seed: u64, number: u64, length: usize) -> Vec<Call> {
         station: Station::default(),
         calls: Vec::with_capacity(length),
         length,
+        window_alone: None,
     };
     generator.opening();
+    generator.change_vat_program();
     while !generator.is_full() {
         generator.episode();
     }
@@ -32,6 +34,8 @@ struct Habits {
     interruptions: usize,
     /// How many of 100 telegrams are damaged on the way.
     damage: usize,
+    /// How many of 100 stretches are those of an older vat program, which uses the window alone.
+    older: usize,
     masters: Vec<u8>,
 }
 
@@ -40,6 +44,7 @@ impl Habits {
         Habits {
             interruptions: random.pick(&[0, 5, 20, 60, 150]),
             damage: random.pick(&[0, 5, 15]),
+            older: random.pick(&[0, 0, 25, 50, 100]),
             masters: vec![
                 random.pick(&[0, 1, 2]),
                 random.pick(&[3, 60, 125]),
@@ -89,6 +94,8 @@ struct Generator {
     station: Station,
     calls: Vec<Call>,
     length: usize,
+    /// The order in which an older vat program uses the window now, if it is one.
+    window_alone: Option<Order>,
 }
 
 /// Calls and what they lead to.
@@ -97,8 +104,17 @@ impl Generator {
         self.calls.len() >= self.length
     }
 
-    /// Puts a call on the list. A full list takes no more, so that a scenario may simply go on to its end.
+    /// Puts a call on the list, or the accesses by which an older vat program does the same.
     fn call(&mut self, call: Call) {
+        let calls = match self.window_alone {
+            Some(order) => self.through_the_window(order, call),
+            None => vec![call],
+        };
+        calls.into_iter().for_each(|call| self.put_on_list(call));
+    }
+
+    /// A full list takes no more, so that a scenario may simply go on to its end.
+    fn put_on_list(&mut self, call: Call) {
         if !self.is_full() {
             self.station.answer(&call);
             self.calls.push(call);
@@ -184,6 +200,24 @@ impl Generator {
             Call::Acknowledge(1),
             Call::Pending,
             Call::Leave,
+            Call::WindowRead {
+                order: Order::Intel,
+                address: 0x0B,
+            },
+            Call::WindowRead {
+                order: Order::Motorola,
+                address: 0x16,
+            },
+            Call::WindowWrite {
+                order: Order::Motorola,
+                address: 0x02,
+                octet: 0xFF,
+            },
+            Call::WindowWrite {
+                order: Order::Intel,
+                address: u32::MAX,
+                octet: 0xFF,
+            },
         ];
         calls.into_iter().for_each(|call| self.call(call));
     }
@@ -309,6 +343,9 @@ impl Generator {
 /// Episodes: the pieces a list is made of.
 impl Generator {
     fn episode(&mut self) {
+        if self.random.chance(15) {
+            self.change_vat_program();
+        }
         let weights = [34, 9, 7, 16, 6, 6, 3, 19];
         match self.random.weighted(&weights) {
             0 => self.sensible_telegram(),
@@ -325,7 +362,7 @@ impl Generator {
     fn scenario(&mut self) {
         match self
             .random
-            .weighted(&[10, 14, 22, 10, 10, 8, 10, 10, 6, 1, 6, 12, 10, 10])
+            .weighted(&[10, 14, 22, 10, 10, 8, 10, 10, 6, 1, 6, 12, 10, 10, 8])
         {
             0 => self.reach_exchange(),
             1 => self.delayed_diagnosis(),
@@ -340,7 +377,8 @@ impl Generator {
             10 => self.controls(),
             11 => self.outputs_in_sync(),
             12 => self.inputs_frozen(),
-            _ => self.modes_that_end(),
+            13 => self.modes_that_end(),
+            _ => self.writes_without_effect(),
         }
     }
 
@@ -852,6 +890,7 @@ impl Generator {
             5,
             1,
             6,
+            9,
         ];
         match self.random.weighted(&weights) {
             0 => Call::Take,
@@ -865,7 +904,8 @@ impl Generator {
             8 => Call::Acknowledge(self.mask()),
             9 => Call::Pending,
             10 => Call::Leave,
-            _ => self.read_of_a_set(),
+            11 => self.read_of_a_set(),
+            _ => self.some_access(),
         }
     }
 
@@ -964,7 +1004,7 @@ impl Generator {
             .pick(&[beyond, beyond + 1, 256, 65536, u32::MAX]);
         let longest = self.ledger().values.diagnosis;
         let octet = self.random.octet();
-        match self.random.below(11) {
+        match self.random.below(13) {
             0 => Call::Read {
                 kind: bad_kind,
                 index: 0,
@@ -1008,9 +1048,133 @@ impl Generator {
                 flags: self.random.pick(&[8, 15, 255, 256, 257, u32::MAX]),
             },
             9 => Call::JudgeParameters(self.random.pick(&[2, 255, 256, 257, u32::MAX])),
-            _ => Call::JudgeConfiguration(self.random.pick(&[2, 255, 256, 257, u32::MAX])),
+            10 => Call::JudgeConfiguration(self.random.pick(&[2, 255, 256, 257, u32::MAX])),
+            11 => Call::WindowRead {
+                order: self.some_order(),
+                address: self.address_beyond(),
+            },
+            _ => Call::WindowWrite {
+                order: self.some_order(),
+                address: self.address_beyond(),
+                octet,
+            },
         }
     }
+}
+
+/// Accesses of the window.
+impl Generator {
+    /// From here on the vat program may be an older one.
+    fn change_vat_program(&mut self) {
+        let order = self.some_order();
+        let older = self.random.chance(self.habits.older);
+        self.window_alone = older.then_some(order);
+    }
+
+    /// What an older vat program does in place of a call. What has no cell stays as it is.
+    fn through_the_window(&mut self, order: Order, call: Call) -> Vec<Call> {
+        let read = |address| Call::WindowRead { order, address };
+        match call {
+            Call::HandOver => vec![read(0x09)],
+            Call::Take => vec![read(0x0B)],
+            Call::NewDiagnosis { .. } => vec![read(0x0D)],
+            Call::JudgeParameters(1) => vec![read(0x0E)],
+            Call::JudgeParameters(0) => vec![read(0x0F)],
+            Call::JudgeConfiguration(1) => vec![read(0x10)],
+            Call::JudgeConfiguration(0) => vec![read(0x11)],
+            Call::Events => match self.random.chance(50) {
+                true => vec![read(0x00), read(0x01)],
+                false => vec![read(0x02), read(0x03)],
+            },
+            Call::Acknowledge(mask) => acknowledged_in_halves(order, mask),
+            _ => vec![call],
+        }
+    }
+
+    fn some_order(&mut self) -> Order {
+        self.random.pick(&[Order::Intel, Order::Motorola])
+    }
+
+    /// Any cell, read or written: also one that a sensible program leaves alone.
+    fn some_access(&mut self) -> Call {
+        let order = self.some_order();
+        let address = self.random.below(0x16) as u32;
+        match self.random.chance(50) {
+            true => Call::WindowRead { order, address },
+            false => Call::WindowWrite {
+                order,
+                address,
+                octet: self.half_of_a_mask(),
+            },
+        }
+    }
+
+    fn half_of_a_mask(&mut self) -> u8 {
+        let [low, high] = self.mask().to_le_bytes();
+        self.random.pick(&[low, high, low | high])
+    }
+
+    /// Above 015H: right behind it, far behind it, and such that the lowest octets alone would name a cell.
+    fn address_beyond(&mut self) -> u32 {
+        let any = self.random.below(0x16) as u32;
+        let cell = self.random.pick(&[any, any, 0x02, 0x03]);
+        let far = self
+            .random
+            .pick(&[0x20, 0x100, 0x1000, 0x1_0000, 0x8000_0000]);
+        match self.random.below(5) {
+            0 => 0x16,
+            1 => self.random.between(0x17, 0xFF) as u32,
+            2 => u32::MAX - cell,
+            _ => far + cell,
+        }
+    }
+
+    /// Writes to cells that do something when they are read or that show the events. What is open, new or set by then
+    /// has to stay.
+    fn writes_without_effect(&mut self) {
+        self.open_a_set_or_exchange();
+        for _ in 0..self.random.between(3, 9) {
+            let cells = [0x00, 0x01, 0x09, 0x0B, 0x0D, 0x0E, 0x0F, 0x10, 0x11];
+            let write = Call::WindowWrite {
+                order: self.some_order(),
+                address: self.random.pick(&cells),
+                octet: self.half_of_a_mask(),
+            };
+            self.call(write);
+        }
+        for address in 0x00..=0x03 {
+            let order = self.some_order();
+            self.call(Call::WindowRead { order, address });
+        }
+        self.user_work();
+    }
+
+    fn open_a_set_or_exchange(&mut self) {
+        let watchdog = self.any_watchdog();
+        match self.random.below(3) {
+            0 => self.parametrise(watchdog),
+            1 => self.configure(watchdog),
+            _ => {
+                self.be_in_exchange();
+                self.exchange_quietly();
+            }
+        }
+    }
+}
+
+/// The two writes that acknowledge what the mask does.
+fn acknowledged_in_halves(order: Order, mask: u16) -> Vec<Call> {
+    let [low, high] = mask.to_le_bytes();
+    let octets = match order {
+        Order::Intel => [(0x02, low), (0x03, high)],
+        Order::Motorola => [(0x02, high), (0x03, low)],
+    };
+    let write = |(address, octet)| Call::WindowWrite {
+        order,
+        address,
+        octet,
+    };
+    octets.map(write).to_vec()
 }
 
 /// Scenarios: straight ways to places that chance alone would hardly find.
@@ -1038,12 +1202,16 @@ impl Generator {
         }
     }
 
-    fn reach_exchange_with(&mut self, watchdog: Option<(u8, u8)>) {
+    fn configure(&mut self, watchdog: Option<(u8, u8)>) {
         self.parametrise(watchdog);
         self.judge_parameters_good();
         let draft = self.good_chk_cfg();
         self.put_quietly(&draft);
         self.hear_quietly();
+    }
+
+    fn reach_exchange_with(&mut self, watchdog: Option<(u8, u8)>) {
+        self.configure(watchdog);
         self.judge_configuration_good();
     }
 

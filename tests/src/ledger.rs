@@ -1,5 +1,5 @@
 //! A second implementation of the station: the ledger of document 01 (section "The ledger") with Req 01 of document 02,
-//! on lists.
+//! on lists. The window of Req 02 is in window.rs.
 //!
 //! It is fed the arguments of the calls alone and has no memory, no buffers and no roles. A telegram's octets are
 //! gathered and acted on whole at the last one; a reply is fixed whole when it is drawn. Where a document can be read in
@@ -184,7 +184,7 @@ pub struct Ledger {
 }
 
 /// A refusal's number with the outcome that names its cause.
-type Refusal = (i64, Outcome);
+pub type Refusal = (i64, Outcome);
 
 /// The station as the calls see it: a ledger, once a Start has answered 0.
 #[derive(Clone, Default)]
@@ -340,7 +340,18 @@ impl Ledger {
     }
 
     fn answer(&mut self, call: &Call) -> i64 {
-        let answer = match *call {
+        match self.carry_out(call) {
+            Ok(number) => number,
+            Err((number, cause)) => {
+                self.note(cause);
+                -number
+            }
+        }
+    }
+
+    /// The answer to a call, or its refusal, which has changed nothing.
+    pub fn carry_out(&mut self, call: &Call) -> Result<i64, Refusal> {
+        match *call {
             Call::Start(_) => unreachable!("the station answers Start itself"),
             Call::Octet { octet, bad } => Ok(self.octet(octet, bad)),
             Call::Gap => Ok(self.gap()),
@@ -357,21 +368,20 @@ impl Ledger {
             Call::Acknowledge(mask) => Ok(self.acknowledge(mask)),
             Call::Pending => Ok(self.pending()),
             Call::Leave => Ok(self.leave_master()),
-        };
-        match answer {
-            Ok(number) => number,
-            Err((number, cause)) => {
-                self.note(cause);
-                -number
-            }
+            Call::WindowRead { order, address } => self.window_read(order, address),
+            Call::WindowWrite {
+                order,
+                address,
+                octet,
+            } => self.window_write(order, address, octet),
         }
     }
 
-    fn note(&mut self, outcome: Outcome) {
+    pub fn note(&mut self, outcome: Outcome) {
         self.notes.push(outcome);
     }
 
-    fn note_if(&mut self, reached: bool, outcome: Outcome) {
+    pub fn note_if(&mut self, reached: bool, outcome: Outcome) {
         if reached {
             self.note(outcome);
         }

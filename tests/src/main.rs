@@ -1,16 +1,20 @@
-//! Compares the C library of the station with a second implementation of document 01 and of Req 01 of document 02. See
-//! tests/README.md.
+//! Compares the C library of the station with a second implementation of document 01 and of Req 01 and 02 of document
+//! 02. See tests/README.md.
 
 #[cfg(test)]
 mod bench;
 mod call;
 mod card;
+#[cfg(test)]
+mod cells;
 mod compare;
 mod damage;
 mod draft;
 mod generator;
 mod image;
 mod ledger;
+#[cfg(test)]
+mod line;
 mod lists;
 #[cfg(test)]
 mod modes;
@@ -19,6 +23,7 @@ mod random;
 mod systematic;
 mod telegram;
 mod vectors;
+mod window;
 
 use std::path::Path;
 use std::process::ExitCode;

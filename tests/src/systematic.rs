@@ -1,8 +1,9 @@
 //! What need not be left to chance. From a handful of reached states every telegram of a small collection is tried with
 //! each octet changed to each value, with each other call at each place inside it and inside its reply, and the
-//! octets that decide what a telegram is are run through all their values with a check sum that is right.
+//! octets that decide what a telegram is are run through all their values with a check sum that is right. Every address of
+//! the window is read and written in both orders.
 
-use crate::call::{Call, StartValues};
+use crate::call::{Call, Order, StartValues};
 use crate::compare::{Difference, Pair};
 use crate::draft::{self, Draft};
 use crate::ledger::Phase;
@@ -228,6 +229,24 @@ fn other_calls() -> Vec<Call> {
     ]
 }
 
+/// Every address of the window and some above, in both orders, read and written. The octets have the bits of all
+/// events, of 8, 10, 12 and 13, and of 1, 3 and 11.
+fn accesses() -> Vec<Call> {
+    let mut accesses = Vec::new();
+    let beyond = [0x16, 0x17, 0xFF, 0x100, 0x1000, 0x8000_0000, u32::MAX];
+    for address in (0x00..=0x15).chain(beyond) {
+        for order in [Order::Intel, Order::Motorola] {
+            accesses.push(Call::WindowRead { order, address });
+            accesses.extend([0xFF, 0x35, 0x0A].map(|octet| Call::WindowWrite {
+                order,
+                address,
+                octet,
+            }));
+        }
+    }
+    accesses
+}
+
 /// The states that these lists lead to.
 fn bases(ways: Vec<(&'static str, Vec<Call>)>) -> Result<Vec<Base>, String> {
     let mut bases = Vec::new();
@@ -366,6 +385,22 @@ fn ways_to_modes() -> Vec<(&'static str, Vec<Call>)> {
     ]
 }
 
+/// The way to a state in which every event is set: both sets are open, and the watchdog ended an exchange before.
+fn way_to_events() -> Vec<(&'static str, Vec<Call>)> {
+    let way = [
+        vec![start()],
+        exchange_entered(&good_parameters(Some((1, 2)))),
+        telegram_calls(&control(draft::FREEZE, 0)),
+        vec![Call::Tick, Call::Tick],
+        vec![Call::NewDiagnosis { count: 8, flags: 1 }],
+        telegram_calls(&request(draft::SET_PRM, &good_parameters(None))),
+        sends(1),
+        telegram_calls(&request(draft::CHK_CFG, &[0x33])),
+        sends(1),
+    ];
+    vec![("every event set", way.concat())]
+}
+
 /// From WAIT_PRM to DATA_EXCH with these parameters; if they are not good the calls behind them are refused.
 fn exchange_entered(parameters: &[u8]) -> Vec<Call> {
     [
@@ -383,7 +418,11 @@ fn exchange_entered(parameters: &[u8]) -> Vec<Call> {
 pub fn run(threads: usize) -> Result<u64, String> {
     let all = bases(ways())?;
     let modes = bases(ways_to_modes())?;
-    let tasks = tasks(&all, &modes);
+    let events = bases(way_to_events())?;
+    let mut tasks = tasks(&all, &modes);
+    for base in all.iter().chain(&modes).chain(&events) {
+        push_accesses(&mut tasks, base);
+    }
     let next = AtomicUsize::new(0);
     let failures: Mutex<Vec<(usize, String)>> = Mutex::new(Vec::new());
     let compared = AtomicU64::new(0);
@@ -490,6 +529,16 @@ fn tasks<'a>(bases: &'a [Base], modes: &'a [Base]) -> Vec<Task<'a>> {
     tasks
 }
 
+fn push_accesses<'a>(tasks: &mut Vec<Task<'a>>, base: &'a Base) {
+    push(tasks, base, "every window access".into(), every_access);
+    push(
+        tasks,
+        base,
+        "every octet written to the window".into(),
+        every_octet_written,
+    );
+}
+
 fn push<'a>(
     tasks: &mut Vec<Task<'a>>,
     base: &'a Base,
@@ -528,7 +577,7 @@ fn change_with_good_check_sum(walker: &mut Walker, octets: &[u8]) -> Compared {
     Ok(())
 }
 
-/// One or two other calls at each place inside the telegram.
+/// One or two other calls, or one window access, at each place inside the telegram.
 fn calls_inside(walker: &mut Walker, octets: &[u8]) -> Compared {
     let calls = telegram_calls(octets);
     for at in 0..=calls.len() {
@@ -558,6 +607,37 @@ fn put_in(walker: &mut Walker, calls: &[Call], at: usize) -> Compared {
         walker.variant(&[before, std::slice::from_ref(&first), behind].concat())?;
         for second in other_calls() {
             walker.variant(&[before, &[first.clone(), second], behind].concat())?;
+        }
+    }
+    for access in accesses() {
+        walker.variant(&[before, &[access], behind].concat())?;
+    }
+    Ok(())
+}
+
+/// Every access by itself, and with one other call before it or behind it.
+fn every_access(walker: &mut Walker) -> Compared {
+    for access in accesses() {
+        walker.variant(std::slice::from_ref(&access))?;
+        for other in other_calls() {
+            walker.variant(&[access.clone(), other.clone()])?;
+            walker.variant(&[other, access.clone()])?;
+        }
+    }
+    Ok(())
+}
+
+/// Every octet, written to each of the cells that the events stand in.
+fn every_octet_written(walker: &mut Walker) -> Compared {
+    for octet in 0..=255 {
+        for address in 0x00..=0x03 {
+            for order in [Order::Intel, Order::Motorola] {
+                walker.variant(&[Call::WindowWrite {
+                    order,
+                    address,
+                    octet,
+                }])?;
+            }
         }
     }
     Ok(())
@@ -712,4 +792,22 @@ fn watchdogs(walker: &mut Walker) -> Compared {
         walker.variant(&[all_but_one, vec![Call::Tick, Call::Tick]].concat())?;
     }
     Ok(())
+}
+
+#[cfg(test)]
+mod tests {
+    use super::*;
+    use crate::ledger::Station;
+
+    #[test]
+    fn every_event_is_set_where_the_name_says_so() {
+        let mut station = Station::default();
+        for (_, way) in way_to_events() {
+            way.iter()
+                .for_each(|call| assert!(station.answer(call).0 >= 0, "{call}"));
+        }
+        let events = [1, 3, 8, 10, 11, 12, 13];
+        let word: i64 = events.into_iter().map(|number| 1 << number).sum();
+        assert_eq!(station.answer(&Call::Events).0, word);
+    }
 }

@@ -1,61 +1,87 @@
 -- Demand 3: for every list of calls from a freshly started station the answers over the memory are the ledger's.
 use Prim.Native.Nat.{ℕ}
 use mathlib.Core.Path.{_≡_, refl, sym, ap, subst, _∙_}
-use mathlib.Core.Bool.{Bool}
-use mathlib.Core.List.{List, [], _∷_, _++_}
+use mathlib.Core.Bool.{true}
+use mathlib.Core.List.{List, _∷_, _++_}
 use lib.ListN.{length, getD}
-use Rattle.state.specs.declared.answer.Answer.{Answer}
 use Rattle.state.specs.declared.answer.Answer.the-variants.{Value}
 use Rattle.state.specs.declared.setup.Setup.{Setup}
 use Rattle.state.specs.declared.state.State.{State}
 use Rattle.state.specs.Answer.{Called}
 use Rattle.state.specs.Start.{initialState, laidOut}
-use Rattle.steps.specs.Calls.{started, called, answers, memoryAfter}
+use Rattle.state.specs.Unpack.{unpacked}
+use Rattle.state.proofs.Damage.{holds-unpacked}
+use Rattle.rules.specs.Runs.{answersTo, leftBy}
+use Rattle.rules.proofs.Runs.{answers-alike, left-alike}
+use Rattle.steps.specs.Step.{stepOver}
+use Rattle.steps.specs.Calls.{started, wellMemory, called, answers, memoryAfter}
 use Rattle.state.proofs.LaidOut.{laid-holds, laid-length}
 use Rattle.ledger.specs.Ledger.{Ledger, fresh}
+use Rattle.ledger.specs.User.{Told}
 use Rattle.ledger.specs.Calls as ledger
-use Rattle.rules.specs.Call.{Call, octet, read}
-use Rattle.ledger.specs.Exchange.{Exchanged}
+use Rattle.rules.specs.Call.{Call, read}
 use Rattle.ledger.specs.History.{readable, history}
-use Rattle.ledger.proofs.Exchange.{exchange}
+use Rattle.ledger.proofs.Exchange.{exchange, places-alike}
 use Rattle.ledger.proofs.History.{outputs-read}
-use Rattle.agreement.specs.Agreement.{memoryOf, PlacesChanged, Agreement, Demand3}
+use Rattle.agreement.specs.Agreement.{memoryOf, Agreement, Demand3}
 use Rattle.agreement.proofs.StartAgrees.{start-related}
 use Rattle.steps.specs.Demand1.{LengthIn, Begins}
 use Rattle.steps.proofs.Guarded.{holds-well, called-steps, started-begins, begins-started}
-use Rattle.agreement.proofs.StepAgrees.{On, Does, does}
+use Rattle.agreement.proofs.StepAgrees.{On, does}
 
--- a memory of the right length that holds the state s, which the ledger l is about
-pub record Ready (m : List ℕ) (s : State) (l : Ledger) : Type 0 where
+-- a memory of the right length that holds a state, which the ledger l is about
+pub record Ready (m : List ℕ) (l : Ledger) : Type 0 where
   pub length-in : LengthIn (length m)
-  pub on : On m s l
+  pub state : State
+  pub on : On m state l
 
-module _ (m : List ℕ) (s : State) (l : Ledger) (r : Ready m s l) (c : Call) where
-  abbrev d : Does m l c
-  d = does m s l (r .on) c
+-- what is answered and left, on the memory and on the ledger alike
+pub record Alike (x : Called) (t : Told) : Type 0 where
+  pub answers : x .answer ≡ t .answer
+  pub again : Ready (x .memory) (t .ledger)
 
-  -- a call passes the check and makes its step
-  pub calls-of : called m c ≡ record { answer = ledger.step l c .answer; memory = d .memory-after }
-  calls-of = called-steps m c (holds-well m s (r .length-in) (r .on .holds)) ∙ d .tells
+module _ (m : List ℕ) (l : Ledger) (r : Ready m l) where
+  -- such a memory passes the check
+  pub ready-well : wellMemory m ≡ true
+  ready-well = holds-well m (r .state) (r .length-in) (r .on .holds)
 
-  pub ready-again : Ready (d .memory-after) (d .state-after) (ledger.step l c .ledger)
-  ready-again = record { length-in = rw (d .same-length) (r .length-in); on = d .again }
+  -- and has the ledger's control part
+  pub ready-control : unpacked m .control ≡ l .control
+  ready-control = ap (λ (s : State). s .control) (holds-unpacked m (r .state) (r .on .holds)) ∙ r .on .related .agrees .control
 
--- over a list of calls
-agrees-on : (cs : List Call) (m : List ℕ) (s : State) (l : Ledger) → Ready m s l → answers m cs ≡ ledger.answers l cs
-agrees-on [] m s l r = refl
-agrees-on (c ∷ cs) m s l r =
-    let d = does m s l (r .on) c in
-    ap (λ (x : Called). x .answer ∷ answers (x .memory) cs) (calls-of m s l r c)
-    ∙ ap (λ (xs : List Answer). ledger.step l c .answer ∷ xs) (agrees-on cs (d .memory-after) (d .state-after) (ledger.step l c .ledger) (ready-again m s l r c))
+  -- a step over it is the ledger's
+  pub step-alike : (c : Call) → Alike (stepOver m c) (ledger.step l c)
+  step-alike c =
+      let d = does m (r .state) l (r .on) c in
+      subst (λ (x : Called). Alike x (ledger.step l c)) (sym (d .tells))
+      (record { answers = refl; again = record { length-in = rw (d .same-length) (r .length-in); state = d .state-after; on = d .again } })
 
--- after them the memory holds a state that the ledger is about
-pub ready-after : (cs : List Call) (m : List ℕ) (s : State) (l : Ledger) → Ready m s l → (x : State) × Ready (memoryAfter m cs) x (ledger.after l cs)
-ready-after [] m s l r = (s, r)
-ready-after (c ∷ cs) m s l r =
-    let d = does m s l (r .on) c in
-    subst (λ (p : List ℕ). (x : State) × Ready (memoryAfter p cs) x (ledger.after (ledger.step l c .ledger) cs)) (sym (ap (λ (x : Called). x .memory) (calls-of m s l r c)))
-    (ready-after cs (d .memory-after) (d .state-after) (ledger.step l c .ledger) (ready-again m s l r c))
+  -- so is a call
+  pub call-alike : (c : Call) → Alike (called m c) (ledger.step l c)
+  call-alike c = subst (λ (x : Called). Alike x (ledger.step l c)) (sym (called-steps m c ready-well)) (step-alike c)
+
+-- lists of any kind of call that is alike on the memory and on the ledger
+module _ {E : Type 0} (on-memory : List ℕ → E → Called) (on-ledger : Ledger → E → Told)
+    (alike : (m : List ℕ) (l : Ledger) → Ready m l → (e : E) → Alike (on-memory m e) (on-ledger l e)) where
+  -- they are answered alike
+  pub lists-agree : (es : List E) (m : List ℕ) (l : Ledger) → Ready m l
+      → answersTo (λ n e. on-memory n e .answer) (λ n e. on-memory n e .memory) m es
+      ≡ answersTo (λ k e. on-ledger k e .answer) (λ k e. on-ledger k e .ledger) l es
+  lists-agree = answers-alike _ _ _ _ Ready (λ m l r e. alike m l r e .answers) (λ m l r e. alike m l r e .again)
+
+  -- and after them the memory holds a state that the ledger is about
+  pub lists-ready : (es : List E) (m : List ℕ) (l : Ledger) → Ready m l
+      → Ready (leftBy (λ n e. on-memory n e .memory) m es) (leftBy (λ k e. on-ledger k e .ledger) l es)
+  lists-ready =
+      left-alike (λ m e. on-memory m e .answer) (λ m e. on-memory m e .memory) (λ l e. on-ledger l e .answer) (λ l e. on-ledger l e .ledger)
+      Ready (λ m l r e. alike m l r e .answers) (λ m l r e. alike m l r e .again)
+
+-- lists of the station's calls
+agrees-on : (cs : List Call) (m : List ℕ) (l : Ledger) → Ready m l → answers m cs ≡ ledger.answers l cs
+agrees-on = lists-agree called ledger.step call-alike
+
+pub ready-after : (cs : List Call) (m : List ℕ) (l : Ledger) → Ready m l → Ready (memoryAfter m cs) (ledger.after l cs)
+ready-after = lists-ready called ledger.step call-alike
 
 module _ (m : List ℕ) (s : Setup) (slice : List ℕ) (long : s .«get_cfg_len» ≡ length slice) (zero : started m s slice .answer ≡ Value 0) where
   begins : Begins m s
@@ -65,12 +91,13 @@ module _ (m : List ℕ) (s : Setup) (slice : List ℕ) (long : s .«get_cfg_len�
   memory-is = ap (λ (c : Called). c .memory) (begins-started m s slice begins)
 
   -- a freshly started station
-  pub begins-ready : Ready (memoryOf m s slice) (initialState s) (fresh s slice)
+  pub begins-ready : Ready (memoryOf m s slice) (fresh s slice)
   begins-ready =
       let b = begins in
-      subst (λ (x : List ℕ). Ready x (initialState s) (fresh s slice)) (sym memory-is)
+      subst (λ (x : List ℕ). Ready x (fresh s slice)) (sym memory-is)
       (record {
         length-in = rw (laid-length m s slice long (b .room)) (b .length-in);
+        state = initialState s;
         on = record {
           holds = laid-holds m s slice long (b .room) (b .ranged);
           related = start-related m s slice long (b .room) (b .ranged);
@@ -78,32 +105,19 @@ module _ (m : List ℕ) (s : Setup) (slice : List ℕ) (long : s .«get_cfg_len�
       })
 
   agree : (cs : List Call) → answers (memoryOf m s slice) cs ≡ ledger.answers (fresh s slice) cs
-  agree cs = agrees-on cs (memoryOf m s slice) (initialState s) (fresh s slice) begins-ready
+  agree cs = agrees-on cs (memoryOf m s slice) (fresh s slice) begins-ready
 
   -- after some calls the others answer as the ledger does after them
   pub later : (cs rest : List Call) → answers (memoryAfter (memoryOf m s slice) cs) rest ≡ ledger.answers (ledger.after (fresh s slice) cs) rest
   later cs rest =
-      let r = ready-after cs (memoryOf m s slice) (initialState s) (fresh s slice) begins-ready in
-      agrees-on rest (memoryAfter (memoryOf m s slice) cs) (r .0) (ledger.after (fresh s slice) cs) (r .1)
-
-  -- what the ledger says of changed places holds of the memory
-  places : (pre post : List Call) (b : ℕ) (bad : Bool) (c : Call) → Exchanged (fresh s slice) pre post b bad c
-      → PlacesChanged (memoryOf m s slice) pre post b bad c
-  places pre post b bad c x = record {
-    earlier = x .earlier;
-    own = x .own;
-    later = x .later;
-    earlier-are = x .earlier-are;
-    later-are = x .later-are;
-    octet-first = agree (pre ++ octet b bad ∷ c ∷ post) ∙ x .octet-first;
-    call-first = agree (pre ++ c ∷ octet b bad ∷ post) ∙ x .call-first;
-  }
+      agrees-on rest (memoryAfter (memoryOf m s slice) cs) (ledger.after (fresh s slice) cs)
+      (ready-after cs (memoryOf m s slice) (fresh s slice) begins-ready)
 
   agreed : Agreement m s slice
   agreed = record {
     agree = agree;
-    octet-then-call = λ pre post b bad c u i. places pre post b bad c (exchange (fresh s slice) pre post b bad c .inner-first u i);
-    call-then-octet = λ pre post b bad c u i. places pre post b bad c (exchange (fresh s slice) pre post b bad c .inner-second u i);
+    octet-then-call = λ pre post b bad c u i. places-alike agree (exchange (fresh s slice) pre post b bad c .inner-first u i);
+    call-then-octet = λ pre post b bad c u i. places-alike agree (exchange (fresh s slice) pre post b bad c .inner-second u i);
     outputs = λ cs index rest h.
         let x = Value (getD (readable (s .«output_len») (history (fresh s slice) cs)) index 0) in
         agree (cs ++ read 1 index ∷ rest)

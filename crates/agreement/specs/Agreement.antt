@@ -4,7 +4,6 @@ use mathlib.Core.Path.{_≡_}
 use mathlib.Core.Bool.{Bool, true}
 use mathlib.Core.List.{List, [], _∷_, _++_}
 use lib.ListN.{length, getD}
-use Rattle.state.specs.declared.answer.Answer.{Answer}
 use Rattle.state.specs.declared.answer.Answer.the-variants.{Value}
 use Rattle.state.specs.declared.setup.Setup.{Setup}
 use Rattle.steps.specs.Calls.{started, answers, memoryAfter}
@@ -12,22 +11,12 @@ use Rattle.ledger.specs.Ledger.{fresh}
 use Rattle.ledger.specs.Calls as ledger
 use Rattle.rules.specs.Call.{Call, octet, read}
 use Rattle.ledger.specs.Calls.{after}
-use Rattle.ledger.specs.Exchange.{Inner, ofUser}
+use Rattle.ledger.specs.Exchange.{Inner, ofUser, PlacesChanged}
 use Rattle.ledger.specs.History.{readable, history}
 
 -- the memory after Start
 abbrev pub memoryOf : List ℕ → Setup → List ℕ → List ℕ
 memoryOf m s slice = started m s slice .memory
-
--- a user call c and an octet beside it change places, and every call keeps its answer
-pub record PlacesChanged (m : List ℕ) (pre post : List Call) (b : ℕ) (bad : Bool) (c : Call) : Type 0 where
-  pub earlier : List Answer
-  pub own : Answer
-  pub later : List Answer
-  pub earlier-are : length earlier ≡ length pre
-  pub later-are : length later ≡ length post
-  pub octet-first : answers m (pre ++ octet b bad ∷ c ∷ post) ≡ earlier ++ Value 0 ∷ own ∷ later
-  pub call-first : answers m (pre ++ c ∷ octet b bad ∷ post) ≡ earlier ++ own ∷ Value 0 ∷ later
 
 -- m is the memory that Start was given, s its numbers, slice the octets for Get_Cfg
 pub record Agreement (m : List ℕ) (s : Setup) (slice : List ℕ) : Type 0 where
@@ -35,16 +24,20 @@ pub record Agreement (m : List ℕ) (s : Setup) (slice : List ℕ) : Type 0 wher
   pub agree : (cs : List Call) → answers (memoryOf m s slice) cs ≡ ledger.answers (fresh s slice) cs
   -- if a user call and a neighbouring inner octet change places, every call keeps its answer, whichever came first
   pub octet-then-call : (pre post : List Call) (b : ℕ) (bad : Bool) (c : Call) → ofUser c ≡ true
-      → Inner (after (fresh s slice) pre) b bad → PlacesChanged (memoryOf m s slice) pre post b bad c
+      → Inner (after (fresh s slice) pre) b bad → PlacesChanged (answers (memoryOf m s slice)) pre post (octet b bad) c
   pub call-then-octet : (pre post : List Call) (b : ℕ) (bad : Bool) (c : Call) → ofUser c ≡ true
-      → Inner (after (fresh s slice) (pre ++ c ∷ [])) b bad → PlacesChanged (memoryOf m s slice) pre post b bad c
+      → Inner (after (fresh s slice) (pre ++ c ∷ [])) b bad → PlacesChanged (answers (memoryOf m s slice)) pre post (octet b bad) c
   -- outputs read are those of the newest telegram accepted before the latest take, or zeros, whatever calls come behind the read
   pub outputs : (cs : List Call) (index : ℕ) (rest : List Call) → index < s .«output_len»
       → answers (memoryOf m s slice) (cs ++ read 1 index ∷ rest)
       ≡ answers (memoryOf m s slice) cs
       ++ Value (getD (readable (s .«output_len») (history (fresh s slice) cs)) index 0) ∷ answers (memoryAfter (memoryOf m s slice) cs) rest
 
--- demand 3 whole: for every memory, setup and slice of the setup's Get_Cfg length for which Start answers 0
+-- for every memory, setup and slice of the setup's Get_Cfg length for which Start answers 0
+abbrev pub FromStart : (List ℕ → Setup → List ℕ → Type 0) → Type 0
+FromStart P =
+    (m : List ℕ) (s : Setup) (slice : List ℕ) → s .«get_cfg_len» ≡ length slice → started m s slice .answer ≡ Value 0 → P m s slice
+
+-- demand 3 whole
 abbrev pub Demand3 : Type 0
-Demand3 =
-    (m : List ℕ) (s : Setup) (slice : List ℕ) → s .«get_cfg_len» ≡ length slice → started m s slice .answer ≡ Value 0 → Agreement m s slice
+Demand3 = FromStart Agreement

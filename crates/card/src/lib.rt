@@ -1,12 +1,19 @@
 // The station as firmware in C calls it: the memory first, plain numbers, a refusal negated.
 use station::calls;
+use window::command::Command;
+use window::order::Order;
 ghost use mathlib.Core.Bool.{not};
 ghost use lib.Dec.{eqb};
 ghost use lib.ListN.{length};
 ghost use Rattle.state.specs.Start.{given};
+ghost use Rattle.state.specs.Unpack.{unpacked};
 ghost use Rattle.steps.specs.Calls.{started, called};
 ghost use Rattle.rules.specs.Call.{gap, send, tick, take, read, write, hand-over, new-diagnosis, judge-parameters, judge-configuration, events, acknowledge, pending, leave};
 ghost use Rattle.rules.specs.Call as call;
+ghost use Rattle.window.specs.Order.{orderOf};
+ghost use Rattle.window.specs.Entries.{window-read, window-write};
+ghost use Rattle.window.specs.Command.{commanded};
+ghost use Rattle.window.specs.Calls.{enteredBy, entered};
 ghost use Rattle.card.specs.Exports.{Returns};
 
 // Start: sets the station up in the memory. 0, or refused by 1 to 4.
@@ -171,4 +178,38 @@ pub extern "C" fn dp_leave_master(memory: &mut [u8]) -> i64
 {
     let answer = calls::leave(memory);
     answer.code()
+}
+
+// What is behind an access of the window. What is long is made by the exported call itself, so that its code stands once.
+fn command(memory: &mut [u8], command: Command) -> i64
+    ensures { λ r. ⌜ Returns (enteredBy (now (memory .entry)) (commanded (unpacked (now (memory .entry)) .control) command)) r (now (memory .exit)) ⌝ }
+{
+    match command {
+        Command::LowEvents => window::calls::event_bits(memory, 0).code(),
+        Command::HighEvents => window::calls::event_bits(memory, 8).code(),
+        Command::HandOver => calls::hand_over(memory).code(),
+        Command::Take => dp_take_outputs(memory),
+        Command::NewDiagnosis => window::calls::renew_diagnosis(memory).code(),
+        Command::JudgeParameters(judgement) => dp_judge_parameters(memory, judgement),
+        Command::JudgeConfiguration(judgement) => dp_judge_configuration(memory, judgement),
+        Command::Acknowledge(mask) => calls::acknowledge(memory, mask).code(),
+        Command::Nothing => window::calls::nothing(&memory[..]).code(),
+        Command::NoCell => window::calls::no_cell(&memory[..]).code(),
+    }
+}
+
+// Reads the cell of the window that is at an address in an order, 0 Intel's, any other Motorola's, and so makes the call behind it.
+#[no_mangle]
+pub extern "C" fn dp_window_read(memory: &mut [u8], order: u32, address: u32) -> i64
+    ensures { λ r. ⌜ Returns (entered (now (memory .entry)) (window-read (orderOf order) address)) r (now (memory .exit)) ⌝ }
+{
+    command(memory, Command::reading(Order::of(order), address))
+}
+
+// Writes an octet to a cell of the window.
+#[no_mangle]
+pub extern "C" fn dp_window_write(memory: &mut [u8], order: u32, address: u32, octet: u8) -> i64
+    ensures { λ r. ⌜ Returns (entered (now (memory .entry)) (window-write (orderOf order) address octet)) r (now (memory .exit)) ⌝ }
+{
+    command(memory, Command::writing(Order::of(order), address, octet))
 }

@@ -6,6 +6,7 @@ use mathlib.Core.Bool.{Bool, true, false, cond, not, _&&_}
 use mathlib.Core.List.{List, [], _∷_, _++_}
 use lib.Dec.{leb, eqb}
 use lib.ListN.{getD}
+use Rattle.state.specs.declared.answer.Answer.{Answer}
 use Rattle.state.specs.declared.answer.Answer.the-variants.{Value}
 use Rattle.telegram.specs.declared.reader.Status.{Status}
 use Rattle.telegram.specs.declared.reader.Status.the-variants.{Fresh, Inside, Complete, Broken}
@@ -25,8 +26,10 @@ use Rattle.ledger.specs.User.{Told, told, refusing, absent, octetsOfKind
 use Rattle.rules.specs.Kinds.{inRange, writable}
 use Rattle.rules.specs.Call.{Call, octet, gap, send, tick, take, read, write, hand-over, new-diagnosis, judge-parameters, judge-configuration, events, acknowledge, pending, leave}
 use Rattle.ledger.specs.Calls.{step, answers, after}
-use Rattle.ledger.specs.Exchange.{MidTelegram, Inner, ofUser, Exchanged, PlacesChange}
-use Rattle.ledger.proofs.Runs.{after-append, answers-append, answers-length}
+use Rattle.ledger.specs.Exchange.{MidTelegram, Inner, ofUser, PlacesChanged, PlacesChange}
+use Rattle.rules.specs.Runs.{answersTo, leftBy}
+use Rattle.rules.proofs.Runs as runs
+use Rattle.ledger.proofs.Runs.{after-append}
 use Rattle.ledger.proofs.Settling.{settle-line}
 
 -- ---------------------------------------------------------------------------------------------------
@@ -117,7 +120,7 @@ not-fresh xs b false e = none xs (framing (xs ++ b ∷ []) .nothing .0 (ap statu
 ignores : (m : Ledger) → settle m .line .ignored ≡ false → m .line .ignored ≡ true → ⊥
 ignores m e f = no-true (sym e ∙ ap (λ (n : Line). n .ignored) (settle-line m) ∙ f)
 
-inner-lengthens : (l : Ledger) (b : ℕ) (bad : Bool) → Inner l b bad → Lengthens (l .line) b bad
+pub inner-lengthens : (l : Ledger) (b : ℕ) (bad : Bool) → Inner l b bad → Lengthens (l .line) b bad
 unfolding heard answered
 inner-lengthens l b bad i = record {
   listens = i .before .listens;
@@ -145,39 +148,66 @@ still-some (x ∷ xs) b = refl
 
 module _ (l : Ledger) (b : ℕ) (bad : Bool) (c : Call) (u : ofUser c ≡ true) (x : Lengthens (l .line) b bad) where
   -- the ledger after both
-  both : Ledger
+  pub both : Ledger
   both = withLine (step l c .ledger) (lengthened (l .line) b)
 
-  octet-then-call : step (heard l b bad) c ≡ record { answer = step l c .answer; ledger = both }
+  pub octet-then-call : step (heard l b bad) c ≡ record { answer = step l c .answer; ledger = both }
   unfolding both
   octet-then-call =
       ap (λ (m : Ledger). step m c) (lengthens-heard l b bad x)
       ∙ user-on l (lengthened (l .line) b) c u
       (record { busy-is = rw (x .begins, still-some (l .line .telegram) b); leaves-is = refl })
 
-  call-then-octet : heard (step l c .ledger) b bad ≡ both
+  pub call-then-octet : heard (step l c .ledger) b bad ≡ both
   unfolding both
   call-then-octet =
       lengthens-heard (step l c .ledger) b bad (rw (keeps-line l c u) x)
       ∙ ap (λ (n : Line). withLine (step l c .ledger) (lengthened n b)) (keeps-line l c u)
 
+-- whatever a call is and whatever it is made on: two neighbours change places if each answers the same behind the other and both orders
+-- leave the same
+module _ {S E : Type 0} (answer : S → E → Answer) (next : S → E → S) (s : S) (pre post : List E) (o c : E) where
+  -- what the calls before them leave
+  abbrev between : S
+  between = leftBy next s pre
+
+  pub neighbours-change : answer between o ≡ Value 0 → answer (next between c) o ≡ Value 0
+      → answer (next between o) c ≡ answer between c → next (next between o) c ≡ next (next between c) o
+      → PlacesChanged (answersTo answer next s) pre post o c
+  neighbours-change first then same left = record {
+    earlier = answersTo answer next s pre;
+    own = answer between c;
+    later = answersTo answer next (next (next between c) o) post;
+    earlier-are = runs.answers-length answer next s pre;
+    later-are = runs.answers-length answer next (next (next between c) o) post;
+    octet-first =
+        runs.answers-append answer next s pre (o ∷ c ∷ post)
+        ∙ (λ i. answersTo answer next s pre ++ first i ∷ same i ∷ answersTo answer next (left i) post);
+    call-first =
+        runs.answers-append answer next s pre (c ∷ o ∷ post)
+        ∙ (λ i. answersTo answer next s pre ++ answer between c ∷ then i ∷ answersTo answer next (next (next between c) o) post);
+  }
+
+-- what answers alike changes places alike
+pub places-alike : {E : Type 0} {f g : List E → List Answer} {pre post : List E} {o c : E} → ((es : List E) → f es ≡ g es)
+    → PlacesChanged g pre post o c → PlacesChanged f pre post o c
+places-alike {E} {f} {g} {pre} {post} {o} {c} same x = record {
+  earlier = x .earlier;
+  own = x .own;
+  later = x .later;
+  earlier-are = x .earlier-are;
+  later-are = x .later-are;
+  octet-first = same (pre ++ o ∷ c ∷ post) ∙ x .octet-first;
+  call-first = same (pre ++ c ∷ o ∷ post) ∙ x .call-first;
+}
+
 exchanged : (l : Ledger) (pre post : List Call) (b : ℕ) (bad : Bool) (c : Call) → ofUser c ≡ true
-    → Lengthens (after l pre .line) b bad → Exchanged l pre post b bad c
+    → Lengthens (after l pre .line) b bad → PlacesChanged (answers l) pre post (octet b bad) c
 exchanged l pre post b bad c u x =
     let m = after l pre in
-    record {
-      earlier = answers l pre;
-      own = step m c .answer;
-      later = answers (both m b bad c u x) post;
-      earlier-are = answers-length l pre;
-      later-are = answers-length (both m b bad c u x) post;
-      octet-first =
-          answers-append l pre (octet b bad ∷ c ∷ post)
-          ∙ ap (λ (t : Told). answers l pre ++ Value 0 ∷ t .answer ∷ answers (t .ledger) post) (octet-then-call m b bad c u x);
-      call-first =
-          answers-append l pre (c ∷ octet b bad ∷ post)
-          ∙ ap (λ (k : Ledger). answers l pre ++ step m c .answer ∷ Value 0 ∷ answers k post) (call-then-octet m b bad c u x);
-    }
+    neighbours-change (λ k d. step k d .answer) (λ k d. step k d .ledger) l pre post (octet b bad) c refl refl
+    (ap (λ (t : Told). t .answer) (octet-then-call m b bad c u x))
+    (ap (λ (t : Told). t .ledger) (octet-then-call m b bad c u x) ∙ sym (call-then-octet m b bad c u x))
 
 pub exchange : PlacesChange
 exchange l pre post b bad c = record {

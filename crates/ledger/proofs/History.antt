@@ -4,6 +4,7 @@ use native.Mathlib.Omega.{arith}
 use mathlib.Core.Path.{_≡_, refl, sym, ap, _∙_}
 use mathlib.Core.Bool.{Bool, true, false, cond, not, _&&_}
 use mathlib.Core.List.{List, [], _∷_, _++_}
+use lib.ListN.{getD}
 use lib.Dec.{eqb, ltb}
 use borrow.Author.Tests.{le-leb, lt-ltb}
 use Rattle.state.specs.declared.setup.Setup.{Setup}
@@ -24,9 +25,9 @@ use Rattle.rules.specs.User.{judgedParameters, judgedConfiguration}
 use Rattle.ledger.specs.Ledger.{Ledger, withLine, begun, busy, fresh}
 use Rattle.ledger.specs.Outcome.{onOutputs, carried, settle}
 use Rattle.ledger.specs.Bus.{telegramOn, requestBy, outcomeOf, answered, completed, brokenOff, lengthened, beginning, sendLeft, silenced, heardAs, heard, paused, afterSend, elapsed, gapped}
-use Rattle.ledger.specs.User.{told, takeOutputs, readOctet, handOver, acknowledgeEvents, leaveMaster}
+use Rattle.ledger.specs.User.{Told, told, takeOutputs, readOctet, handOver, acknowledgeEvents, leaveMaster}
 use Rattle.rules.specs.Call.{Call, octet, gap, send, tick, take, read, write, hand-over, new-diagnosis, judge-parameters, judge-configuration, events, acknowledge, pending, leave}
-use Rattle.ledger.specs.Calls.{step, after}
+use Rattle.ledger.specs.Calls.{step, answers, after}
 use Rattle.ledger.proofs.Runs.{answers-append}
 use Rattle.ledger.proofs.Settling.{settle-outputs}
 use Rattle.ledger.proofs.Kept.{step-kept, after-kept}
@@ -217,12 +218,18 @@ module _ (s : Setup) (slice : List ℕ) (cs : List Call) where
   in-range index i =
       ap (λ (t : Setup). ltb index (t .«output_len»)) (after-kept (fresh s slice) cs .0) ∙ lt-ltb index (s .«output_len») i
 
-  read-so : (index : ℕ) (rest : List Call) → OutputsRead s slice cs index rest
+  -- a read of the outputs after the calls
+  pub output-told : (index : ℕ) → index < s .«output_len»
+      → step (after (fresh s slice) cs) (read 1 index)
+      ≡ told (getD (readable (s .«output_len») (history (fresh s slice) cs)) index 0) (after (fresh s slice) cs)
   unfolding readOctet
+  output-told index i = rw (in-range index i, le-leb 0 index (omega arith), held-readable)
+
+  read-so : (index : ℕ) (rest : List Call) → OutputsRead s slice cs index rest
   read-so index rest = record {
     answers-are = λ i.
         answers-append (fresh s slice) cs (read 1 index ∷ rest)
-        ∙ rw (in-range index i, le-leb 0 index (omega arith), held-readable);
+        ∙ ap (λ (t : Told). answers (fresh s slice) cs ++ t .answer ∷ answers (t .ledger) rest) (output-told index i);
   }
 
 pub outputs-read : OutputsReadable

@@ -1,7 +1,8 @@
 -- The answers to a list of calls.
-use mathlib.Core.List.{List, [], _∷_}
+use mathlib.Core.List.{List}
 use Rattle.state.specs.declared.answer.Answer.{Answer}
 use Rattle.rules.specs.Call.{Call, octet, gap, send, tick, take, read, write, hand-over, new-diagnosis, judge-parameters, judge-configuration, events, acknowledge, pending, leave}
+use Rattle.rules.specs.Runs.{answersTo, leftBy}
 use Rattle.ledger.specs.Ledger.{Ledger}
 use Rattle.ledger.specs.Bus.{heard, paused, sendTold, afterSend, elapsed}
 use Rattle.ledger.specs.User.{Told, told, takeOutputs, readOctet, writeOctet, handOver, newDiagnosis, judgeParameters, judgeConfiguration, eventWord, acknowledgeEvents, pendingEvent, leaveMaster}
@@ -26,10 +27,8 @@ step l leave = leaveMaster l
 
 -- the answers to a list of calls
 abbrev pub answers : Ledger → List Call → List Answer
-answers l [] = []
-answers l (c ∷ cs) = step l c .answer ∷ answers (step l c .ledger) cs
+answers = answersTo (λ l c. step l c .answer) (λ l c. step l c .ledger)
 
 -- and the ledger after them
 abbrev pub after : Ledger → List Call → Ledger
-after l [] = l
-after l (c ∷ cs) = after (step l c .ledger) cs
+after = leftBy (λ l c. step l c .ledger)

@@ -41,20 +41,21 @@ ofUser (acknowledge mask) = true
 ofUser pending = true
 ofUser leave = true
 
--- every call keeps its answer, whichever of an octet and a call c comes first between the calls pre and post
-pub record Exchanged (l : Ledger) (pre post : List Call) (b : ℕ) (bad : Bool) (c : Call) : Type 0 where
+-- every call keeps its answer, whichever of an octet and a call c comes first between the calls pre and post; answered: what a list of
+-- calls answers, whatever a call is and whatever it is made on
+pub record PlacesChanged {E : Type 0} (answered : List E → List Answer) (pre post : List E) (octet c : E) : Type 0 where
   pub earlier : List Answer
   pub own : Answer
   pub later : List Answer
   pub earlier-are : length earlier ≡ length pre
   pub later-are : length later ≡ length post
-  pub octet-first : answers l (pre ++ octet b bad ∷ c ∷ post) ≡ earlier ++ Value 0 ∷ own ∷ later
-  pub call-first : answers l (pre ++ c ∷ octet b bad ∷ post) ≡ earlier ++ own ∷ Value 0 ∷ later
+  pub octet-first : answered (pre ++ octet ∷ c ∷ post) ≡ earlier ++ Value 0 ∷ own ∷ later
+  pub call-first : answered (pre ++ c ∷ octet ∷ post) ≡ earlier ++ own ∷ Value 0 ∷ later
 
 -- and that for a user call, where the octet is inner before the call or is inner after it
 pub record Exchange (l : Ledger) (pre post : List Call) (b : ℕ) (bad : Bool) (c : Call) : Type 0 where
-  pub inner-first : ofUser c ≡ true → Inner (after l pre) b bad → Exchanged l pre post b bad c
-  pub inner-second : ofUser c ≡ true → Inner (after l (pre ++ c ∷ [])) b bad → Exchanged l pre post b bad c
+  pub inner-first : ofUser c ≡ true → Inner (after l pre) b bad → PlacesChanged (answers l) pre post (octet b bad) c
+  pub inner-second : ofUser c ≡ true → Inner (after l (pre ++ c ∷ [])) b bad → PlacesChanged (answers l) pre post (octet b bad) c
 
 -- so it is from every ledger on
 abbrev pub PlacesChange : Type 0

@@ -14,7 +14,6 @@ use Rattle.state.specs.Image.{image}
 use Rattle.state.specs.Layout.{stateLength}
 use Rattle.state.specs.Memory.{kept, Holds}
 use Rattle.state.specs.Sound.{Sound}
-use Rattle.state.specs.Start.{initialState}
 use Rattle.steps.specs.Calls.{started, wellMemory, called, answers, memoryAfter}
 use Rattle.state.specs.Unpack.{unpacked}
 use Rattle.state.proofs.Damage.{holds-unpacked, kept-holds, fronted-same}
@@ -142,14 +141,14 @@ lent-image m s n h bs = ends bs m s m (record { length-in = n; holds = h; safe =
 module _ (m : List ℕ) (s : Setup) (slice : List ℕ) (long : s .«get_cfg_len» ≡ length slice) (zero : started m s slice .answer ≡ Value 0) where
   same : (pre : List Call) (bs : List Beat) → Same (memoryAfter (memoryOf m s slice) pre) bs
   same pre bs =
-      let r = ready-after pre (memoryOf m s slice) (initialState s) (fresh s slice) (begins-ready m s slice long zero) in
-      lent-same (memoryAfter (memoryOf m s slice) pre) (record { length-in = r .1 .length-in; state = r .0; holds = r .1 .on .holds }) bs
+      let r = ready-after pre (memoryOf m s slice) (fresh s slice) (begins-ready m s slice long zero) in
+      lent-same (memoryAfter (memoryOf m s slice) pre) (record { length-in = r .length-in; state = r .state; holds = r .on .holds }) bs
 
   carried-over : CarriesOver m s slice
   carried-over = record {
     same = same;
     agree = λ pre bs cs.
-        ap (λ (p : List ℕ). answers p cs) (same pre bs .image-is ∙ sym (memory-append pre (calls bs) (memoryOf m s slice)))
+        ap (λ (p : List ℕ). answers p cs) (same pre bs .image-is ∙ sym (memory-append (memoryOf m s slice) pre (calls bs)))
         ∙ later m s slice long zero (pre ++ calls bs) cs;
   }
 

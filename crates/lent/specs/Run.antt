@@ -17,9 +17,9 @@ use Rattle.ledger.specs.Calls.{after}
 use Rattle.steps.specs.Stepped.{Stepped, unchanged}
 use Rattle.steps.specs.Reading.{heard}
 use Rattle.steps.specs.Bus.{paused, elapsed}
-use Rattle.steps.specs.Calls.{started, wellMemory, answers, memoryAfter}
+use Rattle.steps.specs.Calls.{wellMemory, answers, memoryAfter}
 use Rattle.steps.specs.Demand1.{Undamaged}
-use Rattle.agreement.specs.Agreement.{memoryOf}
+use Rattle.agreement.specs.Agreement.{memoryOf, FromStart}
 
 -- what the bus does
 pub data Beat : Type 0 where
@@ -86,5 +86,4 @@ pub record CarriesOver (m : List ℕ) (s : Setup) (slice : List ℕ) : Type 0 wh
 
 -- so it is where demand 3 is claimed
 abbrev pub Demand3CarriesOver : Type 0
-Demand3CarriesOver =
-    (m : List ℕ) (s : Setup) (slice : List ℕ) → s .«get_cfg_len» ≡ length slice → started m s slice .answer ≡ Value 0 → CarriesOver m s slice
+Demand3CarriesOver = FromStart CarriesOver

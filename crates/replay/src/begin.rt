@@ -2,8 +2,6 @@
 use crate::call::Said;
 use crate::text;
 use crate::text::Span;
-use state::answer::Answer;
-use station::start::start;
 
 // A number of the line, and where it ends.
 struct Field {
@@ -88,7 +86,7 @@ fn start_on(mem: &mut [u8], len: usize, asked: Asked, octets: &[u8], count: u32)
     if mem.len() < len {
         return Said::Unknown;
     }
-    Said::Answered(start(
+    Said::Answered(card::dp_start(
         &mut mem[..len],
         asked.address,
         asked.ident as u16,
@@ -111,10 +109,7 @@ fn replace(memory: &mut [u8], by: &[u8]) {
 // Whether it is the answer 0.
 fn accepted(said: Said) -> bool {
     match said {
-        Said::Answered(answer) => match answer {
-            Answer::Value(n) => n == 0,
-            Answer::Refused(_) => false,
-        },
+        Said::Answered(answer) => answer == 0,
         Said::Unknown => false,
     }
 }

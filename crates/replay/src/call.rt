@@ -1,8 +1,7 @@
-// A line as a call, and the call on the memory.
+// A line as a call, and the exported call on the memory.
 use crate::text;
+use crate::text::Number;
 use crate::text::Span;
-use state::answer::Answer;
-use station::calls;
 
 pub enum Call {
     Octet(u8),
@@ -21,12 +20,21 @@ pub enum Call {
     Acknowledge(u16),
     Pending,
     Leave,
+    WindowRead(u32, u32),
+    WindowWrite(u32, u32, u8),
     Unknown,
+}
+
+// What a line says of an access of the window.
+struct Access {
+    ok: bool,
+    order: u32,
+    address: u32,
 }
 
 // What a line gets: an answer, or that it is no call.
 pub enum Said {
-    Answered(Answer),
+    Answered(i64),
     Unknown,
 }
 
@@ -109,12 +117,53 @@ fn one_call(source: &[u8], verb: Span, first: Span) -> Call {
     }
 }
 
-// A word and two numbers.
+// The number of an order: i is Intel's, m Motorola's.
+fn order_of(source: &[u8], word: Span) -> Number {
+    if text::is_word(source, word, b"i") {
+        return Number { ok: true, value: 0 };
+    }
+    if text::is_word(source, word, b"m") {
+        return Number { ok: true, value: 1 };
+    }
+    Number {
+        ok: false,
+        value: 0,
+    }
+}
+
+// The order and the address of an access.
+fn access_of(source: &[u8], first: Span, second: Span) -> Access {
+    let order = order_of(source, first);
+    let address = text::number_of(source, second);
+    Access {
+        ok: order.ok & address.ok,
+        order: order.value,
+        address: address.value,
+    }
+}
+
+// A word, an order and an address.
+fn read_access(source: &[u8], verb: Span, access: Access) -> Call {
+    if access.ok & text::is_word(source, verb, b"winread") {
+        return Call::WindowRead(access.order, access.address);
+    }
+    Call::Unknown
+}
+
+// And an octet.
+fn write_access(source: &[u8], verb: Span, access: Access, octet: u8) -> Call {
+    if access.ok & text::is_word(source, verb, b"winwrite") {
+        return Call::WindowWrite(access.order, access.address, octet);
+    }
+    Call::Unknown
+}
+
+// A word and two numbers, or an access of the window.
 fn two_call(source: &[u8], verb: Span, first: Span, second: Span) -> Call {
     let a = text::number_of(source, first);
     let b = text::number_of(source, second);
     if !(a.ok & b.ok) {
-        return Call::Unknown;
+        return read_access(source, verb, access_of(source, first, second));
     }
     if text::is_word(source, verb, b"read") {
         return Call::Read(a.value, b.value);
@@ -125,13 +174,16 @@ fn two_call(source: &[u8], verb: Span, first: Span, second: Span) -> Call {
     Call::Unknown
 }
 
-// A word, two numbers and an octet.
+// A word, two numbers and an octet, or an access of the window.
 fn three_call(source: &[u8], verb: Span, first: Span, second: Span, third: Span) -> Call {
     let a = text::number_of(source, first);
     let b = text::number_of(source, second);
     let octet = text::octet_of(source, third);
-    if !(a.ok & b.ok & octet.ok) {
+    if !octet.ok {
         return Call::Unknown;
+    }
+    if !(a.ok & b.ok) {
+        return write_access(source, verb, access_of(source, first, second), octet.value);
     }
     if text::is_word(source, verb, b"write") {
         return Call::Write(a.value, b.value, octet.value);
@@ -163,22 +215,30 @@ pub fn call_of(source: &[u8], verb: Span, end: usize) -> Call {
 // The call on the memory.
 pub fn run(mem: &mut [u8], call: Call) -> Said {
     match call {
-        Call::Octet(value) => Said::Answered(calls::octet(mem, value, false)),
-        Call::Bad(value) => Said::Answered(calls::octet(mem, value, true)),
-        Call::Gap => Said::Answered(calls::gap(mem)),
-        Call::Send => Said::Answered(calls::send(mem)),
-        Call::Tick => Said::Answered(calls::tick(mem)),
-        Call::Take => Said::Answered(calls::take(mem)),
-        Call::Read(kind, index) => Said::Answered(calls::read(mem, kind, index)),
-        Call::Write(kind, index, value) => Said::Answered(calls::write(mem, kind, index, value)),
-        Call::HandOver => Said::Answered(calls::hand_over(mem)),
-        Call::Diagnosis(count, flags) => Said::Answered(calls::new_diagnosis(mem, count, flags)),
-        Call::JudgeParameters(good) => Said::Answered(calls::judge_parameters(mem, good)),
-        Call::JudgeConfiguration(good) => Said::Answered(calls::judge_configuration(mem, good)),
-        Call::Events => Said::Answered(calls::events(mem)),
-        Call::Acknowledge(mask) => Said::Answered(calls::acknowledge(mem, mask)),
-        Call::Pending => Said::Answered(calls::pending(mem)),
-        Call::Leave => Said::Answered(calls::leave(mem)),
+        Call::Octet(value) => Said::Answered(card::dp_octet(mem, value, 0)),
+        Call::Bad(value) => Said::Answered(card::dp_octet(mem, value, 1)),
+        Call::Gap => Said::Answered(card::dp_gap(mem)),
+        Call::Send => Said::Answered(card::dp_send(mem)),
+        Call::Tick => Said::Answered(card::dp_tick(mem)),
+        Call::Take => Said::Answered(card::dp_take_outputs(mem)),
+        Call::Read(kind, index) => Said::Answered(card::dp_read(mem, kind, index)),
+        Call::Write(kind, index, value) => Said::Answered(card::dp_write(mem, kind, index, value)),
+        Call::HandOver => Said::Answered(card::dp_hand_over_inputs(mem)),
+        Call::Diagnosis(count, flags) => {
+            Said::Answered(card::dp_new_diagnosis(mem, count, flags))
+        }
+        Call::JudgeParameters(good) => Said::Answered(card::dp_judge_parameters(mem, good)),
+        Call::JudgeConfiguration(good) => Said::Answered(card::dp_judge_configuration(mem, good)),
+        Call::Events => Said::Answered(card::dp_events(mem)),
+        Call::Acknowledge(mask) => Said::Answered(card::dp_acknowledge(mem, mask)),
+        Call::Pending => Said::Answered(card::dp_pending(mem)),
+        Call::Leave => Said::Answered(card::dp_leave_master(mem)),
+        Call::WindowRead(order, address) => {
+            Said::Answered(card::dp_window_read(mem, order, address))
+        }
+        Call::WindowWrite(order, address, value) => {
+            Said::Answered(card::dp_window_write(mem, order, address, value))
+        }
         Call::Unknown => Said::Unknown,
     }
 }

@@ -1,9 +1,11 @@
-// Reads a list of calls, one to a line, and writes what each answers: a value, or a refusal's number negated.
+// Reads a list of calls, one to a line, makes each by its exported function and writes what it answers: a value, or a refusal's number
+// negated.
 // Numbers are decimal, octets two hexadecimal digits. Empty lines and lines that begin with # are skipped.
 //   start MEMORY ADDRESS IDENT OUTPUTS INPUTS PARAMETERS CONFIGURATION DIAGNOSIS SLICE
 //   octet XX, bad XX, gap, send, tick
 //   take, read KIND INDEX, write KIND INDEX XX, handover, diag COUNT FLAGS, judgeprm J, judgecfg J
 //   events, ack MASK, pending, leave
+//   winread O ADDRESS, winwrite O ADDRESS XX: O is i for Intel's order, m for Motorola's
 // The memory has at most 4,096 octets; the slice is a row of octets, or - for none. A Start that is refused leaves the
 // station as it was. Before the first that is accepted the memory is empty, which every other call refuses as damaged.
 // A line that is none of these gets a question mark and its number.
@@ -15,7 +17,6 @@ use call::Call;
 use call::Said;
 use libc::STDIN_FILENO;
 use libc::STDOUT_FILENO;
-use state::answer::Answer;
 use text::Span;
 
 fn print_number(n: u64) {
@@ -23,14 +24,18 @@ fn print_number(n: u64) {
     io::write_all(STDOUT_FILENO, b"\n");
 }
 
-fn print_answer(answer: Answer) {
-    match answer {
-        Answer::Value(n) => print_number(n as u64),
-        Answer::Refused(why) => {
-            io::write_all(STDOUT_FILENO, b"-");
-            print_number(why.number() as u64);
-        }
+// A refusal's number is an octet at most; an answer below that would be none.
+fn print_answer(answer: i64) {
+    if 0 <= answer {
+        print_number(answer as u64);
+        return;
     }
+    if answer < -255 {
+        io::write_all(STDOUT_FILENO, b"? no answer\n");
+        return;
+    }
+    io::write_all(STDOUT_FILENO, b"-");
+    print_number((0 - answer) as u64);
 }
 
 fn print_said(said: Said, line: usize) {

@@ -8,3 +8,4 @@ pub mod ModesKept
 pub mod LookedAt
 pub mod NoteStays
 pub mod GoodExchange
+pub mod Runs

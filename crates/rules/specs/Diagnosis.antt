@@ -1,9 +1,10 @@
--- The diagnosis octets that the station makes, and a new diagnosis of the user's (document 01, Services and User calls; document 02, Req 01).
+-- The diagnosis octets that the station makes, and a new diagnosis of the user's (document 01, Services and User calls; document 02, Req 01 and 02).
 use Prim.Native.Nat.{ℕ, _+_, _*_}
 use mathlib.Core.Bool.{Bool, true, false, not}
 use lib.Dec.{eqb}
 use Rattle.buffers.specs.Events.{diagnosisEvent}
 use Rattle.state.specs.declared.control.Diagnosis.{Diagnosis}
+use Rattle.state.specs.declared.control.Flags.{Flags}
 use Rattle.state.specs.declared.control.Control.{Control}
 use Rattle.state.specs.declared.state.Header.{Header}
 use Rattle.rules.specs.Control.{inWaitPrm, inExchange, withFlags, withDiagnosis, withDiagnosisFlags, raise}
@@ -31,6 +32,10 @@ status3 c = 128 * one (c .flags .overflow)
 -- octets 0 to 3; octet 3 is the owner or FF
 unfoldable pub headerOf : Control → Header
 headerOf c = record { status1 = status1 c; status2 = status2 c; status3 = status3 c; master = c .owner }
+
+-- the flags in force, in the bits that a new diagnosis takes them in: 0 Ext_Diag, 1 Stat_Diag, 2 overflow
+abbrev pub presentFlags : Flags → ℕ
+presentFlags f = one (f .«ext_diag») + 2 * one (f .«stat_diag») + 4 * one (f .overflow)
 
 -- a new diagnosis is delayed
 abbrev pub isDelayed : Diagnosis → Bool

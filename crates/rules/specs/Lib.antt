@@ -7,5 +7,6 @@ pub mod Diagnosis
 pub mod Line
 pub mod User
 pub mod Call
+pub mod Runs
 pub mod Kinds
 pub mod Replies

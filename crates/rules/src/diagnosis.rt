@@ -4,10 +4,11 @@ use crate::phases::in_wait_prm;
 use buffers::events::Events;
 use state::control::Control;
 use state::control::Diagnosis;
+use state::control::Flags;
 use state::state::Header;
 ghost use Prim.Native.Nat.{_≤_};
 ghost use mathlib.Core.Path.{_≡_};
-ghost use Rattle.rules.specs.Diagnosis.{one, status1, status2, status3, headerOf, isDelayed, diagnosed, delaying, caughtUp};
+ghost use Rattle.rules.specs.Diagnosis.{one, status1, status2, status3, headerOf, presentFlags, isDelayed, diagnosed, delaying, caughtUp};
 
 // A flag's value in an octet.
 fn one(flag: bool) -> u8
@@ -65,6 +66,13 @@ pub fn header_of(control: Control) -> Header
         status3: status3(control),
         master: control.owner,
     }
+}
+
+// The flags in force, in the bits that a new diagnosis takes them in.
+pub fn present_flags(flags: Flags) -> u8
+    ensures { λ r. ⌜ r ≡ presentFlags flags ⌝ }
+{
+    one(flags.ext_diag) + 2 * one(flags.stat_diag) + 4 * one(flags.overflow)
 }
 
 // A new diagnosis is delayed.

@@ -16,6 +16,7 @@ pub enum Refusal {
     Range,
     Absent,
     Delayed,
+    Cell,
 }
 
 pub enum Answer {
@@ -24,7 +25,7 @@ pub enum Answer {
 }
 
 impl Refusal {
-    // Its number, 1 to 9.
+    // Its number, 1 to 10.
     pub fn number(self) -> u8
         ensures { λ r. ⌜ r ≡ refusalNumber self ⌝ }
     {
@@ -38,6 +39,7 @@ impl Refusal {
             Refusal::Range => 7,
             Refusal::Absent => 8,
             Refusal::Delayed => 9,
+            Refusal::Cell => 10,
         }
     }
 }

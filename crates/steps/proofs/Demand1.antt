@@ -12,7 +12,7 @@ use Rattle.telegram.proofs.OctetLists.{octet-at}
 use Rattle.state.specs.declared.answer.Answer.{Answer}
 use Rattle.state.specs.declared.answer.Answer.the-variants.{Value, Refused}
 use Rattle.state.specs.declared.answer.Refusal.{Refusal}
-use Rattle.state.specs.declared.answer.Refusal.the-variants.{MemoryLength, Address, Length, Room, Damaged, Judging, Range, Absent, Delayed}
+use Rattle.state.specs.declared.answer.Refusal.the-variants.{MemoryLength, Address, Length, Room, Damaged, Judging, Range, Absent, Delayed, Cell}
 use Rattle.state.specs.declared.setup.Setup.{Setup}
 use Rattle.state.specs.Answer.{Called}
 use Rattle.state.specs.declared.start.Asked.{Asked}
@@ -34,11 +34,11 @@ use Rattle.steps.proofs.StaysUndamaged.{stays-undamaged}
 use Rattle.steps.proofs.Guarded.{well-length, well-passes, holds-well, called-steps, called-damaged, started-begins, begins-started, refused-same}
 
 -- an answer that a step may give
-abbrev ByStep : Answer → Type 0
+abbrev pub ByStep : Answer → Type 0
 ByStep (Value n) = Unit
 ByStep (Refused why) = ByUser why
 
-by-step : (m : List ℕ) (c : Call) → ByStep (stepOver m c .answer)
+pub by-step : (m : List ℕ) (c : Call) → ByStep (stepOver m c .answer)
 unfolding stepOver
 by-step m c = step-cases (unpacked m) m (λ (t : Told). ByStep (packed m t .answer)) (λ n t x. tt) (λ why u. u) c
 
@@ -72,6 +72,7 @@ ByStart (Refused Judging) = ⊥
 ByStart (Refused Range) = ⊥
 ByStart (Refused Absent) = ⊥
 ByStart (Refused Delayed) = ⊥
+ByStart (Refused Cell) = ⊥
 
 by-start : (m : List ℕ) (s : Setup) (slice : List ℕ) → ByStart (started m s slice .answer)
 unfolding started asked startedIn
@@ -88,7 +89,7 @@ by-start m s slice =
 
 -- ---- a refusal leaves the memory
 
-step-same : (m : List ℕ) (c : Call) (why : Refusal) → stepOver m c .answer ≡ Refused why → stepOver m c .memory ≡ m
+pub step-same : (m : List ℕ) (c : Call) (why : Refusal) → stepOver m c .answer ≡ Refused why → stepOver m c .memory ≡ m
 unfolding stepOver
 step-same m c why =
     step-cases (unpacked m) m (λ (t : Told). packed m t .answer ≡ Refused why → packed m t .memory ≡ m)

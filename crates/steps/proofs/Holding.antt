@@ -6,7 +6,7 @@ use mathlib.Core.List.{List}
 use lib.Dec.{leb}
 use lib.ListN.{length}
 use Rattle.state.specs.declared.answer.Refusal.{Refusal}
-use Rattle.state.specs.declared.answer.Refusal.the-variants.{MemoryLength, Address, Length, Room, Damaged, Judging, Range, Absent, Delayed}
+use Rattle.state.specs.declared.answer.Refusal.the-variants.{MemoryLength, Address, Length, Room, Damaged, Judging, Range, Absent, Delayed, Cell}
 use Rattle.state.specs.declared.state.State.{State}
 use Rattle.state.specs.Answer.{Called, refused}
 use Rattle.state.specs.Layout.{endOf}
@@ -54,7 +54,7 @@ whole t = record { answer = t .answer; memory = kept (t .state) (t .memory) }
 record Packs (m : List ℕ) (t : Told) : Type 0 where
   packed-so : packed m t ≡ whole t
 
--- the refusals that the vat program causes
+-- the refusals of a step: those that the vat program causes by its calls
 abbrev pub ByUser : Refusal → Type 0
 ByUser MemoryLength = ⊥
 ByUser Address = ⊥
@@ -65,6 +65,7 @@ ByUser Judging = Unit
 ByUser Range = Unit
 ByUser Absent = Unit
 ByUser Delayed = Unit
+ByUser Cell = ⊥
 
 -- a step answers a value, or is refused because of the vat program and leaves state and memory as they were
 module _ (s : State) (m : List ℕ) (P : Told → Type 0) (tells : (n : ℕ) (t : State) (x : List ℕ) → P (told n t x))

@@ -2,7 +2,7 @@
 -- answer and the whole memory, refusals too.
 use Prim.Native.Nat.{ℕ, _%_}
 use mathlib.Core.Bool.{Bool, cond, not, _&&_}
-use mathlib.Core.List.{List, [], _∷_}
+use mathlib.Core.List.{List}
 use lib.Dec.{eqb, ltb}
 use lib.ListN.{length}
 use Rattle.state.specs.declared.answer.Answer.{Answer}
@@ -17,6 +17,7 @@ use Rattle.state.specs.Memory.{holdsState}
 use Rattle.state.specs.Start.{asked, laidOut}
 use Rattle.state.specs.Well.{within}
 use Rattle.rules.specs.Call.{Call}
+use Rattle.rules.specs.Runs.{answersTo, leftBy}
 use Rattle.steps.specs.Step.{stepOver}
 
 -- "1,536 to 4,096 octets, a multiple of 8"
@@ -47,10 +48,8 @@ called m c = cond (wellMemory m) (stepOver m c) (refused m Damaged)
 
 -- the answers to a list of calls over a memory
 abbrev pub answers : List ℕ → List Call → List Answer
-answers m [] = []
-answers m (c ∷ cs) = called m c .answer ∷ answers (called m c .memory) cs
+answers = answersTo (λ m c. called m c .answer) (λ m c. called m c .memory)
 
 -- and the memory that they leave
 abbrev pub memoryAfter : List ℕ → List Call → List ℕ
-memoryAfter m [] = m
-memoryAfter m (c ∷ cs) = memoryAfter (called m c .memory) cs
+memoryAfter = leftBy (λ m c. called m c .memory)

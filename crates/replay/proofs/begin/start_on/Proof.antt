@@ -13,20 +13,20 @@ returns-2 c = search needs
 returns-3 : tie.Need-returns-3
 returns-3 c = search needs
 
-slice-relend-prefix-start : tie.Need-slice-relend-prefix-start
-slice-relend-prefix-start c = search needs
+slice-relend-prefix-dp-start : tie.Need-slice-relend-prefix-dp-start
+slice-relend-prefix-dp-start c = search needs
 
-slice-aggregate-start : tie.Need-slice-aggregate-start
-slice-aggregate-start c = simp length-take (omega arith)
+slice-aggregate-dp-start : tie.Need-slice-aggregate-dp-start
+slice-aggregate-dp-start c = simp length-take (omega arith)
 
-cast-start : tie.Need-cast-start
-cast-start c = search needs
+cast-dp-start : tie.Need-cast-dp-start
+cast-dp-start c = search needs
 
-slice-aggregate-start-2 : tie.Need-slice-aggregate-start-2
-slice-aggregate-start-2 c = simp length-take (omega arith)
+slice-aggregate-dp-start-2 : tie.Need-slice-aggregate-dp-start-2
+slice-aggregate-dp-start-2 c = simp length-take (omega arith)
 
-start-requires : tie.Need-start-requires
-start-requires c κs = search needs
+dp-start-requires : tie.Need-dp-start-requires
+dp-start-requires c κs = search needs
 
 same-length : tie.Need-same-length
 same-length c = search needs
@@ -41,10 +41,10 @@ start-on-spec =
     returns
     returns-2
     returns-3
-    slice-relend-prefix-start
-    slice-aggregate-start
-    cast-start
-    slice-aggregate-start-2
-    start-requires
+    slice-relend-prefix-dp-start
+    slice-aggregate-dp-start
+    cast-dp-start
+    slice-aggregate-dp-start-2
+    dp-start-requires
     same-length
     returns-4)

@@ -1,0 +1,71 @@
+/*
+ * What the vat programs share with the rest of the firmware, all of it in card.c: the station's memory and how calls on
+ * it are kept apart, the octets of its buffers, and the vat.
+ */
+#ifndef FIRMWARE_H
+#define FIRMWARE_H
+
+#include "card.h"
+#include "dp.h"
+
+#include <stdbool.h>
+#include <stddef.h>
+
+/* ---- Calls are kept apart ---- */
+
+/* The station's whole world. It needs no more than the least length here. */
+extern uint8_t memory[DP_MEMORY_MIN];
+#define MEMORY memory, sizeof memory
+
+/* A critical section, in which no interrupt calls the station; one may lie inside another. */
+void lock(void);
+void unlock(void);
+
+/* Ends the critical section of a call. Answers its answer; any refusal but the one foreseen ends the program. */
+int64_t finished(const char *call, int64_t answer, int64_t foreseen);
+
+/* One call, undivided; with CALL_UNLESS the caller has an answer to that refusal. */
+#define CALL(call) (lock(), finished(#call, call, 0))
+#define CALL_UNLESS(refusal, call) (lock(), finished(#call, call, refusal))
+
+/* ---- The octets of the buffers ---- */
+
+/* Octets of a kind from index 0 on, as many as asked for; a set that is shown may have fewer. Answers how many. */
+uint32_t read_octets(uint32_t kind, uint8_t *octets, uint32_t most);
+
+/* Octets of a kind from an index on. False, and nothing is written, while the buffer is not the vat program's: that of
+   the diagnosis while the last one is delayed. */
+bool write_octets(uint32_t kind, uint32_t first, const uint8_t *octets, uint32_t count);
+
+/* ---- The vat ---- */
+
+/* The outputs are the orders of the master: which valves are open, how much is heated. */
+enum { OUTPUT_VALVES = 0, OUTPUT_HEATING = 1 };
+
+/* The inputs are what is measured. */
+enum { INPUT_TEMPERATURE = 0, INPUT_LEVEL = 1 };
+
+/* The octet behind the standard's seven of Set_Prm is this vat's: the highest temperature allowed. */
+enum { PARAMETER_LIMIT = DP_PARAMETERS_MIN };
+
+struct vat {
+    uint8_t temperature, level;
+};
+extern struct vat vat;
+
+/* What a round of the loop does to the vat. */
+void run_vat(const uint8_t *outputs);
+
+/* What is measured, as inputs. */
+void measure_vat(uint8_t *inputs);
+
+/* The vat's diagnosis, behind the station's six octets. Answers as write_octets. */
+bool write_diagnosis(void);
+
+/* What the vat asks of the sets that a master sends. */
+bool good_parameters(const uint8_t *octets, uint32_t count);
+bool good_configuration(const uint8_t *octets, uint32_t count);
+
+void print_octets(const uint8_t *octets, size_t count);
+
+#endif

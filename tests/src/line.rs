@@ -1,0 +1,127 @@
+//! The second implementation with one master, for the tests of single sentences: address 5, ident 80B3, master 2, one
+//! output, one input, up to nine octets of diagnosis.
+
+use crate::call::{self, Call};
+use crate::draft::{self, Draft};
+use crate::ledger::Station;
+
+const STATION: u8 = 5;
+const MASTER: u8 = 2;
+const IDENT: u16 = 0x80B3;
+
+#[derive(Clone)]
+pub struct Line {
+    station: Station,
+}
+
+impl Line {
+    pub fn without_start() -> Line {
+        Line {
+            station: Station::default(),
+        }
+    }
+
+    pub fn fresh() -> Line {
+        let mut line = Line::without_start();
+        assert_eq!(line.call("start 1536 5 32947 1 1 7 1 9 20"), 0);
+        line
+    }
+
+    /// In DATA_EXCH with these pairs allowed, no event set and nothing to take.
+    pub fn allowing(allowed: u8) -> Line {
+        let mut line = Line::fresh();
+        line.set_prm(allowed);
+        assert_eq!(line.call("judgeprm 1"), 0);
+        line.chk_cfg();
+        assert_eq!(line.call("judgecfg 1"), 0);
+        assert_eq!(line.call("ack 65535"), 0);
+        line
+    }
+
+    pub fn call(&mut self, line: &str) -> i64 {
+        self.answer(&call::parse(line).unwrap().unwrap())
+    }
+
+    pub fn answer(&mut self, call: &Call) -> i64 {
+        self.station.answer(call).0
+    }
+
+    fn send(&mut self, draft: &Draft) {
+        self.call("gap");
+        for octet in draft.octets() {
+            self.answer(&Call::Octet { octet, bad: false });
+        }
+    }
+
+    /// The whole reply to a telegram.
+    pub fn put(&mut self, draft: &Draft) -> Vec<u8> {
+        self.send(draft);
+        self.rest_of_reply()
+    }
+
+    pub fn rest_of_reply(&mut self) -> Vec<u8> {
+        let mut reply = Vec::new();
+        while let Ok(octet) = u8::try_from(self.call("send")) {
+            reply.push(octet);
+        }
+        reply
+    }
+
+    pub fn request(&mut self, point: u8, data: Vec<u8>) -> Vec<u8> {
+        self.put(&Draft::to_point(STATION, MASTER, point, data))
+    }
+
+    pub fn set_prm(&mut self, allowed: u8) {
+        let data = draft::good_parameters(IDENT, None, 0, allowed);
+        assert_eq!(self.request(draft::SET_PRM, data), [0xE5]);
+    }
+
+    pub fn chk_cfg(&mut self) {
+        assert_eq!(self.request(draft::CHK_CFG, vec![0x20]), [0xE5]);
+    }
+
+    pub fn control(&mut self, control: u8) {
+        let draft = Draft::global_control(127, MASTER, control, 0);
+        assert!(self.put(&draft).is_empty());
+    }
+
+    /// The whole reply to a Data_Exchange, whatever it is.
+    pub fn send_output(&mut self, output: u8) -> Vec<u8> {
+        self.put(&Draft::exchange(STATION, MASTER, vec![output]))
+    }
+
+    /// Sends an output and answers the input that comes back.
+    pub fn exchange(&mut self, output: u8) -> u8 {
+        let reply = self.send_output(output);
+        assert_eq!((reply.len(), reply[6]), (10, 0x08));
+        reply[7]
+    }
+
+    pub fn hand_over(&mut self, input: u8) {
+        assert_eq!(self.call(&format!("write 4 0 {input:02X}")), 0);
+        assert_eq!(self.call("handover"), 0);
+    }
+
+    pub fn take_finds(&mut self, answer: i64, output: i64) {
+        assert_eq!((self.call("take"), self.call("read 1 0")), (answer, output));
+    }
+
+    /// The events since the last time that they were asked for.
+    pub fn events(&mut self) -> i64 {
+        let events = self.call("events");
+        self.call("ack 65535");
+        events
+    }
+
+    /// A Slave_Diag whose reply is not heard yet.
+    pub fn ask_for_diagnosis(&mut self) {
+        let point = draft::SLAVE_DIAG;
+        self.send(&Draft::to_point(STATION, MASTER, point, Vec::new()));
+    }
+
+    /// Octets 0 and 1 of the diagnosis.
+    pub fn diagnosis(&mut self) -> (u8, u8) {
+        let reply = self.request(draft::SLAVE_DIAG, Vec::new());
+        (reply[9], reply[10])
+    }
+}
