@@ -2,21 +2,25 @@
 #   make run      the library if need be, the example, and its run
 #   make check    the example's output against examples/card.expected, its GSD file, the header in C99 and in C++17, lists
 #                 of calls
-#   make bench    instructions for each call and on the lent state (needs valgrind), and octets per second
+#   make bench    instructions for each call and on the lent state (needs valgrind), entries that the lookup of each service
+#                 point looks at (by rt, whatever LIB is), and octets per second
 #   make cross    the library for the processors of cards, built and tried (see cross/cross.mk)
 #   make install  header, library, the libraries that make cross built, and a pkg-config file, below PREFIX
 #   make clean    removes what this file made; the libraries of x86-64 stay
 # LIB=path takes another library than the repository's for run, check and bench. LENT=path takes another one for the bench
-# loop on the lent state; with LENT= its column stays empty. LISTS=folder takes the lists of calls from another folder.
+# loop on the lent state; with LENT= its column stays empty. BEFORE=folder is another tree of this repository with its
+# libraries built and the same calls in the header: make bench then has a column with their instructions. LISTS=folder
+# takes the lists of calls from another folder.
 
 PROVED_LIB := target/staticlib/libcard.a
 LIB ?= $(PROVED_LIB)
 LENT ?= target/staticlib/liblent.a
+BEFORE :=
 LISTS ?= tests/vectors
 OUT := target/c
 
 # The base, document 01, is 1.0; with request n of document 02 it becomes 1.n.
-VERSION := 1.2
+VERSION := 1.3
 PREFIX ?= /usr/local
 
 CC := gcc
@@ -34,7 +38,7 @@ FIRMWARE := examples/card.c examples/older.c examples/master.c examples/firmware
 WORKLOAD := bench/workload.c bench/workload.h $(HEADERS)
 
 # The programs whose instructions are counted.
-COUNTED := bench $(if $(LENT),lent)
+COUNTED := bench $(if $(LENT),lent) $(if $(BEFORE),before)
 
 .PHONY: run check check-example check-gsd check-header check-prototypes check-lists bench bench-native install clean FORCE
 
@@ -69,6 +73,20 @@ $(OUT)/header-c++17: examples/header.c $(HEADERS) $(LIB) $(OUT)/library | $(OUT)
 # Bound at the start: valgrind would count the binding of memset as a part of the call that needs it first.
 $(OUT)/bench: bench/bench.c $(WORKLOAD) $(LIB) $(OUT)/library | $(OUT)
 	$(CC) $(CPPFLAGS) $(CFLAGS) $< bench/workload.c $(LIB) -Wl,-z,now -o $@
+
+# $(1): a library of the tree BEFORE, $(2): what builds it there.
+require_before = [ -f $(1) ] || { echo "BEFORE: $(1) is not there; in $(BEFORE), $(2) builds it" >&2; exit 1; }
+
+$(OUT)/before: bench/bench.c $(WORKLOAD) FORCE | $(OUT)
+	@$(call require_before,$(BEFORE)/$(PROVED_LIB),rt staticlib card)
+	$(CC) $(CPPFLAGS) $(CFLAGS) $< bench/workload.c $(BEFORE)/$(PROVED_LIB) -Wl,-z,now -o $@
+
+# What the lookup of each service point says.
+target/bin/lookups: crates.txt $(shell find crates/points crates/lookups -type f \( -name '*.rt' -o -name '*.antt' \))
+	rt check lookups
+
+$(OUT)/points: target/bin/lookups | $(OUT)
+	$< >$@
 
 $(OUT)/lent: bench/lent.c bench/lent.h $(WORKLOAD) $(LIB) $(LENT) $(OUT)/library | $(OUT)
 	$(CC) $(CPPFLAGS) $(CFLAGS) $< bench/workload.c $(LENT) $(LIB) -Wl,-z,now -o $@
@@ -109,7 +127,7 @@ check-lists: $(OUT)/lists $(OUT)/lists-wrong $(X)/lists
 
 bench: $(if $(CARD),cross-tools $(CARDS:%=bench-%),bench-native)
 
-bench-native: $(COUNTED:%=$(OUT)/%)
+bench-native: $(COUNTED:%=$(OUT)/%) $(OUT)/points
 	@if command -v valgrind >/dev/null; then \
 	    for program in $(COUNTED); do \
 	        valgrind --tool=callgrind --callgrind-out-file=$(OUT)/$$program.callgrind \
@@ -117,7 +135,8 @@ bench-native: $(COUNTED:%=$(OUT)/%)
 	            || { cat $(OUT)/callgrind.log; exit 1; }; \
 	    done; \
 	    echo "Instructions for each call, counted by valgrind over $(COUNTED_CYCLES) cycles:"; \
-	    awk -f bench/instructions.awk $(COUNTED:%=$(OUT)/%.callgrind); \
+	    awk -f bench/instructions.awk $(OUT)/bench.callgrind $(foreach kind,$(filter-out bench,$(COUNTED)), \
+	        kind=$(kind) $(OUT)/$(kind).callgrind) kind=points $(OUT)/points; \
 	else \
 	    echo "valgrind is not installed: no instructions are counted"; \
 	fi

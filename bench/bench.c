@@ -34,6 +34,31 @@ PLACE void last_octet_of_slave_diag(uint8_t octet)
     CALL(dp_octet(MEMORY, octet, 0));
 }
 
+PLACE void last_octet_of_get_cfg(uint8_t octet)
+{
+    CALL(dp_octet(MEMORY, octet, 0));
+}
+
+PLACE void last_octet_of_read_inputs(uint8_t octet)
+{
+    CALL(dp_octet(MEMORY, octet, 0));
+}
+
+PLACE void last_octet_of_read_outputs(uint8_t octet)
+{
+    CALL(dp_octet(MEMORY, octet, 0));
+}
+
+PLACE void last_octet_to_58(uint8_t octet)
+{
+    CALL(dp_octet(MEMORY, octet, 0));
+}
+
+PLACE void last_octet_to_63(uint8_t octet)
+{
+    CALL(dp_octet(MEMORY, octet, 0));
+}
+
 PLACE void last_octet_in_sync(uint8_t octet)
 {
     CALL(dp_octet(MEMORY, octet, 0));
@@ -150,23 +175,46 @@ PLACE void window_refuses_write(void)
 
 /* ---- Scenes ---- */
 
-/* A telegram and its reply, if it draws one. */
-static void other_telegram(const uint8_t *t, size_t count, void (*last)(uint8_t))
+static void put_telegram(const uint8_t *t, size_t count, void (*last)(uint8_t))
 {
     CALL(dp_gap(MEMORY));
     for (size_t i = 0; i + 1 < count; i++)
         octet_of_other_telegram(t[i]);
     last(t[count - 1]);
+}
+
+static void fetch_reply(void)
+{
     while (CALL(dp_send(MEMORY)) != DP_NO_OCTET)
         continue;
+}
+
+/* A telegram and its reply, if it draws one. */
+static void other_telegram(const uint8_t *t, size_t count, void (*last)(uint8_t))
+{
+    put_telegram(t, count, last);
+    fetch_reply();
+}
+
+/* A request without data to a service point; SD2 or SD1, with which its reply begins: an SD1 is RS. */
+static void request_to_point(uint8_t dsap, void (*last)(uint8_t), uint8_t drawn)
+{
+    uint8_t t[] = {0x68, 0x05, 0x05, 0x68, 0x85, 0x82, 0x6D, dsap, 0x3E, (uint8_t)(0xB2 + dsap), 0x16};
+    put_telegram(t, sizeof t, last);
+    expect("the first octet of a point's reply", CALL(dp_send(MEMORY)), drawn);
+    fetch_reply();
 }
 
 static void other_telegrams(void)
 {
     static const uint8_t status_of_another[] = {0x10, 0x07, 0x02, 0x49, 0x52, 0x16};
-    static const uint8_t slave_diag[] = {0x68, 0x05, 0x05, 0x68, 0x85, 0x82, 0x6D, 0x3C, 0x3E, 0xEE, 0x16};
     other_telegram(status_of_another, sizeof status_of_another, last_octet_to_another);
-    other_telegram(slave_diag, sizeof slave_diag, last_octet_of_slave_diag);
+    request_to_point(59, last_octet_of_get_cfg, 0x68);
+    request_to_point(56, last_octet_of_read_inputs, 0x68);
+    request_to_point(57, last_octet_of_read_outputs, 0x68);
+    request_to_point(58, last_octet_to_58, 0x10); /* Global_Control comes by another function */
+    request_to_point(63, last_octet_to_63, 0x10); /* no point */
+    request_to_point(60, last_octet_of_slave_diag, 0x68);
 }
 
 /* Parameters that come in the exchange. */

@@ -1,8 +1,12 @@
-# From valgrind's callgrind files, that of bench.c and then, where the column is wanted, that of lent.c: for each
-# exported call and the place that it came from, how often it was called and how many instructions it took on average,
-# the functions below it included; beside it how many the same octet or Tick takes on the lent state. A file of
-# cross/trace.awk may have cycles, which then stand there: the least and the most of any call of a row, and for a row of
-# several kinds of calls on average.
+# From valgrind's callgrind file of bench.c: for each exported call and the place that it came from, how often it was
+# called and how many instructions it took on average, the functions below it included. A file of cross/trace.awk may
+# have cycles, which then stand there: the least and the most of any call of a row, and for a row of several kinds of
+# calls on average.
+#
+# Further files, each behind a word that says what it is:
+#   kind=lent      that of lent.c: how many instructions the same octet or Tick takes on the lent state
+#   kind=before    that of bench.c with the library of another version: its instructions stand beside
+#   kind=points    what the program lookups writes: a table of the service points
 #
 # In a file a function has a number and, where it is first named, its name; a call is three lines: cfn= (which),
 # calls= (how often), and then where, the instructions, and the cycles if there are, as cross/trace.awk says.
@@ -18,10 +22,19 @@ function mean(cost, calls) {
     return calls > 0 ? sprintf("%.1f", cost / calls) : "-"
 }
 
+# The calls of the other version lie under their keys with this mark.
+function of_before(key) {
+    return "before " key
+}
+
+function mean_before(key) {
+    return mean(cost[of_before(key)], calls[of_before(key)])
+}
+
 # Two runs of the bench loop, each made once in a cycle, that differ in some calls alone. lent.c makes the exported calls
 # at the same place, so they say how many these are.
 function on_lent_state(call, without, with,    a, b) {
-    if (program == "") return ""
+    if (!("lent" in seen)) return ""
     if (with == "") return "-"
     a = "lent " without
     b = "lent " with
@@ -38,15 +51,17 @@ function cycles(key) {
     return sprintf("%.0f to %.0f", least[key] / calls[key], most[key] / calls[key])
 }
 
-function row(call, text, calls, instructions, beside) {
-    if (calls > 0) printf "  %-24s %-30s %8d %14s %14s\n", call, text, calls, instructions, beside
+function columns(call, text, calls, instructions, before, beside) {
+    printf "  %-24s %-30s %8s %14s", call, text, calls, instructions
+    if ("before" in seen) printf " %14s", before
+    printf " %14s\n", beside
 }
 
 # A row for the calls of a key, a call and a place; without, with: the places in lent.c of two runs, none for a call that
 # has no form on the lent state.
 function key_row(call, key, text, without, with) {
     if (calls[key] > 0)
-        row(call, text, calls[key], mean(cost[key], calls[key]), \
+        columns(call, text, calls[key], mean(cost[key], calls[key]), mean_before(key), \
             (has_cycles ? cycles(key) : on_lent_state(call, without, with)))
 }
 
@@ -57,24 +72,56 @@ function add(key, to) {
     most[to] += most[key]
 }
 
-function place_row(call, place, text, without, with) {
-    key_row(call, call SUBSEP place, text, without, with)
-    add(call SUBSEP place, call SUBSEP "all")
-    add(call SUBSEP place, "all")
+function place_row(call, place, text, without, with,    key, all) {
+    key = call SUBSEP place
+    all = call SUBSEP "all"
+    key_row(call, key, text, without, with)
+    add(key, all)
+    add(key, "all")
+    add(of_before(key), of_before(all))
+    add(of_before(key), of_before("all"))
 }
 
 function all_row(call, without, with) {
     key_row(call, call SUBSEP "all", "all of the workload", without, with)
 }
 
-# The numbers begin anew in each file, and lent.c goes through the places of the workload too.
+# The row of a service point: at how many entries of the table its lookup looks, and the last octet of a telegram to it.
+function point_row(dsap, place,    key) {
+    key = "dp_octet" SUBSEP place
+    printf "  %4d  %-16s %12d %14s", dsap, service[dsap], looked_at[dsap], mean(cost[key], calls[key])
+    if ("before" in seen) printf " %14s", mean_before(key)
+    print ""
+}
+
+function points() {
+    print "  telegrams to the service points, the entries that each lookup looks at, and the last octet's instructions:"
+    printf "  %4s  %-16s %12s %14s", "DSAP", "found", "looked at", "instructions"
+    if ("before" in seen) printf " %14s", "before"
+    print ""
+    point_row(56, "last_octet_of_read_inputs")
+    point_row(57, "last_octet_of_read_outputs")
+    point_row(58, "last_octet_to_58")
+    point_row(59, "last_octet_of_get_cfg")
+    point_row(60, "last_octet_of_slave_diag")
+    point_row(61, "last_octet_of_set_prm")
+    point_row(62, "last_octet_of_chk_cfg")
+    point_row(63, "last_octet_to_63")
+}
+
+# The numbers begin anew in each file, and every program goes through the places of the workload.
 FNR == 1 {
     split("", names)
-    program = NR == 1 ? "" : "lent "
+    seen[kind]
+}
+kind == "points" {
+    service[$1] = $2
+    looked_at[$1] = $3
+    next
 }
 /^events:/ { has_cycles = / cycles$/ }
-/^fn=/ { place = program name_of(substr($0, 4)) }
-/^cfn=/ { call = name_of(substr($0, 5)) }
+/^fn=/ { place = (kind == "lent" ? "lent " : "") name_of(substr($0, 4)) }
+/^cfn=/ { call = (kind == "before" ? of_before("") : "") name_of(substr($0, 5)) }
 /^calls=/ {
     split(substr($0, 7), word, " ")
     getline
@@ -89,8 +136,8 @@ FNR == 1 {
 }
 
 END {
-    printf "  %-24s %-30s %8s %14s %14s\n", "call", "where", "calls", "instructions", \
-        (has_cycles ? "cycles" : (program == "" ? "" : "lent state"))
+    columns("call", "where", "calls", "instructions", "before", \
+        (has_cycles ? "cycles" : ("lent" in seen ? "lent state" : "")))
     # Every run has its two gaps: no difference shows one.
     place_row("dp_gap", "gap_before_telegram", "before a telegram")
     place_row("dp_octet", "first_octet", "first octet", "no_octets", "up_to_first_octet")
@@ -109,12 +156,18 @@ END {
     place_row("dp_write", "vat_writes", "inputs")
     place_row("dp_hand_over_inputs", "vat_hands_over", "")
     calls["all"] = calls["dp_tick", "tick_in_exchange"]
+    calls[of_before("all")] = calls[of_before("dp_tick"), "tick_in_exchange"]
     key_row("a whole cycle", "all", "all of these")
     print "  beside the workload:"
     place_row("dp_octet", "last_octet_to_another", "last, to another station")
     place_row("dp_octet", "last_octet_of_slave_diag", "last, Slave_Diag")
     place_row("dp_octet", "last_octet_of_set_prm", "last, Set_Prm")
     place_row("dp_octet", "last_octet_of_chk_cfg", "last, Chk_Cfg")
+    place_row("dp_octet", "last_octet_of_get_cfg", "last, Get_Cfg")
+    place_row("dp_octet", "last_octet_of_read_inputs", "last, Read_Inputs")
+    place_row("dp_octet", "last_octet_of_read_outputs", "last, Read_Outputs")
+    place_row("dp_octet", "last_octet_to_58", "last, to 58, draws RS")
+    place_row("dp_octet", "last_octet_to_63", "last, to 63, draws RS")
     place_row("dp_octet", "last_octet_in_sync", "last, Data_Exchange in sync")
     place_row("dp_octet", "last_octet_of_sync", "last, sync publishes outputs")
     place_row("dp_start", "station_starts", "")
@@ -148,5 +201,6 @@ END {
     # What the lent state costs once, however many octets follow.
     runs = calls["lent_exchange", "lent no_octets"]
     once = mean(cost["lent_exchange", "lent no_octets"], runs)
-    row("lent_exchange", "no octets: load, 2 gaps, save", runs, "-", once)
+    if (runs > 0) columns("lent_exchange", "no octets: load, 2 gaps, save", runs, "-", "-", once)
+    if ("points" in seen) points()
 }

@@ -118,14 +118,21 @@ say-card:
 check-card: say-card
 	@[ -n "$$(cross/missing-packages $(cortex-m4_TOOLS))" ] || $(MAKE) cross CARD=cortex-m4
 
-$(PROCESSORS:%=bench-%): bench-%: $(X)/%/libcard.a bench/bench.c $(WORKLOAD)
-	@$($*_CC) $(CPPFLAGS) $(CFLAGS) bench/bench.c bench/workload.c $< -o $(X)/$*/bench
-	@QEMU_SINGLESTEP=1 QEMU_LOG=exec,nochain QEMU_LOG_FILENAME=$(X)/$*/trace \
-	    $(LIMIT) $($*_RUN) $(X)/$*/bench $(TRACED_CYCLES) </dev/null >$(X)/$*/bench.out
-	@$(if $($*_CYCLES),$($*_CYCLES) $(X)/$*/bench >$(X)/$*/disassembly)
-	@awk -f cross/trace.awk $(if $($*_CYCLES),$(X)/$*/disassembly) $(X)/$*/trace >$(X)/$*/calls
-	@rm $(X)/$*/trace
+# The calls of a library with their instructions, by a trace; $(1): the processor, $(2): the library, $(3): the result.
+define trace_calls
+	@$($(1)_CC) $(CPPFLAGS) $(CFLAGS) bench/bench.c bench/workload.c $(2) -o $(X)/$(1)/bench
+	@QEMU_SINGLESTEP=1 QEMU_LOG=exec,nochain QEMU_LOG_FILENAME=$(X)/$(1)/trace \
+	    $(LIMIT) $($(1)_RUN) $(X)/$(1)/bench $(TRACED_CYCLES) </dev/null >$(X)/$(1)/bench.out
+	@$(if $($(1)_CYCLES),$($(1)_CYCLES) $(X)/$(1)/bench >$(X)/$(1)/disassembly)
+	@awk -f cross/trace.awk $(if $($(1)_CYCLES),$(X)/$(1)/disassembly) $(X)/$(1)/trace >$(X)/$(1)/$(3)
+	@rm $(X)/$(1)/trace
+endef
+
+$(PROCESSORS:%=bench-%): bench-%: $(X)/%/libcard.a bench/bench.c $(WORKLOAD) $(OUT)/points
+	@$(if $(BEFORE),$(call require_before,$(BEFORE)/$<,make cross CARD=$*))
+	$(if $(BEFORE),$(call trace_calls,$*,$(BEFORE)/$<,before))
+	$(call trace_calls,$*,$<,calls)
 	@echo "Instructions for each call on $*, by a trace under qemu over $(TRACED_CYCLES) cycles:"
-	@awk -f bench/instructions.awk $(X)/$*/calls
+	@awk -f bench/instructions.awk $(X)/$*/calls $(if $(BEFORE),kind=before $(X)/$*/before) kind=points $(OUT)/points
 	@echo "Octets of code, and of stack that each call can need:"
 	@awk '{ printf "  %-24s %8d\n", $$2, $$1 }' $(X)/$*/size

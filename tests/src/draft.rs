@@ -11,8 +11,10 @@ pub const READ_OUTPUTS: u8 = 57;
 pub const READ_INPUTS: u8 = 56;
 pub const MASTER_POINT: u8 = 62;
 
-/// A request that must be answered, high priority.
+/// A request that must be answered, high priority: function 13.
 pub const REQUEST: u8 = 0x5D;
+/// The same with low priority: function 12.
+pub const LOW_REQUEST: u8 = 0x5C;
 pub const STATUS: u8 = 0x49;
 /// Data without acknowledgement, as Global_Control comes.
 pub const UNACKNOWLEDGED: u8 = 0x46;

@@ -362,7 +362,7 @@ impl Generator {
     fn scenario(&mut self) {
         match self
             .random
-            .weighted(&[10, 14, 22, 10, 10, 8, 10, 10, 6, 1, 6, 12, 10, 10, 8])
+            .weighted(&[10, 14, 22, 10, 10, 8, 10, 10, 6, 1, 6, 12, 10, 10, 8, 10])
         {
             0 => self.reach_exchange(),
             1 => self.delayed_diagnosis(),
@@ -378,7 +378,8 @@ impl Generator {
             11 => self.outputs_in_sync(),
             12 => self.inputs_frozen(),
             13 => self.modes_that_end(),
-            _ => self.writes_without_effect(),
+            14 => self.writes_without_effect(),
+            _ => self.points_asked_in_turn(),
         }
     }
 
@@ -639,6 +640,22 @@ impl Generator {
             false => self.any_master(),
         };
         Draft::to_point(self.address(), master, point, Vec::new())
+    }
+
+    /// To one of the points or to any other number, with data whether or not the point takes any.
+    fn request_to_some_point(&mut self) -> Draft {
+        let point = match self.random.chance(80) {
+            true => self.random.between(56, 62) as u8,
+            false => self.random.octet(),
+        };
+        let count = self.random.pick(&[0, 0, 0, 1, 2, 7]);
+        let data = self.random.octets(count);
+        let mut draft = Draft {
+            data,
+            ..self.without_data(point)
+        };
+        self.vary_control(&mut draft);
+        draft
     }
 
     fn good_set_prm(&mut self, watchdog: Option<(u8, u8)>) -> Draft {
@@ -1798,5 +1815,15 @@ impl Generator {
         let mut draft = self.good_set_prm(None);
         self.spoil_parameters(&mut draft.data);
         draft
+    }
+
+    /// Several requests one after another: what one of them finds must not depend on the one before.
+    fn points_asked_in_turn(&mut self) {
+        self.be_in_exchange();
+        for _ in 0..self.random.between(3, 6) {
+            let draft = self.request_to_some_point();
+            self.put_quietly(&draft);
+            self.hear_reply();
+        }
     }
 }

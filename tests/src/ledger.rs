@@ -1,5 +1,5 @@
 //! A second implementation of the station: the ledger of document 01 (section "The ledger") with Req 01 of document 02,
-//! on lists. The window of Req 02 is in window.rs.
+//! on lists. The window of Req 02 is in window.rs. Req 03 changes no answer.
 //!
 //! It is fed the arguments of the calls alone and has no memory, no buffers and no roles. A telegram's octets are
 //! gathered and acted on whole at the last one; a reply is fixed whole when it is drawn. Where a document can be read in
@@ -691,26 +691,20 @@ impl Ledger {
             self.note(Outcome::PointSsap);
             return self.reply_rs(telegram);
         }
+        self.note_point(telegram, &extended);
         match extended.dsap {
             POINT_SET_PRM => self.set_prm(telegram, extended.data),
             POINT_CHK_CFG => self.chk_cfg(telegram, extended.data),
             POINT_READ_INPUTS | POINT_READ_OUTPUTS | POINT_GET_CFG | POINT_SLAVE_DIAG => {
                 self.serve_without_data(telegram, &extended)
             }
-            POINT_GLOBAL_CONTROL => {
-                self.note(Outcome::Point58);
-                self.reply_rs(telegram);
-            }
-            _ => {
-                self.note(Outcome::PointUnknown);
-                self.reply_rs(telegram);
-            }
+            // 58 too: Global_Control comes by functions 4 and 6 alone.
+            _ => self.reply_rs(telegram),
         }
     }
 
     fn serve_without_data(&mut self, telegram: &Telegram, extended: &Extended) {
         if !extended.data.is_empty() {
-            self.note(Outcome::PointData);
             return self.reply_rs(telegram);
         }
         match extended.dsap {
@@ -719,6 +713,37 @@ impl Ledger {
             POINT_READ_INPUTS => self.read_inputs(telegram),
             _ => self.read_outputs(telegram),
         }
+    }
+
+    fn note_point(&mut self, telegram: &Telegram, extended: &Extended) {
+        let function = telegram.control & 0x0F;
+        let (without_data, with_data) = point_asked(extended.dsap, function);
+        self.note(match extended.data.is_empty() {
+            true => without_data,
+            false => with_data,
+        });
+    }
+}
+
+/// What a request to the point comes to by function 12 or 13, without data and with some.
+fn point_asked(dsap: u8, function: u8) -> (Outcome, Outcome) {
+    match (dsap, function) {
+        (POINT_READ_INPUTS, 12) => (Outcome::Point56By12, Outcome::Point56By12Data),
+        (POINT_READ_INPUTS, _) => (Outcome::Point56By13, Outcome::Point56By13Data),
+        (POINT_READ_OUTPUTS, 12) => (Outcome::Point57By12, Outcome::Point57By12Data),
+        (POINT_READ_OUTPUTS, _) => (Outcome::Point57By13, Outcome::Point57By13Data),
+        (POINT_GLOBAL_CONTROL, 12) => (Outcome::Point58By12, Outcome::Point58By12Data),
+        (POINT_GLOBAL_CONTROL, _) => (Outcome::Point58By13, Outcome::Point58By13Data),
+        (POINT_GET_CFG, 12) => (Outcome::Point59By12, Outcome::Point59By12Data),
+        (POINT_GET_CFG, _) => (Outcome::Point59By13, Outcome::Point59By13Data),
+        (POINT_SLAVE_DIAG, 12) => (Outcome::Point60By12, Outcome::Point60By12Data),
+        (POINT_SLAVE_DIAG, _) => (Outcome::Point60By13, Outcome::Point60By13Data),
+        (POINT_SET_PRM, 12) => (Outcome::Point61By12, Outcome::Point61By12Data),
+        (POINT_SET_PRM, _) => (Outcome::Point61By13, Outcome::Point61By13Data),
+        (POINT_CHK_CFG, 12) => (Outcome::Point62By12, Outcome::Point62By12Data),
+        (POINT_CHK_CFG, _) => (Outcome::Point62By13, Outcome::Point62By13Data),
+        (_, 12) => (Outcome::PointUnknownBy12, Outcome::PointUnknownBy12Data),
+        (_, _) => (Outcome::PointUnknownBy13, Outcome::PointUnknownBy13Data),
     }
 }
 

@@ -1,5 +1,5 @@
-//! Compares the C library of the station with a second implementation of document 01 and of Req 01 and 02 of document
-//! 02. See tests/README.md.
+//! Compares the C library of the station with a second implementation of document 01 and of Req 01 to 03 of document 02.
+//! See tests/README.md.
 
 #[cfg(test)]
 mod bench;

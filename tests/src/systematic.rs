@@ -421,7 +421,7 @@ pub fn run(threads: usize) -> Result<u64, String> {
     let events = bases(way_to_events())?;
     let mut tasks = tasks(&all, &modes);
     for base in all.iter().chain(&modes).chain(&events) {
-        push_accesses(&mut tasks, base);
+        push_all(&mut tasks, base, &OF_THE_WINDOW);
     }
     let next = AtomicUsize::new(0);
     let failures: Mutex<Vec<(usize, String)>> = Mutex::new(Vec::new());
@@ -467,76 +467,66 @@ fn run_task(task: &Task) -> Result<u64, String> {
 fn tasks<'a>(bases: &'a [Base], modes: &'a [Base]) -> Vec<Task<'a>> {
     let mut tasks = Vec::new();
     for base in bases {
-        for (name, octets) in telegrams() {
-            let (twice, thrice, fourth) = (octets.clone(), octets.clone(), octets.clone());
-            push(&mut tasks, base, format!("{name}, one octet changed"), {
-                move |walker| change_each_octet(walker, &octets)
-            });
-            push(&mut tasks, base, format!("{name}, changed, good FCS"), {
-                move |walker| change_with_good_check_sum(walker, &twice)
-            });
-            push(&mut tasks, base, format!("{name}, calls inside"), {
-                move |walker| calls_inside(walker, &thrice)
-            });
-            push(&mut tasks, base, format!("{name}, calls in the reply"), {
-                move |walker| calls_in_the_reply(walker, &fourth)
-            });
-        }
-        push(&mut tasks, base, "every FC".into(), every_control);
-        push(&mut tasks, base, "every point".into(), every_point);
-        push(&mut tasks, base, "every count of data".into(), every_count);
-        push(
-            &mut tasks,
-            base,
-            "every octet 0 of Set_Prm".into(),
-            every_first_parameter,
-        );
-        push(
-            &mut tasks,
-            base,
-            "every Global_Control".into(),
-            every_global_control,
-        );
+        push_telegrams(&mut tasks, base);
+        push_all(&mut tasks, base, &FROM_EVERY_STATE);
     }
     for base in modes {
-        push(
-            &mut tasks,
-            base,
-            "every Global_Control".into(),
-            every_global_control,
-        );
+        push_all(&mut tasks, base, &FROM_MODES);
     }
-    let fresh = &bases[0];
-    push(
-        &mut tasks,
-        fresh,
-        "every octet 0 of Set_Prm, then sync and freeze".into(),
-        every_permission,
-    );
-    push(&mut tasks, fresh, "every pair of LE".into(), every_lengths);
-    push(
-        &mut tasks,
-        fresh,
-        "shortest and longest watchdogs".into(),
-        watchdogs,
-    );
-    push(
-        &mut tasks,
-        fresh,
-        "every pair of addresses".into(),
-        every_addresses,
-    );
+    push_all(&mut tasks, &bases[0], &FROM_FRESH);
     tasks
 }
 
-fn push_accesses<'a>(tasks: &mut Vec<Task<'a>>, base: &'a Base) {
-    push(tasks, base, "every window access".into(), every_access);
-    push(
-        tasks,
-        base,
-        "every octet written to the window".into(),
-        every_octet_written,
-    );
+/// A test with its name in reports.
+type Named = (&'static str, fn(&mut Walker) -> Compared);
+
+const FROM_EVERY_STATE: [Named; 6] = [
+    ("every telegram between ticks", every_telegram_between_ticks),
+    ("every FC", every_control),
+    ("every point", every_point),
+    ("every count of data", every_count),
+    ("every octet 0 of Set_Prm", every_first_parameter),
+    ("every Global_Control", every_global_control),
+];
+
+const FROM_MODES: [Named; 1] = [("every Global_Control", every_global_control)];
+
+const FROM_FRESH: [Named; 4] = [
+    (
+        "every octet 0 of Set_Prm, then sync and freeze",
+        every_permission,
+    ),
+    ("every pair of LE", every_lengths),
+    ("shortest and longest watchdogs", watchdogs),
+    ("every pair of addresses", every_addresses),
+];
+
+const OF_THE_WINDOW: [Named; 2] = [
+    ("every window access", every_access),
+    ("every octet written to the window", every_octet_written),
+];
+
+fn push_telegrams<'a>(tasks: &mut Vec<Task<'a>>, base: &'a Base) {
+    let ways: [(&str, fn(&mut Walker, &[u8]) -> Compared); 4] = [
+        ("one octet changed", change_each_octet),
+        ("changed, good FCS", change_with_good_check_sum),
+        ("calls inside", calls_inside),
+        ("calls in the reply", calls_in_the_reply),
+    ];
+    for (name, octets) in telegrams() {
+        for (way, run) in ways {
+            let octets = octets.clone();
+            push(tasks, base, format!("{name}, {way}"), move |walker| {
+                run(walker, &octets)
+            });
+        }
+    }
+}
+
+fn push_all<'a>(tasks: &mut Vec<Task<'a>>, base: &'a Base, named: &[Named]) {
+    for (name, run) in named {
+        push(tasks, base, name.to_string(), *run);
+    }
 }
 
 fn push<'a>(
@@ -572,6 +562,20 @@ fn change_with_good_check_sum(walker: &mut Walker, octets: &[u8]) -> Compared {
             changed[at] = value;
             changed[fcs_at] = telegram::check_sum(&changed[body_at..fcs_at]);
             walker.variant(&telegram_calls(&changed))?;
+        }
+    }
+    Ok(())
+}
+
+/// Whether a telegram refills the watchdog shows in the tick at which that expires.
+fn every_telegram_between_ticks(walker: &mut Walker) -> Compared {
+    let ticks = |count| vec![Call::Tick; count];
+    for (_, octets) in telegrams() {
+        for before in 1..=2 {
+            for behind in 1..=3 {
+                let calls = [ticks(before), telegram_calls(&octets), ticks(behind)];
+                walker.variant(&calls.concat())?;
+            }
         }
     }
     Ok(())
@@ -668,21 +672,33 @@ fn every_control(walker: &mut Walker) -> Compared {
     Ok(())
 }
 
+/// Every DSAP with some SSAPs, and every SSAP at each point.
 fn every_point(walker: &mut Walker) -> Compared {
-    for point in 0..=255 {
-        for other in [0, 61, 62, 63, 0xBE] {
-            for data in [vec![], vec![0x21], good_parameters(None)] {
-                let mut draft = Draft::to_point(STATION, MASTER, 0, data);
-                draft.points = Some((point, other));
-                walker.variant(&telegram_calls(&draft.octets()))?;
-            }
+    for dsap in 0..=255 {
+        for ssap in [0, 61, 62, 63, 0xBE] {
+            every_request_to(walker, (dsap, ssap))?;
         }
     }
-    for other in 0..=255 {
-        for point in 56..=62 {
-            let mut draft = Draft::to_point(STATION, MASTER, 0, vec![]);
-            draft.points = Some((point, other));
-            walker.variant(&telegram_calls(&draft.octets()))?;
+    for ssap in 0..=255 {
+        for dsap in 56..=62 {
+            every_request_to(walker, (dsap, ssap))?;
+        }
+    }
+    Ok(())
+}
+
+/// From the owner, if there is one, and from another master, by functions 13 and 12, without data and with some.
+fn every_request_to(walker: &mut Walker, points: (u8, u8)) -> Compared {
+    for master in [MASTER, OTHER_MASTER] {
+        for control in [draft::REQUEST, draft::LOW_REQUEST] {
+            for data in [vec![], vec![0x21], good_parameters(None)] {
+                let draft = Draft {
+                    control,
+                    points: Some(points),
+                    ..Draft::to_point(STATION, master, points.0, data)
+                };
+                walker.variant(&telegram_calls(&draft.octets()))?;
+            }
         }
     }
     Ok(())
@@ -799,15 +815,36 @@ mod tests {
     use super::*;
     use crate::ledger::Station;
 
+    /// The second implementation after these calls, none of which it refuses.
+    fn reached(way: &[Call]) -> Station {
+        let mut station = Station::default();
+        way.iter()
+            .for_each(|call| assert!(station.answer(call).0 >= 0, "{call}"));
+        station
+    }
+
     #[test]
     fn every_event_is_set_where_the_name_says_so() {
-        let mut station = Station::default();
-        for (_, way) in way_to_events() {
-            way.iter()
-                .for_each(|call| assert!(station.answer(call).0 >= 0, "{call}"));
-        }
+        let (_, way) = &way_to_events()[0];
         let events = [1, 3, 8, 10, 11, 12, 13];
         let word: i64 = events.into_iter().map(|number| 1 << number).sum();
-        assert_eq!(station.answer(&Call::Events).0, word);
+        assert_eq!(reached(way).answer(&Call::Events).0, word);
+    }
+
+    /// Of the two masters that ask at every point one is the owner wherever there is one.
+    #[test]
+    fn every_phase_is_among_the_states_with_its_owner() {
+        let phase_and_owner = |(_, way): &(_, Vec<Call>)| {
+            let ledger = reached(way).ledger.expect("every way begins with Start");
+            (ledger.phase, ledger.owner)
+        };
+        let states: Vec<_> = ways().iter().map(phase_and_owner).collect();
+        for state in [
+            (Phase::WaitPrm, None),
+            (Phase::WaitCfg, Some(MASTER)),
+            (Phase::DataExch, Some(MASTER)),
+        ] {
+            assert!(states.contains(&state), "{state:?}");
+        }
     }
 }

@@ -1,3 +1,4 @@
+pub mod Points
 pub mod Alike
 pub mod Headed
 pub mod ByCases

@@ -1,10 +1,17 @@
 // Which telegrams act, and what each asks of the station, by its header alone.
 use crate::request::Request;
 use crate::request::Service;
+use points::Found;
+use points::Point;
+use points::look_up;
 use state::control::Control;
 use state::setup::Setup;
 use telegram::Kind;
 ghost use mathlib.Core.Path.{_≡_};
+ghost use mathlib.Core.Bool.{cond, not};
+ghost use lib.Dec.{eqb};
+ghost use Rattle.points.specs.Points.{numberOf};
+ghost use Rattle.rules.specs.declared.request.Service.the-variants.{Reject};
 ghost use Rattle.rules.specs.Requests.{masterOf, globalForm, toStation, acts, refilled, statusBy, pointOf, requestOf, functionService, serviceOf};
 
 // The master that sent it: SA without its mark of an extension.
@@ -69,34 +76,44 @@ fn status_by(kind: Kind) -> Service
     }
 }
 
-// By the service point of destination; any data is wrong where none is expected.
+// The service, or RS where there is data: it expects none.
+fn without_data(count: u8, service: Service) -> Service
+    ensures { λ s. ⌜ s ≡ cond (not (eqb count 0)) Reject service ⌝ }
+{
+    if count != 0 {
+        return Service::Reject;
+    }
+    service
+}
+
+// What is asked at a point. Global_Control comes by functions 4 and 6 alone.
+fn asked_at(point: Point, r: Request) -> Service
+    requires { ⌜ numberOf point ≡ r .dsap ⌝ }
+    ensures { λ s. ⌜ s ≡ pointOf r ⌝ }
+{
+    let count = r.count;
+    match point {
+        Point::SetPrm => Service::SetPrm,
+        Point::ChkCfg => Service::ChkCfg,
+        Point::SlaveDiag => without_data(count, Service::SlaveDiag),
+        Point::GetCfg => without_data(count, Service::GetCfg),
+        Point::ReadInputs => without_data(count, Service::ReadInputs),
+        Point::ReadOutputs => without_data(count, Service::ReadOutputs),
+        Point::GlobalControl => Service::Reject,
+    }
+}
+
+// By the service point of destination.
 fn point_of(r: Request) -> Service
     ensures { λ s. ⌜ s ≡ pointOf r ⌝ }
 {
     let dsap = r.dsap;
-    let count = r.count;
-    if dsap == 61 {
-        return Service::SetPrm;
+    let lookup = look_up(dsap);
+    let found = lookup.found;
+    match found {
+        Found::Hit(point) => asked_at(point, r),
+        Found::None => Service::Reject,
     }
-    if dsap == 62 {
-        return Service::ChkCfg;
-    }
-    if count != 0 {
-        return Service::Reject;
-    }
-    if dsap == 60 {
-        return Service::SlaveDiag;
-    }
-    if dsap == 59 {
-        return Service::GetCfg;
-    }
-    if dsap == 56 {
-        return Service::ReadInputs;
-    }
-    if dsap == 57 {
-        return Service::ReadOutputs;
-    }
-    Service::Reject
 }
 
 // Functions 12 and 13: Data_Exchange without extension, else SSAP is 62 and the point decides.
@@ -115,7 +132,7 @@ fn request_of(r: Request) -> Service
 }
 
 // By the function of a telegram that acts; nothing else is answered.
-fn function_service(r: Request) -> Service
+pub fn function_service(r: Request) -> Service
     ensures { λ s. ⌜ s ≡ functionService r ⌝ }
 {
     let function = r.fc % 16;

@@ -1,7 +1,7 @@
 -- The last octet of a telegram over the memory, part by part: the memory then holds the state after it.
 use Prim.Native.Nat.{ℕ}
 use mathlib.Core.Path.{_≡_, refl, sym, ap, _∙_}
-use mathlib.Core.Bool.{true, _&&_}
+use mathlib.Core.Bool.{true, cond, not, _&&_}
 use mathlib.Core.List.{List}
 use lib.Dec.{eqb}
 use Rattle.buffers.specs.declared.events.Events.{Events}
@@ -35,15 +35,21 @@ use Rattle.rules.specs.declared.request.Service.the-variants.{Nothing, Status, 
 use Rattle.rules.specs.Control.{owns, withEvents}
 use Rattle.rules.specs.Diagnosis.{headerOf}
 use Rattle.rules.specs.Modes.{exchangeOutputs, exchangeInputs, announced}
+use Rattle.rules.specs.Phases.{drawing}
 use Rattle.rules.specs.Replies.{exchangeFc}
-use Rattle.rules.specs.Requests.{masterOf, acts, toStation, refilled, serviceOf}
-use Rattle.rules.specs.Services.{exchanges, goodExchange, serve}
+use Rattle.rules.specs.Requests.{masterOf, acts, toStation, refilled, functionService, serviceOf}
+use Rattle.rules.specs.Services.{exchanges, goodExchange, slaveDiag, serve}
 use Rattle.rules.proofs.GoodExchange.{refilled-exchanges, exchange-good}
 use Rattle.steps.specs.Stepped.{packedAfter}
 use Rattle.steps.specs.Outcome.{occupied, onOutputs, onInputs, onState, onMemory, carried}
 use Rattle.steps.specs.Reading.{dataIn, outcomeOf, answered}
 use Rattle.steps.specs.Replies.{replyFor}
 use Rattle.station.specs.Completing.{isDataExchange, isGoodExchange}
+
+-- the service of a telegram that acts
+pub acting-service : (g : Setup) (r : Request) → acts g r ≡ true → functionService r ≡ serviceOf g r
+unfolding serviceOf
+acting-service g r e = λ j. cond (sym e j) (functionService r) Nothing
 
 -- ---- what comes of a good Data_Exchange
 
@@ -82,6 +88,17 @@ unfolding refilled
 only-ticks s r e =
     either (λ (k : Control). withTicks (withEventWord s e) (k .watchdog .remaining) .control ≡ withEvents k e)
     (acts (s .setup) r && toStation (s .setup) r && owns (s .control) (masterOf r)) refl refl
+
+-- ---- what comes of Slave_Diag
+
+-- the diagnosis is drawn, and nothing but the control part changes
+diagnosis-drawn : (s : State) (m : List ℕ) (r : Request) → serviceOf (s .setup) r ≡ SlaveDiag
+    → outcomeOf s m r ≡ drawing (slaveDiag (refilled (s .setup) (s .control) r) r .control) drawn.Diagnosis
+unfolding outcomeOf slaveDiag
+diagnosis-drawn s m r e =
+    let k : Control = refilled (s .setup) (s .control) r in
+    (λ j. serve (e j) (s .setup) k (occupied s) r (dataIn s m))
+    ∙ either (λ (o : Outcome). o ≡ drawing (o .control) drawn.Diagnosis) (owns k (masterOf r) && not (k .flags .«stat_diag»)) refl refl
 
 -- ---- the reply
 
@@ -182,3 +199,18 @@ module _ (m : List ℕ) (s : State) (i : Incoming) (r : Request) (setup : Setup)
       ∙ (λ j. kept (withReply (withControl t (only-ticks s r (t .control .events) j)) (replyFor drawn.Exchange t (masterOf r)))
       (exchange-leaves (k .modes) (withIncoming s i) m j))
       ∙ ap (λ (o : Outcome). packedAfter (answered (withIncoming s i) m o r)) (sym (exchange-is-good s m r good))
+
+  -- Slave_Diag: the telegram, the control part and the reply
+  pub diagnosed-over : m ≡ kept s m → serviceOf (s .setup) r ≡ SlaveDiag → (c control : Control) (o : Outcome) (x : Reply) → c ≡ s .control
+      → control ≡ refilled setup c r → o ≡ slaveDiag control r → outputs ≡ was → Draws drawn.Diagnosis setup (o .control) held master x
+      → (n₁ n₂ n₃ : List ℕ) → Changes m n₁ (λ t. withIncoming t i) → Changes n₁ n₂ (λ t. withControl t (o .control)) → Changes n₂ n₃ (λ t. withReply t x)
+      → n₃ ≡ packedAfter (answered (withIncoming s i) m (outcomeOf s m r) r)
+  unfolding carried answered
+  diagnosed-over front asks c control o x ec er eo same draws n₁ n₂ n₃ p₁ p₂ p₃ =
+      let t : State = withControl (withIncoming s i) (o .control) in
+      let refills : control ≡ refilled (s .setup) (s .control) r = er ∙ (λ j. refilled (read j) (ec j) r) in
+      let serves : o ≡ slaveDiag (refilled (s .setup) (s .control) r) r = eo ∙ (λ j. slaveDiag (refills j) r) in
+      then m n₂ n₃ _ _ (then m n₁ n₂ _ _ p₁ p₂) p₃ s front
+      ∙ ap (λ (y : Reply). kept (withReply t y) m) (drawn-for drawn.Diagnosis (o .control) x draws t refl refl (same ∙ read-outputs))
+      ∙ (λ j. packedAfter (answered (withIncoming s i) m (drawing (serves j .control) drawn.Diagnosis) r))
+      ∙ ap (λ (y : Outcome). packedAfter (answered (withIncoming s i) m y r)) (sym (diagnosis-drawn s m r asks))

@@ -1,12 +1,23 @@
--- What the short way of a last octet looks at.
+-- The last octet of a telegram over the memory, and what its short ways look at.
+use Prim.Native.Nat.{ℕ}
 use mathlib.Core.Bool.{Bool, true, false, _&&_}
+use mathlib.Core.List.{List}
 use lib.Dec.{eqb}
+use Rattle.state.specs.declared.state.Incoming.{Incoming}
 use Rattle.state.specs.declared.state.State.{State}
+use Rattle.state.specs.Unpack.{unpacked}
+use Rattle.state.specs.With.{withIncoming}
 use Rattle.rules.specs.declared.request.Request.{Request}
 use Rattle.rules.specs.declared.request.Service.{Service}
 use Rattle.rules.specs.declared.request.Service.the-variants.{Nothing, Status, Reject, GlobalControl, DataExchange, SetPrm, ChkCfg, SlaveDiag, GetCfg, ReadInputs, ReadOutputs}
 use Rattle.rules.specs.Requests.{serviceOf}
 use Rattle.rules.specs.Services.{exchanges}
+use Rattle.steps.specs.Stepped.{packedAfter}
+use Rattle.steps.specs.Reading.{outcomeOf, answered}
+
+-- the memory after the last octet of a telegram; i: the telegram, read to its end, r: what it asks
+abbrev pub completedBy : List ℕ → Incoming → Request → List ℕ
+completedBy m i r = packedAfter (answered (withIncoming (unpacked m) i) m (outcomeOf (unpacked m) m r) r)
 
 -- the service is Data_Exchange
 abbrev pub isDataExchange : Service → Bool

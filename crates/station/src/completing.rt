@@ -1,6 +1,6 @@
 // The last octet of a telegram over the memory that holds the state, where nothing waits for the end of the line's business. A good
-// Data_Exchange, which nearly every telegram to the station is, and a telegram that does not act, which is nearly every other one on the
-// line, have ways of their own.
+// Data_Exchange, which nearly every telegram to the station is, a telegram that does not act, which is nearly every other one on the
+// line, and Slave_Diag, which a master sends more often than the rest, have ways of their own.
 use crate::reading::prm_at;
 use crate::reading::request_by;
 use crate::replies::draw;
@@ -20,14 +20,16 @@ use rules::request::Prm;
 use rules::request::Request;
 use rules::request::Service;
 use rules::requests::acts;
+use rules::requests::function_service;
 use rules::requests::master_of;
 use rules::requests::refilled;
-use rules::requests::service_of;
 use rules::services::exchanges;
 use rules::services::serve;
+use rules::services::slave_diag;
 use state::control::Control;
 use state::layout::parameters_at;
 use state::load;
+use state::saving::save_control;
 use state::saving::save_events;
 use state::saving::save_incoming;
 use state::saving::save_inputs;
@@ -47,11 +49,12 @@ ghost use Rattle.state.specs.declared.state.State.{State};
 ghost use Rattle.state.specs.Memory.{Holds};
 ghost use Rattle.state.specs.Unpack.{unpacked};
 ghost use Rattle.state.specs.With.{withIncoming};
-ghost use Rattle.rules.specs.Requests.{acts};
+ghost use Rattle.rules.specs.declared.request.Service.the-variants.{SlaveDiag};
+ghost use Rattle.rules.specs.Requests.{acts, serviceOf};
 ghost use Rattle.steps.specs.Stepped.{packedAfter};
 ghost use Rattle.steps.specs.Replies.{replyFor};
 ghost use Rattle.steps.specs.Reading.{requestBy, prmIn, outcomeOf, answered};
-ghost use Rattle.station.specs.Completing.{isDataExchange, isGoodExchange};
+ghost use Rattle.station.specs.Completing.{completedBy, isDataExchange, isGoodExchange};
 
 // The octets of Set_Prm in the parameters' fill buffer.
 fn prm_in(mem: &[u8]) -> Prm
@@ -64,13 +67,12 @@ fn prm_in(mem: &[u8]) -> Prm
 }
 
 // What comes of a telegram.
-fn outcome_in(mem: &[u8], r: Request) -> Outcome
-    requires { ⌜ Holds (now mem) (unpacked (now mem)) ⌝ }
+fn outcome_in(mem: &[u8], r: Request, service: Service) -> Outcome
+    requires { ⌜ (Holds (now mem) (unpacked (now mem))) × (service ≡ serviceOf (unpacked (now mem) .setup) r) ⌝ }
     ensures { λ o. ⌜ o ≡ outcomeOf (unpacked (now (mem .entry))) (now (mem .entry)) r ⌝ }
 {
     let setup = load::setup(mem);
     let incoming = load::incoming(mem);
-    let service = service_of(setup, r);
     let control = refilled(setup, load::control(mem), r);
     let outputs = load::outputs(mem);
     let occupied = Occupied {
@@ -121,12 +123,11 @@ fn is_data_exchange(service: Service) -> bool
 }
 
 // Whether a telegram is a good Data_Exchange.
-fn is_good_exchange(mem: &[u8], r: Request) -> bool
-    requires { ⌜ Holds (now mem) (unpacked (now mem)) ⌝ }
+fn is_good_exchange(mem: &[u8], r: Request, service: Service) -> bool
+    requires { ⌜ (Holds (now mem) (unpacked (now mem))) × (service ≡ serviceOf (unpacked (now mem) .setup) r) ⌝ }
     ensures { λ b. ⌜ b ≡ isGoodExchange (unpacked (now (mem .entry))) r ⌝ }
 {
     let setup = load::setup(mem);
-    let service = service_of(setup, r);
     is_data_exchange(service) & exchanges(load::control(mem), r) & (r.count == setup.output_len)
 }
 
@@ -153,7 +154,7 @@ fn exchange_reply(setup: Setup, control: Control, held: u8, master: u8) -> Reply
 // A good Data_Exchange: its data is published, or held back in sync.
 fn exchange(mem: &mut [u8], i: Incoming, r: Request)
     requires { ⌜ (Holds (now mem) (unpacked (now mem))) × (isGoodExchange (unpacked (now mem)) r ≡ true) ⌝ }
-    ensures { λ _. ⌜ now (mem .exit) ≡ packedAfter (answered (withIncoming (unpacked (now (mem .entry))) i) (now (mem .entry)) (outcomeOf (unpacked (now (mem .entry))) (now (mem .entry)) r) r) ⌝ }
+    ensures { λ _. ⌜ now (mem .exit) ≡ completedBy (now (mem .entry)) i r ⌝ }
 {
     let setup = load::setup(&mem[..]);
     let control = refilled(setup, load::control(&mem[..]), r);
@@ -169,10 +170,46 @@ fn exchange(mem: &mut [u8], i: Incoming, r: Request)
     save_reply(reply, mem);
 }
 
+// Slave_Diag: of the station's own parts it changes the control part alone.
+fn diagnose(mem: &mut [u8], i: Incoming, r: Request)
+    requires { ⌜ (Holds (now mem) (unpacked (now mem))) × (serviceOf (unpacked (now mem) .setup) r ≡ SlaveDiag) ⌝ }
+    ensures { λ _. ⌜ now (mem .exit) ≡ completedBy (now (mem .entry)) i r ⌝ }
+{
+    let setup = load::setup(&mem[..]);
+    let o = slave_diag(refilled(setup, load::control(&mem[..]), r), r);
+    let outputs = load::outputs(&mem[..]);
+    let reply = draw(
+        Drawn::Diagnosis,
+        setup,
+        o.control,
+        outputs.set.held(),
+        master_of(r),
+    );
+    save_incoming(i, mem);
+    save_control(o.control, mem);
+    save_reply(reply, mem);
+}
+
+// A telegram that acts, by the service that it asks for.
+fn apply(mem: &mut [u8], i: Incoming, r: Request, service: Service)
+    requires { ⌜ (Holds (now mem) (unpacked (now mem))) × (service ≡ serviceOf (unpacked (now mem) .setup) r) ⌝ }
+    ensures { λ _. ⌜ now (mem .exit) ≡ completedBy (now (mem .entry)) i r ⌝ }
+{
+    if is_good_exchange(&mem[..], r, service) {
+        exchange(mem, i, r);
+        return;
+    }
+    if let Service::SlaveDiag = service {
+        diagnose(mem, i, r);
+        return;
+    }
+    answer(mem, outcome_in(&mem[..], r, service), i, r);
+}
+
 // A telegram that does not act draws nothing.
 fn pass_by(mem: &mut [u8], i: Incoming, r: Request)
     requires { ⌜ (Holds (now mem) (unpacked (now mem))) × (acts (unpacked (now mem) .setup) r ≡ false) ⌝ }
-    ensures { λ _. ⌜ now (mem .exit) ≡ packedAfter (answered (withIncoming (unpacked (now (mem .entry))) i) (now (mem .entry)) (outcomeOf (unpacked (now (mem .entry))) (now (mem .entry)) r) r) ⌝ }
+    ensures { λ _. ⌜ now (mem .exit) ≡ completedBy (now (mem .entry)) i r ⌝ }
 {
     let control = load::control(&mem[..]);
     let outputs = load::outputs(&mem[..]);
@@ -190,17 +227,13 @@ fn pass_by(mem: &mut [u8], i: Incoming, r: Request)
 // A last octet applies Services; octets are ignored until a gap. i: the telegram, read to its end.
 pub fn complete(mem: &mut [u8], i: Incoming)
     requires { ⌜ Holds (now mem) (unpacked (now mem)) ⌝ }
-    ensures { λ _. ⌜ now (mem .exit) ≡ packedAfter (answered (withIncoming (unpacked (now (mem .entry))) i) (now (mem .entry)) (outcomeOf (unpacked (now (mem .entry))) (now (mem .entry)) (requestBy (i .reader))) (requestBy (i .reader))) ⌝ }
+    ensures { λ _. ⌜ now (mem .exit) ≡ completedBy (now (mem .entry)) i (requestBy (i .reader)) ⌝ }
 {
     let reader = i.reader;
     let r = request_by(reader);
-    if is_good_exchange(&mem[..], r) {
-        exchange(mem, i, r);
-        return;
-    }
     if !acts(load::setup(&mem[..]), r) {
         pass_by(mem, i, r);
         return;
     }
-    answer(mem, outcome_in(&mem[..], r), i, r);
+    apply(mem, i, r, function_service(r));
 }

@@ -6,9 +6,6 @@ use Rattle.station.proofs.completing.is_good_exchange.Tie as tie
 setup-requires : tie.Need-setup-requires
 setup-requires c κs = search needs
 
-service-of-requires : tie.Need-service-of-requires
-service-of-requires c κs = search needs
-
 is-data-exchange-requires : tie.Need-is-data-exchange-requires
 is-data-exchange-requires c κs = search needs
 
@@ -24,8 +21,8 @@ returns c =
       c .before .before .exchanges .ensures,
       c .before .before .before .control .ensures,
       c .before .before .before .before .is-data-exchange .ensures,
-      c .before .before .before .before .before .service-of .ensures,
-      c .before .before .before .before .before .before .setup .ensures,
+      c .before .before .before .before .before .before .before .pre .1,
+      c .before .before .before .before .before .setup .ensures,
     )
 
 pub is-good-exchange-spec : {M : Type 1} → statement M
@@ -33,7 +30,6 @@ is-good-exchange-spec =
     tie.close
     (tie.spec
     setup-requires
-    service-of-requires
     is-data-exchange-requires
     control-requires
     exchanges-requires

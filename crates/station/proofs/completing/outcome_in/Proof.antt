@@ -10,9 +10,6 @@ setup-requires c κs = search needs
 incoming-requires : tie.Need-incoming-requires
 incoming-requires c κs = search needs
 
-service-of-requires : tie.Need-service-of-requires
-service-of-requires c κs = search needs
-
 control-requires : tie.Need-control-requires
 control-requires c κs = search needs
 
@@ -35,7 +32,7 @@ is-open-requires-2 : tie.Need-is-open-requires-2
 is-open-requires-2 c κs = search needs
 
 prm-in-requires : tie.Need-prm-in-requires
-prm-in-requires c κs = c .before .before .before .before .before .before .before .before .before .before .before .pre
+prm-in-requires c κs = c .before .before .before .before .before .before .before .before .before .before .pre .0
 
 serve-requires : tie.Need-serve-requires
 serve-requires c κs = search needs
@@ -53,9 +50,9 @@ returns c =
       c .before .before .before .before .before .before .outputs .ensures,
       c .before .before .before .before .before .before .before .refilled .ensures,
       c .before .before .before .before .before .before .before .before .control .ensures,
-      c .before .before .before .before .before .before .before .before .before .service-of .ensures,
-      c .before .before .before .before .before .before .before .before .before .before .incoming .ensures,
-      c .before .before .before .before .before .before .before .before .before .before .before .setup .ensures,
+      c .before .before .before .before .before .before .before .before .before .before .before .before .pre .1,
+      c .before .before .before .before .before .before .before .before .before .incoming .ensures,
+      c .before .before .before .before .before .before .before .before .before .before .setup .ensures,
     )
 
 pub outcome-in-spec : {M : Type 1} → statement M
@@ -64,7 +61,6 @@ outcome-in-spec =
     (tie.spec
     setup-requires
     incoming-requires
-    service-of-requires
     control-requires
     refilled-requires
     outputs-requires

@@ -1,0 +1,4 @@
+pub mod Places
+pub mod EachOnce
+pub mod Looking
+pub mod Promises
