@@ -1,8 +1,10 @@
--- A Read_Outputs reply is unfinished only in DATA_EXCH: every call keeps that. DATA_EXCH is left only where no such
--- reply is left: on an idle line, or by a bad judgement, which needs an open set.
+-- A reply of the held outputs is unfinished only where they may be drawn, in DATA_EXCH or by a repeat: every call keeps that. DATA_EXCH is
+-- left only where no such reply is left: on an idle line, or by a bad judgement, which needs an open set. The chain changes only with a
+-- telegram, whose beginning drops the reply.
 use Prim.Native.Nat.{ℕ, _+_}
-use mathlib.Core.Path.{_≡_, refl, sym, subst, ap}
-use mathlib.Core.Bool.{Bool, true, false, cond, not, _&&_}
+use mathlib.Core.Path.{_≡_, refl, sym, subst, ap, _∙_}
+use mathlib.Core.Bool.{Bool, true, false, cond, not, _&&_, _||_}
+use mathlib.Core.Logic.{⊎-elim}
 use mathlib.Core.List.{List}
 use lib.Dec.{eqb, leb}
 use lib.ListN.{getD, set}
@@ -12,6 +14,7 @@ use Rattle.telegram.specs.Reading.{start, off, readerAfter, status, datumOf}
 use Rattle.telegram.specs.Sending.{left, sent}
 use Rattle.telegram.proofs.Run.{no-true}
 use Rattle.state.specs.declared.answer.Refusal.the-variants.{Judging, Range, Absent, Delayed}
+use Rattle.state.specs.declared.control.Chain.{Chain}
 use Rattle.state.specs.declared.control.Control.{Control}
 use Rattle.state.specs.declared.setup.Setup.{Setup}
 use Rattle.state.specs.declared.state.Reply.{Reply}
@@ -35,8 +38,8 @@ use Rattle.steps.specs.Bus.{paused, silencedReader, elapsed, sentBy, sendLeft}
 use Rattle.steps.specs.User.{absent, kindAt, takeOutputs, readOctet, writeOctet, handOver, newDiagnosis, judgeParameters, judgeConfiguration, acknowledgeEvents, leaveMaster}
 use Rattle.steps.specs.Step.{step}
 use Rattle.agreement.proofs.Steady.{Allows, ReplySteady, Related}
-use Rattle.state.proofs.Choice.{by-test}
-use Rattle.rules.proofs.Served.{Publishes, Quiet, clear-quiet, clear-noted-quiet, ticked-quiet, parameters-quiet, configuration-quiet, isOutputs}
+use Rattle.state.proofs.Choice.{by-test, or-second, or-either}
+use Rattle.rules.proofs.Served.{Publishes, Quiet, clear-quiet, clear-noted-quiet, ticked-quiet, parameters-quiet, configuration-quiet, isOutputs, mayRead}
 use Rattle.agreement.proofs.OutcomeCarried.{Spared}
 use Rattle.agreement.proofs.SettleAgrees.{idle-spared, after-reply-keeps}
 use Rattle.agreement.proofs.UserCallsAgree.{parameters-spared, configuration-spared}
@@ -47,13 +50,26 @@ use Rattle.telegram.specs.declared.reader.Status.{Status}
 use Rattle.telegram.specs.declared.reader.Status.the-variants as reader-status
 use Rattle.steps.proofs.OutcomeServed.{outcome-served}
 
--- an outcome without data that spares the reply leaves no DATA_EXCH under it
+-- an outcome without data that spares the reply leaves no DATA_EXCH under it, and no chain
 quiet-allows : {g : Setup} {c : Control} {o : Outcome} (r : Reply) → Quiet g c (Spared r) o → Allows c r → Allows (o .control) r
-quiet-allows {g} {c} {o} r q f w h = go (inExchange (o .control)) refl
+quiet-allows {g} {c} {o} r q f w h = ⊎-elim inside linked (or-either (inExchange c) (isOutputs (c .chain .drawn)) (f w h))
   where
-    go : (t : Bool) → inExchange (o .control) ≡ t → t ≡ true
-    go true e = refl
-    go false e = absurd (subst (Publishes (⊥ × (0 ≡ g .«output_len»)) ⊥ (Spared r)) (q .leaves (f w h) e) (q .outputs-come) w h)
+    after : Bool
+    after = isOutputs (o .control .chain .drawn)
+
+    -- DATA_EXCH stays
+    inside : inExchange c ≡ true → mayRead (o .control) ≡ true
+    inside e = go (inExchange (o .control)) refl
+      where
+        go : (t : Bool) → inExchange (o .control) ≡ t → t || after ≡ true
+        go true _ = refl
+        go false l = absurd (subst (Publishes (⊥ × (0 ≡ g .«output_len»)) ⊥ (Spared r)) (q .leaves e l) (q .outputs-come) w h)
+
+    -- and so does the chain
+    linked : isOutputs (c .chain .drawn) ≡ true → mayRead (o .control) ≡ true
+    linked e =
+        or-second (inExchange (o .control)) after
+        (⊎-elim (λ s. ap (λ (x : Chain). isOutputs (x .drawn)) s ∙ e) (λ x. absurd (x .0)) (q .chain-comes))
 
 -- no reply is allowed everywhere
 none-allowed : (c : Control) → Allows c noReply
@@ -79,7 +95,7 @@ module _ (s : State) (g : ReplySteady s) where
 module _ (s : State) (m : List ℕ) (g : ReplySteady s) where
   completed-keeps : (r : Reader) → ReplySteady (completed s m r .state)
   unfolding answered carried replyFor
-  completed-keeps r w h = outcome-served (readBy s r) m (requestBy r) .lawful .draws-within (ap isOutputs w)
+  completed-keeps r w h = outcome-served (readBy s r) m (requestBy r) .draws-within (ap isOutputs w)
 
   stored-keeps : (d : Datum) (r : Reader) (b : ℕ) → ReplySteady (storedAs d s m r b .state)
   stored-keeps datum.Nothing r b = g

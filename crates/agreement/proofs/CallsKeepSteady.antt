@@ -73,7 +73,7 @@ module _ {l : Ledger} (s : Steady l) where
   clear-keeps : (c : Control) → Alike (l .control) c → OutcomeKeeps l (clearOn (busy l) c)
   clear-keeps c e =
       by-test (OutcomeKeeps l) (busy l) _ (clearing c)
-      (λ f. record { order = same (alike (e .phase-same) (e .good-same) (e .diagnosis-same)); noted = λ _. f; diagnosis = e .diagnosis-same })
+      (λ f. record { order = same (alike (e .phase-same) (e .good-same) (e .diagnosis-same) (e .chain-same)); noted = λ _. f; diagnosis = e .diagnosis-same })
       (λ _. enters-keeps _ (e .diagnosis-same) (λ f. no-true f))
 
   ticked-keeps : OutcomeKeeps l (ticked (busy l) (l .control))
@@ -82,8 +82,8 @@ module _ {l : Ledger} (s : Steady l) where
       by-test (OutcomeKeeps l) (not (counts (l .control))) _ _
       (λ _. record { order = s .order; noted = s .noted; diagnosis = refl })
       (λ _. by-test (OutcomeKeeps l) (leb (l .control .watchdog .remaining) 1) _ _
-      (λ _. clear-keeps (raise (withRemaining (l .control) 0) watchdogEvent) (alike refl refl refl))
-      (λ _. record { order = same (alike refl refl refl); noted = s .noted; diagnosis = refl }))
+      (λ _. clear-keeps (raise (withRemaining (l .control) 0) watchdogEvent) (alike refl refl refl refl))
+      (λ _. record { order = same (alike refl refl refl refl); noted = s .noted; diagnosis = refl }))
 
   parameters-keeps : (waits good : Bool) → parametersOpen l ≡ true → OutcomeKeeps l (judgedParameters (l .control) waits good)
   unfolding judgedParameters
@@ -348,9 +348,9 @@ step-steady l (judge-configuration j) s =
     (and-left (configurationOpen l && l .control .flags .«parameters_good») (leb j 1) e)))
 step-steady l events s = s
 step-steady l (acknowledge mask) s =
-    record { order = kept {c = l .control} (alike refl refl refl) (s .order); quiet = s .quiet; noted = s .noted; delaying = s .delaying }
+    record { order = kept {c = l .control} (alike refl refl refl refl) (s .order); quiet = s .quiet; noted = s .noted; delaying = s .delaying }
 step-steady l pending s = s
-step-steady l leave s = carried-steady s (clearOn (busy l) (l .control)) (clear-keeps s (l .control) (alike refl refl refl))
+step-steady l leave s = carried-steady s (clearOn (busy l) (l .control)) (clear-keeps s (l .control) (alike refl refl refl refl))
 
 -- ---- every list
 

@@ -151,8 +151,8 @@ sets-carried Given low n set-deed.Drop base m x y ds u p b h = record { shown = 
 -- ---- the whole
 
 -- the data may be published or received where it stands in fill
-module _ {s : State} {m : List ℕ} {l : Ledger} {o : Outcome} {Given Held Moved Clear : Type 0} {At : ℕ → Type 0} (ds : List ℕ) (a : Agrees s m l)
-    (v : Lawful (s .setup) (s .control) (length ds) Given Held Moved Clear At o)
+module _ {s : State} {m : List ℕ} {l : Ledger} {o : Outcome} {Given Held Asked Clear : Type 0} {At : ℕ → Type 0} (ds : List ℕ) (a : Agrees s m l)
+    (v : Lawful (s .setup) (s .control) (length ds) Given Held Asked Clear At o)
     (outputs-stand : Given → BeginsWith m (outputsAt (s .setup) (fillOf (s .outputs .set .place))) (s .setup .«output_len») ds)
     (withheld : Held → s .outputs .set .withheld ≡ true)
     (parameters-stand : At 61 → BeginsWith m (parametersAt (s .setup) (fillOf (s .parameters .set .place))) (s .setup .«parameter_len») ds)

@@ -1,5 +1,5 @@
--- What the control part and the sets keep by every outcome of the rules: in DATA_EXCH no set is open, an open parameter set is
--- not judged good, no set is longer than its buffers, and the diagnosis counts are in range.
+-- What the control part and the sets keep by every outcome of the rules: where the held outputs may be drawn no set is open, an open parameter
+-- set is not judged good, no set is longer than its buffers, and the diagnosis counts are in range.
 use Prim.Native.Nat.{ℕ}
 use native.Mathlib.Omega.{arith}
 use mathlib.Core.Path.{_≡_, refl, sym, ap, _∙_}
@@ -16,7 +16,7 @@ use Rattle.rules.specs.declared.outcome.SetDeed.{SetDeed}
 use Rattle.rules.specs.declared.outcome.SetDeed.the-variants as set-deed
 use Rattle.rules.specs.declared.outcome.Outcome.{Outcome}
 use Rattle.rules.specs.Phases.{waitPrm}
-use Rattle.rules.proofs.Alike.{Alike, exchange-same}
+use Rattle.rules.proofs.Alike.{Alike, may-read-same}
 use Rattle.rules.proofs.Headed.{To}
 use Rattle.rules.proofs.Served.{Receives, Judges, Served}
 use Rattle.ledger.specs.Lists.{some, Sets, noSets}
@@ -34,8 +34,8 @@ module _ {g : Setup} {p q : Sets} where
   -- another control part
   pub kept : {c d : Control} → Alike c d → InOrder g c p q → InOrder g d p q
   kept s h = record {
-    parameters-closed = λ e. h .parameters-closed (sym (exchange-same s) ∙ e);
-    configuration-closed = λ e. h .configuration-closed (sym (exchange-same s) ∙ e);
+    parameters-closed = λ e. h .parameters-closed (sym (may-read-same s) ∙ e);
+    configuration-closed = λ e. h .configuration-closed (sym (may-read-same s) ∙ e);
     unjudged = λ e. s .good-same ∙ h .unjudged e;
     parameters-fit = h .parameters-fit;
     configuration-fit = h .configuration-fit;

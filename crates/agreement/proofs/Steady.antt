@@ -11,8 +11,8 @@ use Rattle.state.specs.declared.control.Control.{Control}
 use Rattle.state.specs.declared.state.Drawn.the-variants as drawn
 use Rattle.state.specs.declared.state.Reply.{Reply}
 use Rattle.state.specs.declared.state.State.{State}
-use Rattle.rules.specs.Control.{inExchange}
 use Rattle.rules.specs.Diagnosis.{delayed}
+use Rattle.rules.proofs.MayRead.{mayRead}
 use Rattle.ledger.specs.Lists.{some, Sets}
 use Rattle.ledger.specs.Ledger.{Ledger, begun, busy, diagnosisLeaves}
 use Rattle.agreement.proofs.Relation.{Agrees}
@@ -28,9 +28,10 @@ CountIn s n = (6 ≤ n) × (n ≤ s .«diagnosis_len»)
 
 -- the control part and the sets of parameters and configuration, which outcomes of the rules change
 pub record InOrder (g : Setup) (c : Control) (p q : Sets) : Type 0 where
-  -- in DATA_EXCH no set is open
-  pub parameters-closed : inExchange c ≡ true → p .shown ≡ []
-  pub configuration-closed : inExchange c ≡ true → q .shown ≡ []
+  -- where the held outputs may be drawn, in DATA_EXCH or by a repeat, no set is open: only a request opens one, and it replaces or ends the
+  -- chain
+  pub parameters-closed : mayRead c ≡ true → p .shown ≡ []
+  pub configuration-closed : mayRead c ≡ true → q .shown ≡ []
   -- while a parameter set is open none is judged good
   pub unjudged : some (p .shown) ≡ true → c .flags .«parameters_good» ≡ false
   pub parameters-fit : SetsFit (g .«parameter_len») p
@@ -48,9 +49,9 @@ pub record Steady (l : Ledger) : Type 0 where
   pub noted : l .control .noted ≡ true → busy l ≡ true
   pub delaying : delayed (l .control) ≡ true → diagnosisLeaves l ≡ true
 
--- with this control part the reply may be unfinished: a Read_Outputs reply only in DATA_EXCH
+-- with this control part the reply may be unfinished: one of the held outputs only where they may be drawn
 abbrev pub Allows : Control → Reply → Type 0
-Allows c r = r .drawn ≡ drawn.Outputs → left (r .sender) ≡ true → inExchange c ≡ true
+Allows c r = r .drawn ≡ drawn.Outputs → left (r .sender) ≡ true → mayRead c ≡ true
 
 abbrev pub ReplySteady : State → Type 0
 ReplySteady s = Allows (s .control) (s .reply)

@@ -114,9 +114,9 @@ abbrev pub waitingSets : Ledger → Waiting
 waitingSets l = record { parameters = some (l .buffers .parameters .waiting); configuration = some (l .buffers .configuration .waiting) }
 
 -- the events go with what the outcome does
-pub carried-goes : (l : Ledger) {Given Held Moved Clear : Type 0} {At : ℕ → Type 0} (o : Outcome) (ds : List ℕ) → Lawful (l .setup) (l .control) (length ds) Given Held Moved Clear At o
+pub carried-goes : (l : Ledger) {Given Held Asked Clear : Type 0} {At : ℕ → Type 0} (o : Outcome) (ds : List ℕ) → Lawful (l .setup) (l .control) (length ds) Given Held Asked Clear At o
     → EventsAfter (l .control .events) (occupied l) (waitingSets l) o → Goes l false (deedsBy (o .outputs) ds) (carried l o ds)
-carried-goes l {Given} {Held} {Moved} {Clear} {At} o ds w f = (
+carried-goes l {Given} {Held} {Asked} {Clear} {At} o ds w f = (
   f .outputs-raise ∙ ap (λ (t : Bool). eventSet l outputsEvent || t) (sym (publishes-in (o .outputs) ds))
       ∙ kept-or (eventSet l outputsEvent) (publishesIn (deedsBy (o .outputs) ds)),
   λ e. (

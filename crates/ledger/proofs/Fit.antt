@@ -77,9 +77,9 @@ sets-fit Given set-deed.Receive x low high ds w f =
 sets-fit Given set-deed.Advance x low high ds w f = record { shown = f .waiting; waiting = inl refl }
 sets-fit Given set-deed.Drop x low high ds w f = record { shown = inl refl; waiting = inl refl }
 
-lists-fit : {s : Setup} {c : Control} {Given Held Moved Clear : Type 0} {At : ℕ → Type 0} {o : Outcome} (b : Buffers) (ds : List ℕ)
-    → (Held → b .outputs .withheld ≡ true) → ListsFit s b → Lawful s c (length ds) Given Held Moved Clear At o → ListsFit s (onBuffers o s ds b)
-lists-fit {s} {c} {Given} {Held} {Moved} {Clear} {At} {o} b ds h f w = record {
+lists-fit : {s : Setup} {c : Control} {Given Held Asked Clear : Type 0} {At : ℕ → Type 0} {o : Outcome} (b : Buffers) (ds : List ℕ)
+    → (Held → b .outputs .withheld ≡ true) → ListsFit s b → Lawful s c (length ds) Given Held Asked Clear At o → ListsFit s (onBuffers o s ds b)
+lists-fit {s} {c} {Given} {Held} {Asked} {Clear} {At} {o} b ds h f w = record {
   outputs = outputs-fit Given Held Clear (o .outputs) (b .outputs) (s .«output_len») ds h (w .outputs-come) (f .outputs);
   inputs = inputs-fit (o .inputs) (b .inputs) (s .«input_len») (f .inputs);
   parameters = sets-fit (At 61) (o .parameters) (b .parameters) 7 (s .«parameter_len») ds (w .parameters-come) (f .parameters);
@@ -91,8 +91,8 @@ lists-fit {s} {c} {Given} {Held} {Moved} {Clear} {At} {o} b ds h f w = record {
 -- The ledger after an outcome, with another line, settled.
 
 module _ {l : Ledger} (f : Fit l) where
-  carried-fit : {Given Held Moved Clear : Type 0} {At : ℕ → Type 0} {o : Outcome} (ds : List ℕ) → (Held → l .buffers .outputs .withheld ≡ true)
-      → Lawful (l .setup) (l .control) (length ds) Given Held Moved Clear At o → Fit (carried l o ds)
+  carried-fit : {Given Held Asked Clear : Type 0} {At : ℕ → Type 0} {o : Outcome} (ds : List ℕ) → (Held → l .buffers .outputs .withheld ≡ true)
+      → Lawful (l .setup) (l .control) (length ds) Given Held Asked Clear At o → Fit (carried l o ds)
   carried-fit ds h w = record {
     start-takes = f .start-takes;
     lists = lists-fit (l .buffers) ds h (f .lists) w;

@@ -15,11 +15,11 @@ started = fresh (station 1 1 7 1 6 1) (0x20 ∷ [])
 
 -- Set_Prm with this octet 0
 abbrev setPrm : (status fcs : ℕ) → List ℕ
-setPrm status fcs = 0x68 ∷ 0x0C ∷ 0x0C ∷ 0x68 ∷ 0x85 ∷ 0x82 ∷ 0x5D ∷ 0x3D ∷ 0x3E ∷ status ∷ 0x00 ∷ 0x00 ∷ 0x0B ∷ 0x80 ∷ 0xB3 ∷ 0x00 ∷ fcs ∷ 0x16 ∷ []
+setPrm status fcs = 0x68 ∷ 0x0C ∷ 0x0C ∷ 0x68 ∷ 0x85 ∷ 0x82 ∷ 0x4D ∷ 0x3D ∷ 0x3E ∷ status ∷ 0x00 ∷ 0x00 ∷ 0x0B ∷ 0x80 ∷ 0xB3 ∷ 0x00 ∷ fcs ∷ 0x16 ∷ []
 
 -- Chk_Cfg with the configuration that Start was given
 abbrev chkCfg : List ℕ
-chkCfg = 0x68 ∷ 0x06 ∷ 0x06 ∷ 0x68 ∷ 0x85 ∷ 0x82 ∷ 0x5D ∷ 0x3E ∷ 0x3E ∷ 0x20 ∷ 0x00 ∷ 0x16 ∷ []
+chkCfg = 0x68 ∷ 0x06 ∷ 0x06 ∷ 0x68 ∷ 0x85 ∷ 0x82 ∷ 0x4D ∷ 0x3E ∷ 0x3E ∷ 0x20 ∷ 0xF0 ∷ 0x16 ∷ []
 
 -- Global_Control to every station with this octet 0
 abbrev control : (command fcs : ℕ) → List ℕ
@@ -27,7 +27,7 @@ control command fcs = 0x68 ∷ 0x07 ∷ 0x07 ∷ 0x68 ∷ 0xFF ∷ 0x82 ∷ 0x46
 
 -- Data_Exchange with this output
 abbrev exchange : (output fcs : ℕ) → List ℕ
-exchange output fcs = 0x68 ∷ 0x04 ∷ 0x04 ∷ 0x68 ∷ 0x05 ∷ 0x02 ∷ 0x5D ∷ output ∷ fcs ∷ 0x16 ∷ []
+exchange output fcs = 0x68 ∷ 0x04 ∷ 0x04 ∷ 0x68 ∷ 0x05 ∷ 0x02 ∷ 0x4D ∷ output ∷ fcs ∷ 0x16 ∷ []
 
 -- and its reply with this input
 abbrev input : (octet fcs : ℕ) → List ℕ
@@ -61,12 +61,12 @@ entered status fcs =
 -- in sync a Data_Exchange is answered, raises no event 13 and brings nothing to take, and a later one replaces it; sync publishes the
 -- newest, again though octet 0 is the stored one, and unsync does and ends it
 sync-holds-back : Answers started
-    (entered 0xB0 0xCD
+    (entered 0xB0 0xBD
     ++ does gap 0 ∷ hears (control 0x20 0x5F) ∷ does send 256
     ∷ does events 0x0100
-    ∷ does gap 0 ∷ hears (exchange 0x11 0x75) ∷ sends (input 0x00 0x0F) ∷ does send 256
+    ∷ does gap 0 ∷ hears (exchange 0x11 0x65) ∷ sends (input 0x00 0x0F) ∷ does send 256
     ∷ does take 0
-    ∷ does gap 0 ∷ hears (exchange 0x22 0x86) ∷ sends (input 0x00 0x0F) ∷ does send 256
+    ∷ does gap 0 ∷ hears (exchange 0x22 0x76) ∷ sends (input 0x00 0x0F) ∷ does send 256
     ∷ does take 0
     ∷ does events 0x0100
     ∷ does gap 0 ∷ hears (control 0x20 0x5F) ∷ does send 256
@@ -74,39 +74,39 @@ sync-holds-back : Answers started
     ∷ does take 1 ∷ does (read 1 0) 0x22
     ∷ does gap 0 ∷ hears (control 0x20 0x5F) ∷ does send 256
     ∷ does take 0
-    ∷ does gap 0 ∷ hears (exchange 0x33 0x97) ∷ sends (input 0x00 0x0F) ∷ does send 256
+    ∷ does gap 0 ∷ hears (exchange 0x33 0x87) ∷ sends (input 0x00 0x0F) ∷ does send 256
     ∷ does take 0
     ∷ does gap 0 ∷ hears (control 0x10 0x4F) ∷ does send 256
     ∷ does take 1 ∷ does (read 1 0) 0x33
-    ∷ does gap 0 ∷ hears (exchange 0x44 0xA8) ∷ sends (input 0x00 0x0F) ∷ does send 256
+    ∷ does gap 0 ∷ hears (exchange 0x44 0x98) ∷ sends (input 0x00 0x0F) ∷ does send 256
     ∷ does take 1 ∷ does (read 1 0) 0x44 ∷ [])
 unfolding computing
 sync-holds-back = written refl
 
 -- both bits of a pair: the ending one acts
 both-end : Answers started
-    (entered 0xB0 0xCD
+    (entered 0xB0 0xBD
     ++ does gap 0 ∷ hears (control 0x28 0x67) ∷ does send 256
-    ∷ does gap 0 ∷ hears (exchange 0x11 0x75) ∷ sends (input 0x00 0x0F) ∷ does send 256
+    ∷ does gap 0 ∷ hears (exchange 0x11 0x65) ∷ sends (input 0x00 0x0F) ∷ does send 256
     ∷ does gap 0 ∷ hears slaveDiag ∷ sends (diagnosis 0x00 0x34 0xF2) ∷ does send 256
     ∷ does gap 0 ∷ hears (control 0x3C 0x7B) ∷ does send 256
     ∷ does take 1 ∷ does (read 1 0) 0x11
     ∷ does gap 0 ∷ hears slaveDiag ∷ sends (diagnosis 0x00 0x04 0xC2) ∷ does send 256
-    ∷ does gap 0 ∷ hears (exchange 0x22 0x86) ∷ sends (input 0x00 0x0F) ∷ does send 256
+    ∷ does gap 0 ∷ hears (exchange 0x22 0x76) ∷ sends (input 0x00 0x0F) ∷ does send 256
     ∷ does take 1 ∷ does (read 1 0) 0x22 ∷ [])
 unfolding computing
 both-end = written refl
 
 -- clear comes last and empties what is held back; the mode stays
 clear-empties : Answers started
-    (entered 0xA0 0xBD
+    (entered 0xA0 0xAD
     ++ does gap 0 ∷ hears (control 0x20 0x5F) ∷ does send 256
-    ∷ does gap 0 ∷ hears (exchange 0x11 0x75) ∷ sends (input 0x00 0x0F) ∷ does send 256
+    ∷ does gap 0 ∷ hears (exchange 0x11 0x65) ∷ sends (input 0x00 0x0F) ∷ does send 256
     ∷ does gap 0 ∷ hears (control 0x22 0x61) ∷ does send 256
     ∷ does take 2 ∷ does (read 1 0) 0x00
     ∷ does gap 0 ∷ hears (control 0x20 0x5F) ∷ does send 256
     ∷ does take 0
-    ∷ does gap 0 ∷ hears (exchange 0x22 0x86) ∷ sends (input 0x00 0x0F) ∷ does send 256
+    ∷ does gap 0 ∷ hears (exchange 0x22 0x76) ∷ sends (input 0x00 0x0F) ∷ does send 256
     ∷ does gap 0 ∷ hears (control 0x02 0x41) ∷ does send 256
     ∷ does take 2 ∷ does (read 1 0) 0x00
     ∷ does gap 0 ∷ hears (control 0x10 0x4F) ∷ does send 256
@@ -116,25 +116,25 @@ clear-empties = written refl
 
 -- freeze brings new inputs and keeps them, freeze again brings newer ones, and unfreeze does and ends it
 freeze-keeps : Answers started
-    (entered 0x90 0xAD
+    (entered 0x90 0x9D
     ++ does (write 4 0 0x21) 0 ∷ does hand-over 0
     ∷ does gap 0 ∷ hears (control 0x08 0x47) ∷ does send 256
-    ∷ does gap 0 ∷ hears (exchange 0x11 0x75) ∷ sends (input 0x21 0x30) ∷ does send 256
+    ∷ does gap 0 ∷ hears (exchange 0x11 0x65) ∷ sends (input 0x21 0x30) ∷ does send 256
     ∷ does (write 4 0 0x22) 0 ∷ does hand-over 0
-    ∷ does gap 0 ∷ hears (exchange 0x12 0x76) ∷ sends (input 0x21 0x30) ∷ does send 256
+    ∷ does gap 0 ∷ hears (exchange 0x12 0x66) ∷ sends (input 0x21 0x30) ∷ does send 256
     ∷ does gap 0 ∷ hears (control 0x08 0x47) ∷ does send 256
-    ∷ does gap 0 ∷ hears (exchange 0x13 0x77) ∷ sends (input 0x22 0x31) ∷ does send 256
+    ∷ does gap 0 ∷ hears (exchange 0x13 0x67) ∷ sends (input 0x22 0x31) ∷ does send 256
     ∷ does (write 4 0 0x23) 0 ∷ does hand-over 0
-    ∷ does gap 0 ∷ hears (exchange 0x14 0x78) ∷ sends (input 0x22 0x31) ∷ does send 256
+    ∷ does gap 0 ∷ hears (exchange 0x14 0x68) ∷ sends (input 0x22 0x31) ∷ does send 256
     ∷ does gap 0 ∷ hears (control 0x04 0x43) ∷ does send 256
     ∷ does (write 4 0 0x24) 0 ∷ does hand-over 0
-    ∷ does gap 0 ∷ hears (exchange 0x15 0x79) ∷ sends (input 0x24 0x33) ∷ does send 256 ∷ [])
+    ∷ does gap 0 ∷ hears (exchange 0x15 0x69) ∷ sends (input 0x24 0x33) ∷ does send 256 ∷ [])
 unfolding computing
 freeze-keeps = written refl
 
 -- unfreeze brings new inputs also where no freeze was on
 unfreeze-brings : Answers started
-    (entered 0x90 0xAD
+    (entered 0x90 0x9D
     ++ does (write 4 0 0x21) 0 ∷ does hand-over 0
     ∷ does gap 0 ∷ hears (control 0x04 0x43) ∷ does send 256
     ∷ does (write 4 0 0x22) 0 ∷ does hand-over 0
@@ -144,11 +144,11 @@ unfreeze-brings = written refl
 
 -- the bits of a pair that Set_Prm did not allow are ignored, but for being stored
 not-allowed : Answers started
-    (entered 0x80 0x9D
+    (entered 0x80 0x8D
     ++ does gap 0 ∷ hears (control 0x28 0x67) ∷ does send 256
     ∷ does events 0x0100
     ∷ does (write 4 0 0x21) 0 ∷ does hand-over 0
-    ∷ does gap 0 ∷ hears (exchange 0x11 0x75) ∷ sends (input 0x21 0x30) ∷ does send 256
+    ∷ does gap 0 ∷ hears (exchange 0x11 0x65) ∷ sends (input 0x21 0x30) ∷ does send 256
     ∷ does take 1 ∷ does (read 1 0) 0x11
     ∷ does gap 0 ∷ hears slaveDiag ∷ sends (diagnosis 0x00 0x04 0xC2) ∷ does send 256 ∷ [])
 unfolding computing
@@ -156,17 +156,17 @@ not-allowed = written refl
 
 -- Chk_Cfg out of DATA_EXCH ends both modes and empties what is held back; what is allowed stays
 configuration-ends : Answers started
-    (entered 0xB0 0xCD
+    (entered 0xB0 0xBD
     ++ does gap 0 ∷ hears (control 0x28 0x67) ∷ does send 256
-    ∷ does gap 0 ∷ hears (exchange 0x11 0x75) ∷ sends (input 0x00 0x0F) ∷ does send 256
+    ∷ does gap 0 ∷ hears (exchange 0x11 0x65) ∷ sends (input 0x00 0x0F) ∷ does send 256
     ∷ does gap 0 ∷ hears chkCfg ∷ sends (0xE5 ∷ []) ∷ does send 256
     ∷ does take 2 ∷ does (read 1 0) 0x00
     ∷ does gap 0 ∷ hears slaveDiag ∷ sends (diagnosis 0x02 0x04 0xC4) ∷ does send 256
     ∷ does (judge-configuration 1) 0
-    ∷ does gap 0 ∷ hears (exchange 0x22 0x86) ∷ sends (input 0x00 0x0F) ∷ does send 256
+    ∷ does gap 0 ∷ hears (exchange 0x22 0x76) ∷ sends (input 0x00 0x0F) ∷ does send 256
     ∷ does take 1 ∷ does (read 1 0) 0x22
     ∷ does gap 0 ∷ hears (control 0x20 0x5F) ∷ does send 256
-    ∷ does gap 0 ∷ hears (exchange 0x33 0x97) ∷ sends (input 0x00 0x0F) ∷ does send 256
+    ∷ does gap 0 ∷ hears (exchange 0x33 0x87) ∷ sends (input 0x00 0x0F) ∷ does send 256
     ∷ does take 0
     ∷ does gap 0 ∷ hears slaveDiag ∷ sends (diagnosis 0x00 0x24 0xE2) ∷ does send 256 ∷ [])
 unfolding computing
@@ -174,17 +174,17 @@ configuration-ends = written refl
 
 -- so does WAIT_PRM, and the next good Set_Prm allows anew
 leaving-ends : Answers started
-    (entered 0xB0 0xCD
+    (entered 0xB0 0xBD
     ++ does gap 0 ∷ hears (control 0x28 0x67) ∷ does send 256
-    ∷ does gap 0 ∷ hears (exchange 0x11 0x75) ∷ sends (input 0x00 0x0F) ∷ does send 256
+    ∷ does gap 0 ∷ hears (exchange 0x11 0x65) ∷ sends (input 0x00 0x0F) ∷ does send 256
     ∷ does leave 0
     ∷ does take 2 ∷ does (read 1 0) 0x00
-    ∷ entered 0x80 0x9D
+    ∷ entered 0x80 0x8D
     ++ does gap 0 ∷ hears slaveDiag ∷ sends (diagnosis 0x00 0x04 0xC2) ∷ does send 256
-    ∷ does gap 0 ∷ hears (exchange 0x22 0x86) ∷ sends (input 0x00 0x0F) ∷ does send 256
+    ∷ does gap 0 ∷ hears (exchange 0x22 0x76) ∷ sends (input 0x00 0x0F) ∷ does send 256
     ∷ does take 1 ∷ does (read 1 0) 0x22
     ∷ does gap 0 ∷ hears (control 0x20 0x5F) ∷ does send 256
-    ∷ does gap 0 ∷ hears (exchange 0x33 0x97) ∷ sends (input 0x00 0x0F) ∷ does send 256
+    ∷ does gap 0 ∷ hears (exchange 0x33 0x87) ∷ sends (input 0x00 0x0F) ∷ does send 256
     ∷ does take 1 ∷ does (read 1 0) 0x33 ∷ [])
 unfolding computing
 leaving-ends = written refl

@@ -1,4 +1,5 @@
--- Document 01's bench examples a to j, as one list with a gap before each: address 5, ident 80B3, master 2, one output, one input.
+-- Document 01's bench examples a to j, as one list with a gap before each: address 5, ident 80B3, master 2, one output, one input. Their FC
+-- does not alternate, so a, whose FC has bit 4 clear, is sent ahead of each further telegram and ends the chain (document 02, Req 04).
 use Prim.Native.Nat.{ℕ}
 use mathlib.Core.List.{List, [], _∷_, _++_}
 use lib.ListN.{replicate}
@@ -35,13 +36,17 @@ c =
     ∷ does events 0x0800 ∷ does tick 0 ∷ does tick 0 ∷ does tick 0 ∷ does tick 0 ∷ does tick 0 ∷ does tick 0 ∷ does tick 0 ∷ does tick 0 ∷ does tick 0
     ∷ does events 0x0800 ∷ does tick 0 ∷ does events 0x2008 ∷ does (acknowledge 0xFFFF) 0 ∷ []
 
--- into the exchange, without a watchdog, with the input 21
-abbrev pub enter : List Part
-enter =
+-- on the way into the exchange: Set_Prm without a watchdog
+abbrev pub parametrize : List Part
+parametrize =
     does gap 0
     ∷ hears (0x68 ∷ 0x0C ∷ 0x0C ∷ 0x68 ∷ 0x85 ∷ 0x82 ∷ 0x5D ∷ 0x3D ∷ 0x3E ∷ 0x80 ∷ 0x01 ∷ 0x0A ∷ 0x0B ∷ 0x80 ∷ 0xB3 ∷ 0x00 ∷ 0xA8 ∷ 0x16 ∷ [])
-    ∷ sends (0xE5 ∷ []) ∷ does send 256
-    ∷ does gap 0 ∷ hears (0x68 ∷ 0x06 ∷ 0x06 ∷ 0x68 ∷ 0x85 ∷ 0x82 ∷ 0x5D ∷ 0x3E ∷ 0x3E ∷ 0x20 ∷ 0x00 ∷ 0x16 ∷ [])
+    ∷ sends (0xE5 ∷ []) ∷ does send 256 ∷ []
+
+-- and Chk_Cfg; both judged good, and the input is 21
+abbrev pub configure : List Part
+configure =
+    does gap 0 ∷ hears (0x68 ∷ 0x06 ∷ 0x06 ∷ 0x68 ∷ 0x85 ∷ 0x82 ∷ 0x5D ∷ 0x3E ∷ 0x3E ∷ 0x20 ∷ 0x00 ∷ 0x16 ∷ [])
     ∷ sends (0xE5 ∷ []) ∷ does send 256
     ∷ does (judge-parameters 1) 0 ∷ does (judge-configuration 1) 0 ∷ does (write 4 0 0x21) 0 ∷ does hand-over 0 ∷ []
 
@@ -87,9 +92,9 @@ benchSetup = station 1 1 7 1 6 1
 abbrev pub benchSlice : List ℕ
 benchSlice = 0x20 ∷ []
 
--- all of them, one behind the other
+-- all of them, one behind the other, with a ahead of each
 abbrev pub bench : List Part
-bench = a ++ b ++ f ++ c ++ enter ++ d ++ e ++ g ++ h ++ i ++ j
+bench = a ++ b ++ a ++ f ++ a ++ c ++ a ++ parametrize ++ a ++ configure ++ a ++ d ++ a ++ e ++ a ++ g ++ a ++ h ++ a ++ i ++ a ++ j
 
 -- the ledger answers so
 abbrev pub BenchAnswered : Type 0

@@ -13,6 +13,7 @@ use Rattle.telegram.proofs.Run.{no-true}
 use Rattle.state.specs.declared.setup.Setup.{Setup}
 use Rattle.state.specs.declared.control.Flags.{Flags}
 use Rattle.state.specs.declared.control.Modes.{Modes}
+use Rattle.state.specs.declared.control.Chain.{Chain}
 use Rattle.state.specs.declared.control.Control.{Control}
 use Rattle.state.specs.declared.state.Drawn.{Drawn}
 use Rattle.state.specs.declared.state.Drawn.the-variants as drawn
@@ -34,12 +35,14 @@ use Rattle.rules.specs.declared.outcome.Outcome.{Outcome}
 use Rattle.rules.specs.Control.{bit, inExchange, owns, withFlags, withEvents, withModes, withNoted, raise, clear}
 use Rattle.rules.specs.Modes.{exchangeOutputs, commandsSync, commandedModes, commandedOutputs, commandedInputs, announced}
 use Rattle.rules.specs.Phases.{drawing, enteringWaitPrm, dataExch}
-use Rattle.rules.specs.Requests.{masterOf, acts, toStation, refilled}
-use Rattle.rules.specs.Services.{otherOwns, otherIdent, wantsWatchdog, badFactors, goodPrm, setPrm, goodCfg, chkCfg, exchanges, dataExchange, slaveDiag, controls, storing, globalControl, serve}
+use Rattle.rules.specs.Requests.{masterOf, acts, toStation, refilled, serviceOf}
+use Rattle.rules.specs.Retries.{isRepeat, onChain, chainAfter, repeated}
+use Rattle.rules.specs.Services.{otherOwns, otherIdent, wantsWatchdog, badFactors, goodPrm, setPrm, goodCfg, chkCfg, exchanges, dataExchange, slaveDiag, controls, storing, globalControl, serve, outcomeBy}
 use Rattle.rules.specs.Line.{clearOn, clearNoted, counts, withRemaining, ticked}
 use Rattle.rules.specs.User.{changingSets, judgedParameters, judgedConfiguration}
+use Rattle.rules.proofs.MayRead.{isOutputs}
 use Rattle.rules.proofs.Headed.{Plain, To, Headed}
-use Rattle.rules.proofs.Alike.{Alike, alike}
+use Rattle.rules.proofs.Alike.{Alike, alike, refilled-alike}
 
 -- events 13, 11 and 10 are as they were
 pub record Untouched (e f : Events) : Type 0 where
@@ -75,18 +78,6 @@ akin a e m f = record {
   };
 }
 
--- the held outputs are drawn
-abbrev pub isOutputs : Drawn → Bool
-isOutputs drawn.Nothing = false
-isOutputs drawn.Acknowledge = false
-isOutputs drawn.Status = false
-isOutputs drawn.Rejected = false
-isOutputs drawn.Exchange = false
-isOutputs drawn.Inputs = false
-isOutputs drawn.Outputs = true
-isOutputs drawn.Configuration = false
-isOutputs drawn.Diagnosis = false
-
 -- data is published or held back, what is held back is published, and zeros are published only where that may be
 abbrev pub Publishes : (Given Held Clear : Type 0) → OutputsDeed → Type 0
 Publishes Given Held Clear outputs-deed.Keep = Unit
@@ -120,21 +111,21 @@ module _ (P : Outcome → Type 0) (c : Control)
 
   -- the control part stays
   same : Akin c c
-  same = akin (alike refl refl refl) refl refl refl
+  same = akin (alike refl refl refl refl) refl refl refl
 
   -- with nothing but such a reply
   stays : (d : Drawn) → isOutputs d ≡ false → P (drawing c d)
   stays d = draws c d same
 
   -- a clear, which is carried out on an idle line
-  module _ (busy : Bool) (clears : busy ≡ false → (k : Control) → k .diagnosis ≡ c .diagnosis → P (enteringWaitPrm k drawn.Nothing)) where
+  module _ (busy : Bool) (clears : busy ≡ false → (k : Control) → k .diagnosis ≡ c .diagnosis → k .chain ≡ c .chain → P (enteringWaitPrm k drawn.Nothing)) where
     -- on a busy line it is noted
     clear-akin : (k : Control) → Akin c k → P (clearOn busy k)
     clear-akin k s =
         let a = s .alike-is in
         let n : Akin c (withNoted k true) =
-        record { alike-is = alike (a .phase-same) (a .good-same) (a .diagnosis-same); owner-same = s .owner-same; modes-same = s .modes-same; untouched = s .untouched } in
-        by-test P busy _ _ (λ _. draws (withNoted k true) drawn.Nothing n refl) (λ e. clears e _ (a .diagnosis-same))
+        record { alike-is = alike (a .phase-same) (a .good-same) (a .diagnosis-same) (a .chain-same); owner-same = s .owner-same; modes-same = s .modes-same; untouched = s .untouched } in
+        by-test P busy _ _ (λ _. draws (withNoted k true) drawn.Nothing n refl) (λ e. clears e _ (a .diagnosis-same) (a .chain-same))
 
     -- leave master
     pub clear-cases : P (clearOn busy c)
@@ -143,7 +134,7 @@ module _ (P : Outcome → Type 0) (c : Control)
     -- a noted clear
     pub noted-cases : P (clearNoted busy c)
     noted-cases =
-        by-test P (c .noted && not busy) _ _ (λ e. clears (not-true busy (and-right (c .noted) (not busy) e)) _ refl) (λ _. stays drawn.Nothing refl)
+        by-test P (c .noted && not busy) _ _ (λ e. clears (not-true busy (and-right (c .noted) (not busy) e)) _ refl refl) (λ _. stays drawn.Nothing refl)
 
     -- a Tick
     pub ticked-cases : P (ticked busy c)
@@ -153,26 +144,26 @@ module _ (P : Outcome → Type 0) (c : Control)
         (either P (leb (c .watchdog .remaining) 1)
         (clear-akin (raise (withRemaining c 0) watchdogEvent)
         (record {
-          alike-is = alike refl refl refl;
+          alike-is = alike refl refl refl refl;
           owner-same = refl;
           modes-same = refl;
           untouched = another-raised (c .events) watchdogEvent (λ q. omega arith) (λ q. omega arith) (λ q. omega arith);
         }))
-        (draws _ drawn.Nothing (akin (alike refl refl refl) refl refl refl) refl))
+        (draws _ drawn.Nothing (akin (alike refl refl refl refl) refl refl refl) refl))
 
   -- the others, which may enter WAIT_PRM at any time
-  module _ (resets : (k : Control) (d : Drawn) → k .diagnosis ≡ c .diagnosis → isOutputs d ≡ false → P (enteringWaitPrm k d)) where
+  module _ (resets : (k : Control) (d : Drawn) → k .diagnosis ≡ c .diagnosis → k .chain ≡ c .chain → isOutputs d ≡ false → P (enteringWaitPrm k d)) where
     -- the judgement of parameters: a newer set that waits is shown instead, or the set is closed
     pub parameters-cases : (waits good : Bool) → (waits ≡ true → P (changingSets c set-deed.Advance set-deed.Keep))
         → ((f : Flags) → P (changingSets (withFlags (clear c parametersEvent) f) set-deed.Drop set-deed.Keep)) → P (judgedParameters c waits good)
     unfolding judgedParameters
-    parameters-cases waits good f g = by-test P waits _ _ f (λ _. either P good (g _) (resets _ drawn.Nothing refl refl))
+    parameters-cases waits good f g = by-test P waits _ _ f (λ _. either P good (g _) (resets _ drawn.Nothing refl refl refl))
 
     -- and of configuration
     pub configuration-cases : (waits good : Bool) → (waits ≡ true → P (changingSets c set-deed.Keep set-deed.Advance))
         → P (changingSets (dataExch (clear c configurationEvent)) set-deed.Keep set-deed.Drop) → P (judgedConfiguration c waits good)
     unfolding judgedConfiguration
-    configuration-cases waits good f g = by-test P waits _ _ f (λ _. either P good g (resets _ drawn.Nothing refl refl))
+    configuration-cases waits good f g = by-test P waits _ _ f (λ _. either P good g (resets _ drawn.Nothing refl refl refl))
 
     -- the services. A set is received, or in DATA_EXCH something is done to the modes, the outputs and the inputs.
     module _ (g : Setup) (r : Request) (opened : Occupied)
@@ -186,10 +177,10 @@ module _ (P : Outcome → Type 0) (c : Control)
       unfolding setPrm
       setPrm-cases p h =
           either P (otherOwns c (masterOf r)) (stays drawn.Rejected refl)
-          (by-test P (not (within 7 (r .count) (g .«parameter_len»))) _ _ (λ _. resets _ drawn.Acknowledge refl refl)
-          (λ w. either P (bit (p .status) 6) (resets c drawn.Acknowledge refl refl)
+          (by-test P (not (within 7 (r .count) (g .«parameter_len»))) _ _ (λ _. resets _ drawn.Acknowledge refl refl refl)
+          (λ w. either P (bit (p .status) 6) (resets c drawn.Acknowledge refl refl refl)
           (either P (not (bit (p .status) 7)) (stays drawn.Acknowledge refl)
-          (either P (otherIdent g p || (wantsWatchdog p && badFactors p)) (resets _ drawn.Acknowledge refl refl)
+          (either P (otherIdent g p || (wantsWatchdog p && badFactors p)) (resets _ drawn.Acknowledge refl refl refl)
           (receives-prm p h (within-true 7 (r .count) (g .«parameter_len») (not-false _ w)))))))
 
       -- Chk_Cfg
@@ -197,7 +188,7 @@ module _ (P : Outcome → Type 0) (c : Control)
       unfolding chkCfg
       chkCfg-cases h =
           either P (not (owns c (masterOf r))) (stays drawn.Rejected refl)
-          (by-test P (not (within 1 (r .count) (g .«configuration_len»))) _ _ (λ _. resets _ drawn.Acknowledge refl refl)
+          (by-test P (not (within 1 (r .count) (g .«configuration_len»))) _ _ (λ _. resets _ drawn.Acknowledge refl refl refl)
           (λ w. receives-cfg h (within-true 1 (r .count) (g .«configuration_len») (not-false _ w))))
 
       -- Data_Exchange
@@ -205,7 +196,7 @@ module _ (P : Outcome → Type 0) (c : Control)
       unfolding dataExchange
       dataExchange-cases h =
           by-test P (not (exchanges c r)) _ _ (λ _. stays drawn.Rejected refl)
-          (λ e. by-test P (not (eqb (r .count) (g .«output_len»))) _ _ (λ _. resets _ drawn.Rejected refl refl)
+          (λ e. by-test P (not (eqb (r .count) (g .«output_len»))) _ _ (λ _. resets _ drawn.Rejected refl refl refl)
           (λ w. moves c (c .modes) _ _ drawn.Exchange same refl
           (either (Publishes (Plain r × (r .count ≡ g .«output_len»)) (opened .outputs ≡ true) Unit) (c .modes .sync)
           (h, eqb-true _ _ (not-false _ w)) (h, eqb-true _ _ (not-false _ w)))
@@ -215,7 +206,7 @@ module _ (P : Outcome → Type 0) (c : Control)
       slaveDiag-cases : P (slaveDiag c r)
       unfolding slaveDiag
       slaveDiag-cases =
-          either P (owns c (masterOf r) && not (c .flags .«stat_diag»)) (draws _ drawn.Diagnosis (akin (alike refl refl refl) refl refl refl) refl)
+          either P (owns c (masterOf r) && not (c .flags .«stat_diag»)) (draws _ drawn.Diagnosis (akin (alike refl refl refl refl) refl refl refl) refl)
           (stays drawn.Diagnosis refl)
 
       -- Global_Control
@@ -231,9 +222,9 @@ module _ (P : Outcome → Type 0) (c : Control)
         where
           stored : Akin c (storing c first)
           stored =
-              either (Akin c) (eqb first (c .stored)) (akin (alike refl refl refl) refl refl refl)
+              either (Akin c) (eqb first (c .stored)) (akin (alike refl refl refl refl) refl refl refl)
               (record {
-                alike-is = alike refl refl refl;
+                alike-is = alike refl refl refl refl;
                 owner-same = refl;
                 modes-same = refl;
                 untouched = another-raised (c .events) controlEvent (λ q. omega arith) (λ q. omega arith) (λ q. omega arith);
@@ -271,3 +262,15 @@ unfolding refilled
 refilled-same g c r =
     either (λ (k : Control). (k .owner ≡ c .owner) × (k .events ≡ c .events) × (k .modes ≡ c .modes)) (acts g r && toStation g r && owns c (masterOf r))
     (refl, refl, refl) (refl, refl, refl)
+
+-- so it changes nothing that counts
+pub refilled-akin : (g : Setup) (c : Control) (r : Request) → Akin c (refilled g c r)
+refilled-akin g c r = let w = refilled-same g c r in akin (refilled-alike g c r) (w .0) (w .2) (w .1)
+
+-- a telegram: what holds of a reply alone and of every service, whatever the chain is, holds of it
+pub telegram-cases : (P : Outcome → Type 0) → ((o : Outcome) (h : Chain) → P o → P (onChain o h))
+    → (g : Setup) (c : Control) (opened : Occupied) (r : Request) (octets : Data)
+    → P (repeated g c r) → P (serve (serviceOf g r) g (refilled g c r) opened r octets) → P (outcomeBy g c opened r octets)
+telegram-cases P relinks g c opened r octets x y =
+    let o = serve (serviceOf g r) g (refilled g c r) opened r octets in
+    either P (isRepeat g c r) x (relinks o (chainAfter g (o .control .chain) r (o .drawn)) y)

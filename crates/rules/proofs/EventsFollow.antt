@@ -9,6 +9,7 @@ use Rattle.buffers.proofs.Word.{raised-same, raised-other, cleared-same, cleare
 use Rattle.state.specs.declared.setup.Setup.{Setup}
 use Rattle.state.specs.declared.control.Flags.{Flags}
 use Rattle.state.specs.declared.control.Modes.{Modes}
+use Rattle.state.specs.declared.control.Chain.{Chain}
 use Rattle.state.specs.declared.control.Control.{Control}
 use Rattle.state.specs.declared.state.Drawn.{Drawn}
 use Rattle.state.specs.declared.state.Drawn.the-variants.{Nothing}
@@ -26,11 +27,12 @@ use Rattle.rules.specs.Control.{inExchange, withFlags, clear}
 use Rattle.rules.specs.Modes.{announced}
 use Rattle.rules.specs.Phases.{drawing, leftExchange, left, waitPrm, enteringWaitPrm, waitCfg, dataExch, zerosIfLeft}
 use Rattle.rules.specs.Requests.{refilled, serviceOf}
-use Rattle.rules.specs.Services.{showing, parametrized, goodPrm, goodCfg, outcomeBy}
+use Rattle.rules.specs.Retries.{onChain}
+use Rattle.rules.specs.Services.{showing, parametrized, goodPrm, goodCfg, serve, outcomeBy}
 use Rattle.rules.specs.Line.{clearOn, clearNoted, ticked}
 use Rattle.rules.specs.User.{changingSets, judgedParameters, judgedConfiguration}
 use Rattle.rules.proofs.Headed.{headed}
-use Rattle.rules.proofs.ByCases.{isOutputs, Akin, moving, clear-cases, noted-cases, ticked-cases, parameters-cases, configuration-cases, serve-cases, refilled-same}
+use Rattle.rules.proofs.ByCases.{Akin, moving, clear-cases, noted-cases, ticked-cases, parameters-cases, configuration-cases, serve-cases, refilled-same, refilled-akin, telegram-cases}
 
 -- event n is set
 abbrev on : Events → ℕ → Bool
@@ -124,8 +126,8 @@ module _ (c : Control) where
 
 module _ (opened : Occupied) (waiting : Waiting) where
   -- nothing but a reply
-  replies-follow : (c k : Control) (d : Drawn) → Akin c k → (isOutputs d ≡ true → inExchange k ≡ true) → EventsAfter (c .events) opened waiting (drawing k d)
-  replies-follow c k d s _ = record {
+  replies-follow : (c k : Control) (d : Drawn) → Akin c k → EventsAfter (c .events) opened waiting (drawing k d)
+  replies-follow c k d s = record {
     outputs-raise = s .untouched .outputs-same ∙ sym (or-false (on (c .events) outputsEvent));
     parameters-show = s .untouched .parameters-same;
     configuration-show = s .untouched .configuration-same;
@@ -231,36 +233,47 @@ module _ (opened : Occupied) (waiting : Waiting) where
     -- leave master
     pub clear-follows : (busy : Bool) → EventsAfter (c .events) opened waiting (clearOn busy c)
     unfolding Here
-    clear-follows busy = clear-cases Here c (replies-follow c) busy (λ _ k _. resets-follow (c .events) k Nothing)
+    clear-follows busy = clear-cases Here c (λ k d s _. replies-follow c k d s) busy (λ _ k _ _. resets-follow (c .events) k Nothing)
 
     -- a noted clear
     pub noted-follows : (busy : Bool) → EventsAfter (c .events) opened waiting (clearNoted busy c)
     unfolding Here
-    noted-follows busy = noted-cases Here c (replies-follow c) busy (λ _ k _. resets-follow (c .events) k Nothing)
+    noted-follows busy = noted-cases Here c (λ k d s _. replies-follow c k d s) busy (λ _ k _ _. resets-follow (c .events) k Nothing)
 
     -- a Tick
     pub ticked-follows : (busy : Bool) → EventsAfter (c .events) opened waiting (ticked busy c)
     unfolding Here
-    ticked-follows busy = ticked-cases Here c (replies-follow c) busy (λ _ k _. resets-follow (c .events) k Nothing)
+    ticked-follows busy = ticked-cases Here c (λ k d s _. replies-follow c k d s) busy (λ _ k _ _. resets-follow (c .events) k Nothing)
 
     -- the judgement of parameters, where a set is open
     pub parameters-follow : (good : Bool) → opened .parameters ≡ true → EventsAfter (c .events) opened waiting (judgedParameters c (waiting .parameters) good)
     unfolding Here
     parameters-follow good h =
-        parameters-cases Here c (replies-follow c) (λ k d _ _. resets-follow (c .events) k d) (waiting .parameters) good
+        parameters-cases Here c (λ k d s _. replies-follow c k d s) (λ k d _ _ _. resets-follow (c .events) k d) (waiting .parameters) good
         (λ w. moves-follow set-deed.Advance set-deed.Keep (h, w, refl) refl) prm-closed
 
     -- and of configuration
     pub configuration-follows : (good : Bool) → opened .configuration ≡ true → EventsAfter (c .events) opened waiting (judgedConfiguration c (waiting .configuration) good)
     unfolding Here
     configuration-follows good h =
-        configuration-cases Here c (replies-follow c) (λ k d _ _. resets-follow (c .events) k d) (waiting .configuration) good
+        configuration-cases Here c (λ k d s _. replies-follow c k d s) (λ k d _ _ _. resets-follow (c .events) k d) (waiting .configuration) good
         (λ w. moves-follow set-deed.Keep set-deed.Advance refl (h, w, refl)) cfg-closed
+
+  -- each service
+  serve-follows : (g : Setup) (c : Control) (r : Request) (octets : Data) → EventsAfter (c .events) opened waiting (serve (serviceOf g r) g c opened r octets)
+  serve-follows g c r octets =
+      serve-cases (λ o. EventsAfter (c .events) opened waiting o) c (λ k d s _. replies-follow c k d s) (λ n d _ _ _. resets-follow (c .events) n d) g r opened
+      (λ p _ _. prm-follows c _ p) (λ _ _. cfg-follows c) (λ n m u v d s _ _ _ _. moving-follows c n m u v d s) (serviceOf g r) octets (headed r g)
+
+  -- the chain does not matter
+  relinks-follow : (e : Events) (o : Outcome) (h : Chain) → EventsAfter e opened waiting o → EventsAfter e opened waiting (onChain o h)
+  relinks-follow e o h w =
+      record { outputs-raise = w .outputs-raise; parameters-show = w .parameters-show; configuration-show = w .configuration-show }
 
   -- a telegram
   pub telegram-follows : (g : Setup) (c : Control) (r : Request) (octets : Data) → EventsAfter (c .events) opened waiting (outcomeBy g c opened r octets)
   telegram-follows g c r octets =
       let k = refilled g c r in
-      subst (λ (e : Events). EventsAfter e opened waiting (outcomeBy g c opened r octets)) (refilled-same g c r .1)
-      (serve-cases (λ o. EventsAfter (k .events) opened waiting o) k (replies-follow k) (λ n d _ _. resets-follow (k .events) n d) g r opened
-      (λ p _ _. prm-follows k _ p) (λ _ _. cfg-follows k) (λ n m u v d s _ _ _ _. moving-follows k n m u v d s) (serviceOf g r) octets (headed r g))
+      telegram-cases (λ o. EventsAfter (c .events) opened waiting o) (relinks-follow (c .events)) g c opened r octets
+      (replies-follow c k (c .chain .drawn) (refilled-akin g c r))
+      (subst (λ (e : Events). EventsAfter e opened waiting (serve (serviceOf g r) g k opened r octets)) (refilled-same g c r .1) (serve-follows g k r octets))

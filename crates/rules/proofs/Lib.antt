@@ -1,7 +1,9 @@
 pub mod Points
+pub mod MayRead
 pub mod Alike
 pub mod Headed
 pub mod ByCases
+mod Unasked
 pub mod Served
 pub mod EventsFollow
 pub mod Owner

@@ -19,6 +19,7 @@ use Rattle.rules.specs.declared.request.Service.{Service}
 use Rattle.rules.specs.declared.request.Service.the-variants.{Nothing, Status, Reject, GlobalControl, DataExchange, SetPrm, ChkCfg, SlaveDiag, GetCfg, ReadInputs, ReadOutputs}
 use Rattle.rules.specs.Phases.{drawing}
 use Rattle.rules.specs.Requests.{refilled, serviceOf}
+use Rattle.rules.specs.Retries.{isRepeat, chained, repeated}
 use Rattle.rules.specs.Services.{setPrm, exchanges, controls, obeyed, globalControl, serve, outcomeBy}
 use Rattle.rules.proofs.Headed.{To, Headed, headed}
 
@@ -69,4 +70,6 @@ pub same-outcome : (g : Setup) (c : Control) (b : Occupied) (r : Request) (x y :
     → (To r 61 → Within 7 (r .count) (g .«parameter_len») → x .prm ≡ y .prm)
     → (r .count ≡ 2 → (x .first ≡ y .first) × (x .second ≡ y .second))
     → outcomeBy g c b r x ≡ outcomeBy g c b r y
-same-outcome g c b r x y e f = by-service g (refilled g c r) r b x y e f (serviceOf g r) (headed r g)
+same-outcome g c b r x y e f =
+    let served = by-service g (refilled g c r) r b x y e f (serviceOf g r) (headed r g) in
+    λ i. cond (isRepeat g c r) (repeated g c r) (chained g r (served i))

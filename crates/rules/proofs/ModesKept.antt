@@ -23,8 +23,8 @@ use Rattle.rules.specs.Services.{parametrized, serve, outcomeBy}
 use Rattle.rules.specs.Line.{clearOn, clearNoted, ticked}
 use Rattle.rules.specs.User.{judgedParameters, judgedConfiguration}
 use Rattle.rules.proofs.Headed.{headed}
-use Rattle.rules.proofs.Alike.{Alike, exchange-same, refilled-alike}
-use Rattle.rules.proofs.ByCases.{Akin, Moved, exchanged, commanded, clear-cases, noted-cases, ticked-cases, parameters-cases, configuration-cases, serve-cases, refilled-same}
+use Rattle.rules.proofs.Alike.{Alike, exchange-same}
+use Rattle.rules.proofs.ByCases.{Akin, Moved, exchanged, commanded, clear-cases, noted-cases, ticked-cases, parameters-cases, configuration-cases, serve-cases, refilled-akin, telegram-cases}
 
 -- what holds of the modes. inside: in DATA_EXCH, withheld: something is held back
 pub record Kept (inside : Bool) (m : Modes) (withheld : Bool) : Type 0 where
@@ -114,26 +114,26 @@ module _ (c : Control) {withheld : Bool} (h : Kept (inExchange c) (c .modes) wit
 
   -- leave master
   pub clear-kept : (busy : Bool) → KeptBy withheld (clearOn busy c)
-  clear-kept busy = clear-cases (KeptBy withheld) c (λ k d s _. stays k s) busy (λ _ k _. resets withheld k Nothing)
+  clear-kept busy = clear-cases (KeptBy withheld) c (λ k d s _. stays k s) busy (λ _ k _ _. resets withheld k Nothing)
 
   -- a noted clear
   pub noted-kept : (busy : Bool) → KeptBy withheld (clearNoted busy c)
-  noted-kept busy = noted-cases (KeptBy withheld) c (λ k d s _. stays k s) busy (λ _ k _. resets withheld k Nothing)
+  noted-kept busy = noted-cases (KeptBy withheld) c (λ k d s _. stays k s) busy (λ _ k _ _. resets withheld k Nothing)
 
   -- a Tick
   pub ticked-kept : (busy : Bool) → KeptBy withheld (ticked busy c)
-  ticked-kept busy = ticked-cases (KeptBy withheld) c (λ k d s _. stays k s) busy (λ _ k _. resets withheld k Nothing)
+  ticked-kept busy = ticked-cases (KeptBy withheld) c (λ k d s _. stays k s) busy (λ _ k _ _. resets withheld k Nothing)
 
   -- the judgement of parameters
   pub parameters-kept : (waits good : Bool) → KeptBy withheld (judgedParameters c waits good)
   parameters-kept waits good =
-      parameters-cases (KeptBy withheld) c (λ k d s _. stays k s) (λ k d _ _. resets withheld k d) waits good (λ _. h) (λ _. h)
+      parameters-cases (KeptBy withheld) c (λ k d s _. stays k s) (λ k d _ _ _. resets withheld k d) waits good (λ _. h) (λ _. h)
 
   -- and of configuration: DATA_EXCH entered
   pub configuration-kept : (waits good : Bool) → KeptBy withheld (judgedConfiguration c waits good)
   unfolding dataExch
   configuration-kept waits good =
-      configuration-cases (KeptBy withheld) c (λ k d s _. stays k s) (λ k d _ _. resets withheld k d) waits good (λ _. h)
+      configuration-cases (KeptBy withheld) c (λ k d s _. stays k s) (λ k d _ _ _. resets withheld k d) waits good (λ _. h)
       (record {
         sync-ends = λ e. no-true (sym e);
         freeze-ends = λ e. no-true (sym e);
@@ -158,10 +158,12 @@ unfolding parametrized
 serve-kept g c b r octets h =
     let w = b .outputs in
     let x = wait-cfg-off c h in
-    serve-cases (KeptBy w) c (λ k d s _. stays c h k s) (λ k d _ _. resets w k d) g r b (λ _ _ _. off (x .0) (x .1) (x .2)) (λ _ _. off (x .0) (x .1) (x .2))
+    serve-cases (KeptBy w) c (λ k d s _. stays c h k s) (λ k d _ _ _. resets w k d) g r b (λ _ _ _. off (x .0) (x .1) (x .2)) (λ _ _. off (x .0) (x .1) (x .2))
     (λ k m u v d s _ _ e y. rw (exchange-same (s .alike-is) ∙ e) (moved-kept y (rw (sym e) h))) (serviceOf g r) octets (headed r g)
 
 -- a telegram
 pub telegram-kept : (g : Setup) (c : Control) (b : Occupied) (r : Request) (octets : Data) → Kept (inExchange c) (c .modes) (b .outputs)
     → KeptBy (b .outputs) (outcomeBy g c b r octets)
-telegram-kept g c b r octets h = serve-kept g (refilled g c r) b r octets (like (refilled-alike g c r) (refilled-same g c r .2) h)
+telegram-kept g c b r octets h =
+    let k = stays c h (refilled g c r) (refilled-akin g c r) in
+    telegram-cases (KeptBy (b .outputs)) (λ _ _ p. p) g c b r octets k (serve-kept g (refilled g c r) b r octets k)

@@ -18,6 +18,7 @@ use Rattle.rules.specs.Control.{bit, inExchange, owns}
 use Rattle.rules.specs.Phases.{waitPrm, waitCfg}
 use Rattle.rules.specs.Requests.{masterOf, acts, toStation, refilled, serviceOf}
 use Rattle.rules.specs.Services.{otherOwns, otherIdent, wantsWatchdog, badFactors, parametrized, setPrm, chkCfg, exchanges, dataExchange, slaveDiag, controls, storing, globalControl, serve, outcomeBy}
+use Rattle.rules.proofs.ByCases.{telegram-cases}
 
 -- a control part with the note of another
 abbrev SameNote : Control → Control → Type 0
@@ -91,4 +92,6 @@ module _ (g : Setup) (c : Control) (r : Request) where
 
 -- every telegram
 pub note-stays : (g : Setup) (c : Control) (b : Occupied) (r : Request) (octets : Data) → outcomeBy g c b r octets .control .noted ≡ c .noted
-note-stays g c b r octets = serve-leaves g (refilled g c r) r (serviceOf g r) b octets ∙ refilled-leaves g c r
+note-stays g c b r octets =
+    let k = refilled-leaves g c r in
+    telegram-cases (Leaves c) (λ _ _ p. p) g c b r octets k (serve-leaves g (refilled g c r) r (serviceOf g r) b octets ∙ k)

@@ -19,7 +19,7 @@ use Rattle.rules.specs.Services.{parametrized, serve, outcomeBy}
 use Rattle.rules.specs.Line.{clearOn, clearNoted, ticked}
 use Rattle.rules.specs.User.{judgedParameters, judgedConfiguration}
 use Rattle.rules.proofs.Headed.{headed}
-use Rattle.rules.proofs.ByCases.{Akin, clear-cases, noted-cases, ticked-cases, parameters-cases, configuration-cases, serve-cases, refilled-same}
+use Rattle.rules.proofs.ByCases.{Akin, clear-cases, noted-cases, ticked-cases, parameters-cases, configuration-cases, serve-cases, refilled-akin, telegram-cases}
 
 -- the owner is an octet
 abbrev pub Owned : Outcome → Type 0
@@ -37,24 +37,24 @@ module _ (c : Control) (h : c .owner < 256) where
 
   -- leave master
   pub clear-owned : (busy : Bool) → Owned (clearOn busy c)
-  clear-owned busy = clear-cases Owned c (λ k d s _. stays k s) busy (λ _ k _. resets k Nothing)
+  clear-owned busy = clear-cases Owned c (λ k d s _. stays k s) busy (λ _ k _ _. resets k Nothing)
 
   -- a noted clear
   pub noted-owned : (busy : Bool) → Owned (clearNoted busy c)
-  noted-owned busy = noted-cases Owned c (λ k d s _. stays k s) busy (λ _ k _. resets k Nothing)
+  noted-owned busy = noted-cases Owned c (λ k d s _. stays k s) busy (λ _ k _ _. resets k Nothing)
 
   -- a Tick
   pub ticked-owned : (busy : Bool) → Owned (ticked busy c)
-  ticked-owned busy = ticked-cases Owned c (λ k d s _. stays k s) busy (λ _ k _. resets k Nothing)
+  ticked-owned busy = ticked-cases Owned c (λ k d s _. stays k s) busy (λ _ k _ _. resets k Nothing)
 
   -- the judgement of parameters
   pub parameters-owned : (waits good : Bool) → Owned (judgedParameters c waits good)
-  parameters-owned waits good = parameters-cases Owned c (λ k d s _. stays k s) (λ k d _ _. resets k d) waits good (λ _. h) (λ _. h)
+  parameters-owned waits good = parameters-cases Owned c (λ k d s _. stays k s) (λ k d _ _ _. resets k d) waits good (λ _. h) (λ _. h)
 
   -- and of configuration
   pub configuration-owned : (waits good : Bool) → Owned (judgedConfiguration c waits good)
   unfolding dataExch
-  configuration-owned waits good = configuration-cases Owned c (λ k d s _. stays k s) (λ k d _ _. resets k d) waits good (λ _. h) h
+  configuration-owned waits good = configuration-cases Owned c (λ k d s _. stays k s) (λ k d _ _ _. resets k d) waits good (λ _. h) h
 
   -- WAIT_CFG entered
   wait-cfg-owned : waitCfg c .owner < 256
@@ -66,9 +66,11 @@ module _ (c : Control) (h : c .owner < 256) where
   unfolding parametrized
   serve-owned g opened r octets =
       let m : masterOf r < 128 = mod-lt (r .sa) (omega arith) in
-      serve-cases Owned c (λ k d s _. stays k s) (λ k d _ _. resets k d) g r opened (λ _ _ _. omega arith) (λ _ _. wait-cfg-owned) (λ k m u v d s _ _ _ _. stays k s)
+      serve-cases Owned c (λ k d s _. stays k s) (λ k d _ _ _. resets k d) g r opened (λ _ _ _. omega arith) (λ _ _. wait-cfg-owned) (λ k m u v d s _ _ _ _. stays k s)
       (serviceOf g r) octets (headed r g)
 
 -- a telegram
 pub telegram-owned : (g : Setup) (c : Control) (opened : Occupied) (r : Request) (octets : Data) → c .owner < 256 → Owned (outcomeBy g c opened r octets)
-telegram-owned g c opened r octets h = serve-owned (refilled g c r) (rw (refilled-same g c r .0) h) g opened r octets
+telegram-owned g c opened r octets h =
+    let k = stays c h (refilled g c r) (refilled-akin g c r) in
+    telegram-cases Owned (λ _ _ p. p) g c opened r octets k (serve-owned (refilled g c r) k g opened r octets)

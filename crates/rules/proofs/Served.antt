@@ -1,15 +1,20 @@
 -- What every outcome of the rules keeps: the diagnosis counts stay, only data that came for it and fits is published or received, and DATA_EXCH
 -- is left only with zeros. Served is the one law of all telegrams, Quiet that of the outcomes without one.
-use Prim.Native.Nat.{ℕ}
+use Prim.Native.Nat.{ℕ, _≤_, _<_}
+use native.Mathlib.Omega.{arith}
+use native.Mathlib.Nat.{mod-lt}
 use mathlib.Core.Path.{_≡_, refl, sym, ap, _∙_}
+use mathlib.Core.Logic.{_⊎_, inl, inr, ⊎-elim}
 use mathlib.Core.Bool.{Bool, true, false, cond}
 use Rattle.telegram.proofs.Run.{no-true}
 use Rattle.state.specs.declared.setup.Setup.{Setup}
 use Rattle.state.specs.declared.control.Modes.{Modes}
+use Rattle.state.specs.declared.control.Chain.{Chain}
 use Rattle.state.specs.declared.control.Control.{Control}
 use Rattle.state.specs.declared.state.Drawn.{Drawn}
 use Rattle.state.specs.Sound.{Within}
-use Rattle.state.proofs.Choice.{by-test}
+use Rattle.state.specs.Start.{noChain}
+use Rattle.state.proofs.Choice.{by-test, either, or-first, or-second, or-either}
 use Rattle.rules.specs.declared.request.Request.{Request}
 use Rattle.rules.specs.declared.request.Data.{Data}
 use Rattle.rules.specs.declared.request.Occupied.{Occupied}
@@ -24,20 +29,23 @@ use Rattle.rules.specs.declared.outcome.Outcome.{Outcome}
 use Rattle.rules.specs.Control.{inExchange}
 use Rattle.rules.specs.Phases.{drawing, left, waitPrm, enteringWaitPrm, waitCfg, dataExch, zerosIfLeft}
 use Rattle.rules.specs.Requests.{masterOf, refilled, serviceOf}
+use Rattle.rules.specs.Retries.{isRequest, fcvOf, fcbOf, isRepeat, chainBy, chainAfter, chained, repeated}
 use Rattle.rules.specs.Services.{parametrized, goodPrm, goodCfg, serve, outcomeBy}
 use Rattle.rules.specs.Line.{clearOn, clearNoted, ticked}
 use Rattle.rules.specs.User.{changingSets, judgedParameters, judgedConfiguration}
 use Rattle.rules.proofs.Headed.{Plain, To, headed}
-pub use Rattle.rules.proofs.ByCases.{isOutputs, Publishes}
+pub use Rattle.rules.proofs.MayRead.{isOutputs, mayRead}
+pub use Rattle.rules.proofs.ByCases.{Publishes}
 use Rattle.rules.proofs.ByCases.{Akin, moving, clear-cases, noted-cases, ticked-cases, parameters-cases, configuration-cases, serve-cases}
-use Rattle.rules.proofs.Alike.{Alike, exchange-same, refilled-alike}
+use Rattle.rules.proofs.Alike.{Alike, exchange-same, may-read-same, refilled-alike}
+use Rattle.rules.proofs.Unasked.{SetsStay, unasked-stays}
 
 -- ---- every outcome
 
 -- new inputs are brought only where that may be
 abbrev pub Brings : Type 0 → InputsDeed → Type 0
-Brings Moved inputs-deed.Keep = Unit
-Brings Moved inputs-deed.Bring = Moved
+Brings Asked inputs-deed.Keep = Unit
+Brings Asked inputs-deed.Bring = Asked
 
 -- a set is received only where that may be
 abbrev pub Receives : Type 0 → SetDeed → Type 0
@@ -47,35 +55,36 @@ Receives Given set-deed.Advance = Unit
 Receives Given set-deed.Drop = Unit
 
 -- what every outcome keeps. There are n data octets; Given: they may be published or held back, Held: what is held back may be published,
--- Moved: new inputs may be brought, Clear: zeros may be published, At: the data octets came to that service point.
-pub record Lawful (g : Setup) (c : Control) (n : ℕ) (Given Held Moved Clear : Type 0) (At : ℕ → Type 0) (o : Outcome) : Type 0 where
+-- Asked: a telegram came, so that new inputs may be brought and the chain may change, Clear: zeros may be published, At: the data octets came
+-- to that service point.
+pub record Lawful (g : Setup) (c : Control) (n : ℕ) (Given Held Asked Clear : Type 0) (At : ℕ → Type 0) (o : Outcome) : Type 0 where
   -- the diagnosis counts stay
   pub counts-stay : o .control .diagnosis ≡ c .diagnosis
   -- what is published or received fits
   pub outputs-come : Publishes (Given × (n ≡ g .«output_len»)) Held Clear (o .outputs)
-  pub inputs-come : Brings Moved (o .inputs)
+  pub inputs-come : Brings Asked (o .inputs)
   pub parameters-come : Receives (At 61 × Within 7 n (g .«parameter_len»)) (o .parameters)
   pub configuration-come : Receives (At 62 × Within 1 n (g .«configuration_len»)) (o .configuration)
   -- DATA_EXCH is left only with zeros
   pub leaves : inExchange c ≡ true → inExchange (o .control) ≡ false → o .outputs ≡ outputs-deed.Zeros
-  -- the held outputs are drawn only in DATA_EXCH
-  pub draws-within : isOutputs (o .drawn) ≡ true → inExchange (o .control) ≡ true
+  -- only a telegram changes the chain
+  pub chain-comes : (o .control .chain ≡ c .chain) ⊎ (Asked × (o .control .chain .master ≤ 127))
 
-module _ {g : Setup} {c : Control} {n : ℕ} {Given Held Moved Clear : Type 0} {At : ℕ → Type 0} where
+module _ {g : Setup} {c : Control} {n : ℕ} {Given Held Asked Clear : Type 0} {At : ℕ → Type 0} where
   -- nothing but a reply
-  draws : {k : Control} {d : Drawn} → Alike c k → (isOutputs d ≡ true → inExchange k ≡ true) → Lawful g c n Given Held Moved Clear At (drawing k d)
-  draws s f = record {
+  draws : {k : Control} {d : Drawn} → Alike c k → Lawful g c n Given Held Asked Clear At (drawing k d)
+  draws s = record {
     counts-stay = s .diagnosis-same;
     outputs-come = tt;
     inputs-come = tt;
     parameters-come = tt;
     configuration-come = tt;
     leaves = λ e h. no-true (sym h ∙ exchange-same s ∙ e);
-    draws-within = f;
+    chain-comes = inl (s .chain-same);
   }
 
   -- WAIT_PRM, which clears
-  enters : (k : Control) {d : Drawn} → k .diagnosis ≡ c .diagnosis → isOutputs d ≡ false → Clear → Lawful g c n Given Held Moved Clear At (enteringWaitPrm k d)
+  enters : (k : Control) {d : Drawn} → k .diagnosis ≡ c .diagnosis → k .chain ≡ c .chain → Clear → Lawful g c n Given Held Asked Clear At (enteringWaitPrm k d)
   unfolding waitPrm
   enters k e f z = record {
     counts-stay = e;
@@ -84,7 +93,7 @@ module _ {g : Setup} {c : Control} {n : ℕ} {Given Held Moved Clear : Type 0} {
     parameters-come = tt;
     configuration-come = tt;
     leaves = λ _ _. refl;
-    draws-within = λ h. no-true (sym f ∙ h);
+    chain-comes = inl f;
   }
 
 -- ---- the outcomes without data
@@ -96,45 +105,45 @@ Quiet g c Clear o = Lawful g c 0 ⊥ ⊥ ⊥ Clear (λ _. ⊥) o
 module _ (g : Setup) (c : Control) {Clear : Type 0} where
   -- nothing but a reply
   answers : (k : Control) (d : Drawn) → Akin c k → (isOutputs d ≡ true → inExchange k ≡ true) → Quiet g c Clear (drawing k d)
-  answers k d s f = draws (s .alike-is) f
+  answers k d s _ = draws (s .alike-is)
 
   -- leave master, and an expired watchdog
   pub clear-quiet : (busy : Bool) → (busy ≡ false → Clear) → Quiet g c Clear (clearOn busy c)
-  clear-quiet busy f = clear-cases (Quiet g c Clear) c answers busy (λ e k s. enters k s refl (f e))
+  clear-quiet busy f = clear-cases (Quiet g c Clear) c answers busy (λ e k s h. enters k s h (f e))
 
   -- a noted clear where the line is idle
   pub clear-noted-quiet : (busy : Bool) → (busy ≡ false → Clear) → Quiet g c Clear (clearNoted busy c)
-  clear-noted-quiet busy f = noted-cases (Quiet g c Clear) c answers busy (λ e k s. enters k s refl (f e))
+  clear-noted-quiet busy f = noted-cases (Quiet g c Clear) c answers busy (λ e k s h. enters k s h (f e))
 
   -- a Tick
   pub ticked-quiet : (busy : Bool) → (busy ≡ false → Clear) → Quiet g c Clear (ticked busy c)
-  ticked-quiet busy f = ticked-cases (Quiet g c Clear) c answers busy (λ e k s. enters k s refl (f e))
+  ticked-quiet busy f = ticked-cases (Quiet g c Clear) c answers busy (λ e k s h. enters k s h (f e))
 
   -- only sets that were there change
-  moves : (k : Control) (p q : SetDeed) → k .diagnosis ≡ c .diagnosis → (inExchange c ≡ true → inExchange k ≡ true)
+  moves : (k : Control) (p q : SetDeed) → k .diagnosis ≡ c .diagnosis → k .chain ≡ c .chain → (inExchange c ≡ true → inExchange k ≡ true)
       → Receives (⊥ × Within 7 0 (g .«parameter_len»)) p → Receives (⊥ × Within 1 0 (g .«configuration_len»)) q → Quiet g c Clear (changingSets k p q)
-  moves k p q e f x y = record {
+  moves k p q e h f x y = record {
     counts-stay = e;
     outputs-come = tt;
     inputs-come = tt;
     parameters-come = x;
     configuration-come = y;
-    leaves = λ i h. no-true (sym h ∙ f i);
-    draws-within = λ i. no-true i;
+    leaves = λ i l. no-true (sym l ∙ f i);
+    chain-comes = inl h;
   }
 
   -- the judgement of parameters
   pub parameters-quiet : (waits good : Bool) → Clear → Quiet g c Clear (judgedParameters c waits good)
   parameters-quiet waits good z =
-      parameters-cases (Quiet g c Clear) c answers (λ k d s e. enters k s e z) waits good
-      (λ _. moves _ set-deed.Advance set-deed.Keep refl (λ i. i) tt tt) (λ _. moves _ set-deed.Drop set-deed.Keep refl (λ i. i) tt tt)
+      parameters-cases (Quiet g c Clear) c answers (λ k d s h _. enters k s h z) waits good
+      (λ _. moves _ set-deed.Advance set-deed.Keep refl refl (λ i. i) tt tt) (λ _. moves _ set-deed.Drop set-deed.Keep refl refl (λ i. i) tt tt)
 
   -- and of configuration
   pub configuration-quiet : (waits good : Bool) → Clear → Quiet g c Clear (judgedConfiguration c waits good)
   unfolding dataExch
   configuration-quiet waits good z =
-      configuration-cases (Quiet g c Clear) c answers (λ k d s e. enters k s e z) waits good
-      (λ _. moves _ set-deed.Keep set-deed.Advance refl (λ i. i) tt tt) (moves _ set-deed.Keep set-deed.Drop refl (λ _. refl) tt tt)
+      configuration-cases (Quiet g c Clear) c answers (λ k d s h _. enters k s h z) waits good
+      (λ _. moves _ set-deed.Keep set-deed.Advance refl refl (λ i. i) tt tt) (moves _ set-deed.Keep set-deed.Drop refl refl (λ _. refl) tt tt)
 
 -- ---- the services
 
@@ -145,15 +154,25 @@ Judges set-deed.Receive before after = after ≡ false
 Judges set-deed.Advance before after = ⊥
 Judges set-deed.Drop before after = Unit
 
--- what comes of a telegram; withheld: something is held back
-pub record Served (g : Setup) (c : Control) (withheld : Bool) (r : Request) (o : Outcome) : Type 0 where
+-- what comes of a telegram; withheld: something is held back, reads: the held outputs may be drawn with that control part
+pub record ServedBy (reads : Control → Bool) (g : Setup) (c : Control) (withheld : Bool) (r : Request) (o : Outcome) : Type 0 where
   pub lawful : Lawful g c (r .count) (Plain r) (withheld ≡ true) Unit Unit (To r) o
-  -- it enters no DATA_EXCH, and in it changes no set
-  pub in-exchange : inExchange (o .control) ≡ true → (inExchange c ≡ true) × (o .parameters ≡ set-deed.Keep) × (o .configuration ≡ set-deed.Keep)
+  -- where they may be drawn after it they might before, and it changes no set
+  pub in-exchange : reads (o .control) ≡ true → (reads c ≡ true) × (o .parameters ≡ set-deed.Keep) × (o .configuration ≡ set-deed.Keep)
+  -- and only there it draws them
+  pub draws-within : isOutputs (o .drawn) ≡ true → reads (o .control) ≡ true
   pub judges : Judges (o .parameters) (c .flags .«parameters_good») (o .control .flags .«parameters_good»)
 
+-- every telegram, repeats among them
+abbrev pub Served : Setup → Control → Bool → Request → Outcome → Type 0
+Served = ServedBy mayRead
+
+-- a service, which draws them in DATA_EXCH alone
+abbrev Once : Setup → Control → Bool → Request → Outcome → Type 0
+Once = ServedBy inExchange
+
 -- the control part before may be one that is alike
-served-from : {g : Setup} {c d : Control} {withheld : Bool} {r : Request} {o : Outcome} → Alike c d → Served g d withheld r o → Served g c withheld r o
+served-from : {g : Setup} {c d : Control} {withheld : Bool} {r : Request} {o : Outcome} → Alike c d → Once g d withheld r o → Once g c withheld r o
 served-from s v = record {
   lawful = record {
     counts-stay = v .lawful .counts-stay ∙ s .diagnosis-same;
@@ -162,23 +181,25 @@ served-from s v = record {
     parameters-come = v .lawful .parameters-come;
     configuration-come = v .lawful .configuration-come;
     leaves = λ e. v .lawful .leaves (exchange-same s ∙ e);
-    draws-within = v .lawful .draws-within;
+    chain-comes = ⊎-elim (λ e. inl (e ∙ s .chain-same)) (λ x. inr x) (v .lawful .chain-comes);
   };
   in-exchange = λ e. let w = v .in-exchange e in (sym (exchange-same s) ∙ w .0, w .1, w .2);
+  draws-within = v .draws-within;
   judges = rw (sym (s .good-same)) (v .judges);
 }
 
 module _ (g : Setup) (c : Control) (withheld : Bool) (r : Request) where
   -- nothing but a reply
-  replies : (k : Control) (d : Drawn) → Akin c k → (isOutputs d ≡ true → inExchange k ≡ true) → Served g c withheld r (drawing k d)
+  replies : (k : Control) (d : Drawn) → Akin c k → (isOutputs d ≡ true → inExchange k ≡ true) → Once g c withheld r (drawing k d)
   replies k d s f =
       let a = s .alike-is in
-      record { lawful = draws a f; in-exchange = λ e. (sym (exchange-same a) ∙ e, refl, refl); judges = a .good-same }
+      record { lawful = draws a; in-exchange = λ e. (sym (exchange-same a) ∙ e, refl, refl); draws-within = f; judges = a .good-same }
 
   -- WAIT_PRM
-  resets : (k : Control) (d : Drawn) → k .diagnosis ≡ c .diagnosis → isOutputs d ≡ false → Served g c withheld r (enteringWaitPrm k d)
+  resets : (k : Control) (d : Drawn) → k .diagnosis ≡ c .diagnosis → k .chain ≡ c .chain → isOutputs d ≡ false → Once g c withheld r (enteringWaitPrm k d)
   unfolding waitPrm
-  resets k d e f = record { lawful = enters k e f tt; in-exchange = λ h. no-true h; judges = tt }
+  resets k d e h f =
+      record { lawful = enters k e h tt; in-exchange = λ x. no-true x; draws-within = λ x. no-true (sym f ∙ x); judges = tt }
 
   -- zeros are published if DATA_EXCH is left
   zeros-come : (Given Held : Type 0) (t : Bool) → Publishes Given Held Unit (cond t outputs-deed.Zeros outputs-deed.Keep)
@@ -189,7 +210,7 @@ module _ (g : Setup) (c : Control) (withheld : Bool) (r : Request) where
   zeros-leave e = ap (λ (t : Bool). cond t outputs-deed.Zeros outputs-deed.Keep) e
 
   -- a good Set_Prm
-  prm-served : (opened : Bool) (p : Prm) → To r 61 → Within 7 (r .count) (g .«parameter_len») → Served g c withheld r (goodPrm c opened (masterOf r) p)
+  prm-served : (opened : Bool) (p : Prm) → To r 61 → Within 7 (r .count) (g .«parameter_len») → Once g c withheld r (goodPrm c opened (masterOf r) p)
   unfolding parametrized waitCfg
   prm-served opened p h w = record {
     lawful = record {
@@ -199,21 +220,22 @@ module _ (g : Setup) (c : Control) (withheld : Bool) (r : Request) where
       parameters-come = (h, w);
       configuration-come = tt;
       leaves = λ e _. zeros-leave e;
-      draws-within = λ e. no-true e;
+      chain-comes = inl refl;
     };
     in-exchange = λ e. no-true e;
+    draws-within = λ e. no-true e;
     judges = refl;
   }
 
   -- WAIT_CFG entered
-  waitCfg-same : (waitCfg c .flags .«parameters_good» ≡ c .flags .«parameters_good») × (waitCfg c .diagnosis ≡ c .diagnosis)
+  waitCfg-same : (waitCfg c .flags .«parameters_good» ≡ c .flags .«parameters_good») × (waitCfg c .diagnosis ≡ c .diagnosis) × (waitCfg c .chain ≡ c .chain)
   unfolding waitCfg
   waitCfg-same =
-      by-test (λ (d : Control). (d .flags .«parameters_good» ≡ c .flags .«parameters_good») × (d .diagnosis ≡ c .diagnosis))
-      (inExchange c) (left c) c (λ _. (refl, refl)) (λ _. (refl, refl))
+      by-test (λ (d : Control). (d .flags .«parameters_good» ≡ c .flags .«parameters_good») × (d .diagnosis ≡ c .diagnosis) × (d .chain ≡ c .chain))
+      (inExchange c) (left c) c (λ _. (refl, refl, refl)) (λ _. (refl, refl, refl))
 
   -- a good Chk_Cfg
-  cfg-served : (opened : Bool) → To r 62 → Within 1 (r .count) (g .«configuration_len») → Served g c withheld r (goodCfg c opened)
+  cfg-served : (opened : Bool) → To r 62 → Within 1 (r .count) (g .«configuration_len») → Once g c withheld r (goodCfg c opened)
   unfolding waitCfg
   cfg-served opened h w = record {
     lawful = record {
@@ -223,15 +245,16 @@ module _ (g : Setup) (c : Control) (withheld : Bool) (r : Request) where
       parameters-come = tt;
       configuration-come = (h, w);
       leaves = λ e _. zeros-leave e;
-      draws-within = λ e. no-true e;
+      chain-comes = inl (waitCfg-same .2);
     };
     in-exchange = λ e. no-true e;
+    draws-within = λ e. no-true e;
     judges = waitCfg-same .0;
   }
 
   -- something done to the outputs and the inputs: the phase and the sets stay
   moves-served : (k : Control) (m : Modes) (u : OutputsDeed) (v : InputsDeed) (x : Drawn) → Akin c k → isOutputs x ≡ false
-      → Publishes (Plain r × (r .count ≡ g .«output_len»)) (withheld ≡ true) Unit u → Served g c withheld r (moving k m u v x)
+      → Publishes (Plain r × (r .count ≡ g .«output_len»)) (withheld ≡ true) Unit u → Once g c withheld r (moving k m u v x)
   moves-served k m u v x s f p =
       let a = s .alike-is in
       record {
@@ -242,9 +265,10 @@ module _ (g : Setup) (c : Control) (withheld : Bool) (r : Request) where
           parameters-come = tt;
           configuration-come = tt;
           leaves = λ e h. no-true (sym h ∙ exchange-same a ∙ e);
-          draws-within = λ e. no-true (sym f ∙ e);
+          chain-comes = inl (a .chain-same);
         };
         in-exchange = λ e. (sym (exchange-same a) ∙ e, refl, refl);
+        draws-within = λ e. no-true (sym f ∙ e);
         judges = a .good-same;
       }
     where
@@ -253,12 +277,77 @@ module _ (g : Setup) (c : Control) (withheld : Bool) (r : Request) where
       brought inputs-deed.Bring = tt
 
 -- each service
-serve-served : (g : Setup) (c : Control) (b : Occupied) (r : Request) (octets : Data) → Served g c (b .outputs) r (serve (serviceOf g r) g c b r octets)
+serve-served : (g : Setup) (c : Control) (b : Occupied) (r : Request) (octets : Data) → Once g c (b .outputs) r (serve (serviceOf g r) g c b r octets)
 serve-served g c b r octets =
     let w = b .outputs in
-    serve-cases (Served g c w r) c (replies g c w r) (resets g c w r) g r b (prm-served g c w r (b .parameters)) (cfg-served g c w r (b .configuration))
+    serve-cases (Once g c w r) c (replies g c w r) (resets g c w r) g r b (prm-served g c w r (b .parameters)) (cfg-served g c w r (b .configuration))
     (λ k m u v x s f p _ _. moves-served g c w r k m u v x s f p) (serviceOf g r) octets (headed r g)
+
+-- and it leaves the chain as it is
+serve-chain : (g : Setup) (c : Control) (b : Occupied) (r : Request) (octets : Data) → serve (serviceOf g r) g c b r octets .control .chain ≡ c .chain
+unfolding waitPrm parametrized
+serve-chain g c b r octets =
+    serve-cases (λ o. o .control .chain ≡ c .chain) c (λ _ _ s _. s .alike-is .chain-same) (λ _ _ _ h _. h) g r b (λ _ _ _. refl)
+    (λ _ _. waitCfg-same g c (b .outputs) r .2) (λ _ _ _ _ _ s _ _ _ _. s .alike-is .chain-same) (serviceOf g r) octets (headed r g)
+
+-- the chain then
+module _ {g : Setup} {c : Control} {withheld : Bool} {r : Request} {o : Outcome} (v : Once g c withheld r o) (same : o .control .chain ≡ c .chain)
+    (unasked : isRequest g r ≡ false → SetsStay o) where
+  abbrev Stays : Type 0
+  Stays = (mayRead c ≡ true) × (o .parameters ≡ set-deed.Keep) × (o .configuration ≡ set-deed.Keep)
+
+  -- in DATA_EXCH
+  within : inExchange (o .control) ≡ true → Stays
+  within e = let w = v .in-exchange e in (or-first (inExchange c) (isOutputs (c .chain .drawn)) (w .0), w .1, w .2)
+
+  -- a repeat may draw the held outputs if the request drew them
+  by-request : (t : Bool) → isOutputs (cond t (record { master = masterOf r; fcb = fcbOf r; drawn = o .drawn }) noChain .drawn) ≡ true → Stays
+  by-request true e = within (v .draws-within e)
+  by-request false e = no-true e
+
+  by-chain : isOutputs (chainAfter g (o .control .chain) r (o .drawn) .drawn) ≡ true → Stays
+  by-chain =
+      by-test (λ (h : Chain). isOutputs (h .drawn) ≡ true → Stays) (isRequest g r) (chainBy r (o .drawn)) (o .control .chain)
+      (λ _. by-request (fcvOf r))
+      (λ f e. (or-second (inExchange c) (isOutputs (c .chain .drawn)) (ap (λ (h : Chain). isOutputs (h .drawn)) (sym same) ∙ e), unasked f .0, unasked f .1))
+
+  -- a chain has a master's address
+  master-in : (t : Bool) → cond t (record { master = masterOf r; fcb = fcbOf r; drawn = o .drawn }) noChain .master ≤ 127
+  master-in true = let m : masterOf r < 128 = mod-lt (r .sa) (omega arith) in omega arith
+  master-in false = omega arith
+
+  chained-served : Served g c withheld r (chained g r o)
+  chained-served = record {
+    lawful = record {
+      counts-stay = v .lawful .counts-stay;
+      outputs-come = v .lawful .outputs-come;
+      inputs-come = v .lawful .inputs-come;
+      parameters-come = v .lawful .parameters-come;
+      configuration-come = v .lawful .configuration-come;
+      leaves = v .lawful .leaves;
+      chain-comes =
+          either (λ (h : Chain). (h ≡ c .chain) ⊎ (Unit × (h .master ≤ 127))) (isRequest g r) (inr (tt, master-in (fcvOf r))) (inl same);
+    };
+    in-exchange = λ e. ⊎-elim within by-chain (or-either (inExchange (o .control)) _ e);
+    draws-within = λ e. or-first (inExchange (o .control)) _ (v .draws-within e);
+    judges = v .judges;
+  }
+
+-- a repeat
+repeated-served : (g : Setup) (c : Control) (withheld : Bool) (r : Request) → Served g c withheld r (repeated g c r)
+repeated-served g c withheld r =
+    let a = refilled-alike g c r in
+    record {
+      lawful = draws a;
+      in-exchange = λ e. (sym (may-read-same a) ∙ e, refl, refl);
+      draws-within = λ e. or-second (inExchange (refilled g c r)) _ (ap (λ (h : Chain). isOutputs (h .drawn)) (a .chain-same) ∙ e);
+      judges = a .good-same;
+    }
 
 -- every telegram
 pub served : (g : Setup) (c : Control) (b : Occupied) (r : Request) (octets : Data) → Served g c (b .outputs) r (outcomeBy g c b r octets)
-served g c b r octets = served-from (refilled-alike g c r) (serve-served g (refilled g c r) b r octets)
+served g c b r octets =
+    let k = refilled g c r in
+    let a = refilled-alike g c r in
+    either (Served g c (b .outputs) r) (isRepeat g c r) (repeated-served g c (b .outputs) r)
+    (chained-served (served-from a (serve-served g k b r octets)) (serve-chain g k b r octets ∙ a .chain-same) (unasked-stays g k b r octets))

@@ -10,6 +10,7 @@ use Rattle.state.specs.declared.control.Watchdog.{Watchdog}
 use Rattle.state.specs.declared.control.Flags.{Flags}
 use Rattle.state.specs.declared.control.Diagnosis.{Diagnosis}
 use Rattle.state.specs.declared.control.Modes.{Modes}
+use Rattle.state.specs.declared.control.Chain.{Chain}
 use Rattle.state.specs.declared.control.Control.{Control}
 use Rattle.state.specs.With.{controlOf}
 
@@ -39,28 +40,31 @@ owns c master = eqb (c .owner) master
 
 -- the control part with one part changed
 abbrev pub withPhase : Control → Phase → Control
-withPhase c x = controlOf x (c .owner) (c .group) (c .stored) (c .watchdog) (c .flags) (c .events) (c .noted) (c .diagnosis) (c .modes)
+withPhase c x = controlOf x (c .owner) (c .group) (c .stored) (c .watchdog) (c .flags) (c .events) (c .noted) (c .diagnosis) (c .modes) (c .chain)
 
 abbrev pub withStored : Control → ℕ → Control
-withStored c x = controlOf (c .phase) (c .owner) (c .group) x (c .watchdog) (c .flags) (c .events) (c .noted) (c .diagnosis) (c .modes)
+withStored c x = controlOf (c .phase) (c .owner) (c .group) x (c .watchdog) (c .flags) (c .events) (c .noted) (c .diagnosis) (c .modes) (c .chain)
 
 abbrev pub withWatchdog : Control → Watchdog → Control
-withWatchdog c x = controlOf (c .phase) (c .owner) (c .group) (c .stored) x (c .flags) (c .events) (c .noted) (c .diagnosis) (c .modes)
+withWatchdog c x = controlOf (c .phase) (c .owner) (c .group) (c .stored) x (c .flags) (c .events) (c .noted) (c .diagnosis) (c .modes) (c .chain)
 
 abbrev pub withFlags : Control → Flags → Control
-withFlags c x = controlOf (c .phase) (c .owner) (c .group) (c .stored) (c .watchdog) x (c .events) (c .noted) (c .diagnosis) (c .modes)
+withFlags c x = controlOf (c .phase) (c .owner) (c .group) (c .stored) (c .watchdog) x (c .events) (c .noted) (c .diagnosis) (c .modes) (c .chain)
 
 abbrev pub withEvents : Control → Events → Control
-withEvents c x = controlOf (c .phase) (c .owner) (c .group) (c .stored) (c .watchdog) (c .flags) x (c .noted) (c .diagnosis) (c .modes)
+withEvents c x = controlOf (c .phase) (c .owner) (c .group) (c .stored) (c .watchdog) (c .flags) x (c .noted) (c .diagnosis) (c .modes) (c .chain)
 
 abbrev pub withNoted : Control → Bool → Control
-withNoted c x = controlOf (c .phase) (c .owner) (c .group) (c .stored) (c .watchdog) (c .flags) (c .events) x (c .diagnosis) (c .modes)
+withNoted c x = controlOf (c .phase) (c .owner) (c .group) (c .stored) (c .watchdog) (c .flags) (c .events) x (c .diagnosis) (c .modes) (c .chain)
 
 abbrev pub withDiagnosis : Control → Diagnosis → Control
-withDiagnosis c x = controlOf (c .phase) (c .owner) (c .group) (c .stored) (c .watchdog) (c .flags) (c .events) (c .noted) x (c .modes)
+withDiagnosis c x = controlOf (c .phase) (c .owner) (c .group) (c .stored) (c .watchdog) (c .flags) (c .events) (c .noted) x (c .modes) (c .chain)
 
 abbrev pub withModes : Control → Modes → Control
-withModes c x = controlOf (c .phase) (c .owner) (c .group) (c .stored) (c .watchdog) (c .flags) (c .events) (c .noted) (c .diagnosis) x
+withModes c x = controlOf (c .phase) (c .owner) (c .group) (c .stored) (c .watchdog) (c .flags) (c .events) (c .noted) (c .diagnosis) x (c .chain)
+
+abbrev pub withChain : Control → Chain → Control
+withChain c x = controlOf (c .phase) (c .owner) (c .group) (c .stored) (c .watchdog) (c .flags) (c .events) (c .noted) (c .diagnosis) (c .modes) x
 
 -- event n is set
 abbrev pub raise : Control → ℕ → Control

@@ -2,6 +2,7 @@ pub mod Control
 pub mod Modes
 pub mod Phases
 pub mod Requests
+pub mod Retries
 pub mod Services
 pub mod Diagnosis
 pub mod Line

@@ -44,6 +44,7 @@ waitPrm c =
       noted = c .noted;
       diagnosis = c .diagnosis;
       modes = endedModes (c .modes);
+      chain = c .chain;
     }
 
 -- with what becomes of the buffers: zeros published, which empties what is held back, parameter and configuration sets dropped

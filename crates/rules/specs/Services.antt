@@ -1,4 +1,4 @@
--- The services (document 01, Services; document 02, Req 01): what comes of each, on the control part. opened: a set of that kind is open.
+-- The services (document 01, Services; document 02, Req 01 and 04): what comes of each, on the control part. opened: a set of that kind is open.
 use Prim.Native.Nat.{ℕ, _+_, _*_}
 use mathlib.Core.Bool.{Bool, cond, not, _&&_, _||_}
 use lib.Bits.{bitAnd}
@@ -24,6 +24,7 @@ use Rattle.rules.specs.Control.{bit, inExchange, owns, withFlags, withEv
 use Rattle.rules.specs.Modes.{allowedModes, exchangeOutputs, exchangeInputs, commandedModes, commandedOutputs, commandedInputs, announced}
 use Rattle.rules.specs.Phases.{drawing, enteringWaitPrm, waitCfg, zerosIfLeft}
 use Rattle.rules.specs.Requests.{masterOf, refilled, serviceOf}
+use Rattle.rules.specs.Retries.{isRepeat, chained, repeated}
 
 -- Set_Prm ---------------------------------------------------------------------------------------
 
@@ -69,6 +70,7 @@ parametrized c opened master p =
       noted = c .noted;
       diagnosis = c .diagnosis;
       modes = allowedModes (waitCfg c .modes) (p .status);
+      chain = c .chain;
     }
 
 -- E5, owner, WAIT_CFG, flags cleared, configuration sets dropped, group, data shown, watchdog, sync and freeze allowed or not
@@ -203,6 +205,7 @@ serve GetCfg s c b r octets = drawing c drawn.Configuration
 serve ReadInputs s c b r octets = readInputs c
 serve ReadOutputs s c b r octets = readOutputs c
 
--- what comes of a telegram: it refills the watchdog, and its service is served
+-- what comes of a telegram: a repeat draws again what the earlier request drew; any other refills the watchdog, and its service is served
 abbrev pub outcomeBy : Setup → Control → Occupied → Request → Data → Outcome
-outcomeBy s c b r octets = serve (serviceOf s r) s (refilled s c r) b r octets
+outcomeBy s c b r octets =
+    cond (isRepeat s c r) (repeated s c r) (chained s r (serve (serviceOf s r) s (refilled s c r) b r octets))

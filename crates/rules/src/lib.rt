@@ -9,5 +9,6 @@ pub mod phases;
 pub mod replies;
 pub mod request;
 pub mod requests;
+pub mod retries;
 pub mod services;
 pub mod user;

@@ -58,6 +58,7 @@ fn with_phase(control: Control, phase: Phase) -> Control
     let events = control.events;
     let diagnosis = control.diagnosis;
     let modes = control.modes;
+    let chain = control.chain;
     Control {
         phase,
         owner: control.owner,
@@ -69,6 +70,7 @@ fn with_phase(control: Control, phase: Phase) -> Control
         noted: control.noted,
         diagnosis,
         modes,
+        chain,
     }
 }
 
@@ -94,6 +96,7 @@ pub fn wait_prm(control: Control) -> Control
     let events = dropped.raise(Events::OUTPUTS);
     let flags = control.flags;
     let diagnosis = control.diagnosis;
+    let chain = control.chain;
     let watchdog = Watchdog {
         reload: 0,
         remaining: 0,
@@ -109,6 +112,7 @@ pub fn wait_prm(control: Control) -> Control
         noted: control.noted,
         diagnosis,
         modes: ended(control.modes),
+        chain,
     }
 }
 

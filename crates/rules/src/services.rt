@@ -19,7 +19,12 @@ use crate::request::Occupied;
 use crate::request::Prm;
 use crate::request::Request;
 use crate::request::Service;
+use crate::requests::acts;
 use crate::requests::master_of;
+use crate::requests::refilled;
+use crate::retries::chained;
+use crate::retries::repeated;
+use crate::retries::repeats;
 use buffers::events::Events;
 use state::control::Control;
 use state::control::Watchdog;
@@ -29,7 +34,8 @@ ghost use Prim.Native.Nat.{_≤_};
 ghost use mathlib.Core.Path.{_≡_};
 ghost use mathlib.Core.Bool.{_&&_};
 ghost use Rattle.rules.specs.Phases.{enteringWaitPrm};
-ghost use Rattle.rules.specs.Services.{otherOwns, otherIdent, wantsWatchdog, badFactors, ticksOf, prmFault, showing, parametrized, goodPrm, setPrm, cfgFault, goodCfg, chkCfg, exchanges, goodExchange, dataExchange, slaveDiag, readInputs, readOutputs, controls, storing, obeyed, globalControl, serve};
+ghost use Rattle.rules.specs.Requests.{serviceOf};
+ghost use Rattle.rules.specs.Services.{otherOwns, otherIdent, wantsWatchdog, badFactors, ticksOf, prmFault, showing, parametrized, goodPrm, setPrm, cfgFault, goodCfg, chkCfg, exchanges, goodExchange, dataExchange, slaveDiag, readInputs, readOutputs, controls, storing, obeyed, globalControl, serve, outcomeBy};
 
 // An octet as a wider number.
 fn wide(x: u8) -> u16
@@ -107,6 +113,7 @@ fn parametrized(control: Control, opened: bool, master: u8, p: Prm) -> Control
     flags.parameters_good = false;
     let phase = entered.phase;
     let diagnosis = control.diagnosis;
+    let chain = control.chain;
     Control {
         phase,
         owner: master,
@@ -118,6 +125,7 @@ fn parametrized(control: Control, opened: bool, master: u8, p: Prm) -> Control
         noted: control.noted,
         diagnosis,
         modes: allowed(entered.modes, p.status),
+        chain,
     }
 }
 
@@ -371,4 +379,28 @@ pub fn serve(
         Service::ReadInputs => read_inputs(control),
         Service::ReadOutputs => read_outputs(control),
     }
+}
+
+// What comes of a telegram: a repeat draws again what the earlier request drew; any other refills the watchdog, and its service is
+// served.
+pub fn outcome_by(
+    service: Service,
+    setup: Setup,
+    control: Control,
+    occupied: Occupied,
+    r: Request,
+    octets: Data,
+) -> Outcome
+    requires { ⌜ service ≡ serviceOf setup r ⌝ }
+    ensures { λ o. ⌜ o ≡ outcomeBy setup control occupied r octets ⌝ }
+{
+    if acts(setup, r) & repeats(control.chain, r) {
+        return repeated(setup, control, r);
+    }
+    let refilled = refilled(setup, control, r);
+    chained(
+        setup,
+        r,
+        serve(service, setup, refilled, occupied, r, octets),
+    )
 }

@@ -1,6 +1,7 @@
 -- What is chosen by a test, and two tests in one.
-use mathlib.Core.Path.{_≡_, refl, sym}
+use mathlib.Core.Path.{_≡_, refl, sym, _∙_}
 use mathlib.Core.Bool.{Bool, true, false, cond, _&&_, _||_}
+use mathlib.Core.Logic.{_⊎_, inl, inr}
 use Rattle.telegram.proofs.Run.{no-true}
 
 -- two tests that agree choose alike
@@ -40,3 +41,20 @@ or-right false q e = e
 pub or-holds : (p q : Bool) → (p ≡ false → q ≡ true) → p || q ≡ true
 or-holds true q f = refl
 or-holds false q f = f refl
+
+-- or where one of them does
+pub or-first : (p q : Bool) → p ≡ true → p || q ≡ true
+or-first p q e = or-holds p q (λ f. no-true (sym f ∙ e))
+
+pub or-second : (p q : Bool) → q ≡ true → p || q ≡ true
+or-second p q e = or-holds p q (λ _. e)
+
+-- and then one of them does
+pub or-either : (p q : Bool) → p || q ≡ true → (p ≡ true) ⊎ (q ≡ true)
+or-either true q e = inl refl
+or-either false q e = inr e
+
+-- where the first of two tests holds and not both, the second fails
+pub and-second : (p q : Bool) → p && q ≡ false → p ≡ true → q ≡ false
+and-second true q e f = e
+and-second false q e f = no-true f

@@ -15,7 +15,7 @@ use Rattle.state.specs.declared.control.Flags.{Flags}
 use Rattle.state.specs.declared.state.State.{State}
 use Rattle.state.specs.Number.{readingNumber, kindNumber, stageNumber, phaseNumber, drawnNumber}
 use Rattle.state.specs.Layout.{stateLength, usedLength}
-use Rattle.state.specs.Image.{bitOf, flagsOf, modesOf, marksOf, inputsCode, used, unused, image}
+use Rattle.state.specs.Image.{bitOf, flagsOf, modesOf, marksOf, inputsCode, chainCode, used, unused, image}
 use Rattle.state.specs.Unpack.{wordAt, setupIn, flagsIn, readerIn, senderIn, unpacked}
 use Rattle.state.specs.Sound.{Sound}
 use Rattle.state.specs.Well.{all, lengthTests, lengthsTests, countTests, lineTests, limitTests, codeTests, unusedTests, imageTests, wellImage}
@@ -24,7 +24,7 @@ use Rattle.state.proofs.Asking.{tests-ranged, lengths-hold}
 use Rattle.state.proofs.Tests.{all-at, all-behind, within-true, within-holds, none-or-true, none-or-holds, set-counts-true, set-counts-holds}
 use Rattle.state.proofs.LineCounts.{reading-before, reading-numbered, stage-before, stage-numbered, part-true, part-holds}
 use Rattle.state.proofs.Bits.{bit-le, bit-in, mark-coded, Marked, marked, sum-marks}
-use Rattle.state.proofs.SetCodes.{outputs-back, marks-coded, marks-below, modes-back, modes-coded, modes-below, inputs-back, inputs-coded, inputs-below}
+use Rattle.state.proofs.SetCodes.{outputs-back, marks-coded, marks-below, modes-back, modes-coded, modes-below, inputs-back, inputs-coded, inputs-below, chain-back, chain-coded, chain-below}
 
 -- the image has its length
 pub image-length : (s : State) → length (image s) ≡ stateLength
@@ -73,6 +73,7 @@ round s h r =
             noted = flags-marked (c .flags) (c .noted) .bit₂ i;
             diagnosis = c .diagnosis;
             modes = modes-back (c .modes) i;
+            chain = chain-back (c .chain) i;
           };
       outputs = outputs-back (s .outputs) (h .outputs) i;
       inputs = inputs-back (s .inputs) (h .inputs) i;
@@ -128,7 +129,10 @@ module _ (s : State) (h : Sound s) (r : List ℕ) where
   -- the lengths pass
   lengths-well : all (lengthsTests (image s ++ r)) ≡ true
   unfolding image used
-  lengths-well = lengths-hold (s .setup) (h .setup)
+  lengths-well =
+      let chain = s .control .chain in
+      (λ i. all (le-leb (chainCode chain) 17 (chain-below chain) i ∷ le-leb (chain .master) 127 (h .chain-master) i ∷ lengthTests (s .setup)))
+      ∙ lengths-hold (s .setup) (h .setup)
 
   -- the codes pass
   codes-well : all (codeTests (image s ++ r)) ≡ true
@@ -205,7 +209,7 @@ code-at m h k = all-at (codeTests m) k h
 
 -- the lengths, from the test of their word
 pub lengths-in : (m : List ℕ) → all (lengthsTests m) ≡ true → all (lengthTests (setupIn m 0)) ≡ true
-lengths-in m h = all-behind (eqb (getD m 55 0) 0) (lengthTests (setupIn m 0)) (all-behind (eqb (getD m 54 0) 0) (eqb (getD m 55 0) 0 ∷ lengthTests (setupIn m 0)) h)
+lengths-in m h = all-behind (leb (getD m 55 0) 127) (lengthTests (setupIn m 0)) (all-behind (leb (getD m 54 0) 17) (leb (getD m 55 0) 127 ∷ lengthTests (setupIn m 0)) h)
 
 -- octets that pass the tests hold a sound state
 pub well-sound : (m : List ℕ) → wellImage m ≡ true → Sound (unpacked m)
@@ -235,6 +239,7 @@ well-sound m h =
         delayed = none-or-true 6 (getD m 57 0) (getD m 52 0) (all-at (countTests m) 1 counts);
         flags = leb-true (getD m 26 0) 7 (code-at m codes 10);
       };
+      chain-master = leb-true (getD m 55 0) 127 (all-at (lengthsTests m) 1 (all-at (imageTests m) 4 h));
       reading = record { count = leb-true (getD m 32 0) 246 (all-at (lineTests m) 0 line); read = reading .0; none-yet = reading .1 };
       sending = record { count = leb-true (getD m 14 0) 246 (all-at (lineTests m) 2 line); sent = sending .0; none-yet = sending .1 };
       place = leb-true (getD m 19 0) 3 (code-at m codes 3);
@@ -320,9 +325,8 @@ image-spread m small h =
     ∷ low-at m 46 (small 46) i
     ∷ high-at m 46 (small 46) i
     ∷ spread m 48 6
-    ++ zero-at m 54 (all-at (lengthsTests m) 0 lengths) i
-    ∷ zero-at m 55 (all-at (lengthsTests m) 1 lengths) i
-    ∷ spread m 56 6
+    ++ chain-coded (getD m 54 0) (getD m 55 0) (leb-true (getD m 54 0) 17 (all-at (lengthsTests m) 0 lengths)) i
+    ∷ spread m 55 7
     ++ zero-at m 62 (all-at (countTests m) 4 counts) i
     ∷ zero-at m 63 (all-at (countTests m) 5 counts) i
     ∷ zeros-at m usedLength 64 (all-at (imageTests m) 3 h) i

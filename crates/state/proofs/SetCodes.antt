@@ -1,4 +1,4 @@
--- The output set, the input set and the modes in their octets, and back.
+-- The output set, the input set, the modes and the chain in their octets, and back.
 use Prim.Native.Nat.{ℕ, _+_, _*_, _/_, _%_, _≤_}
 use native.Mathlib.Omega.{arith}
 use mathlib.Core.Path.{_≡_, ap, _∙_}
@@ -9,9 +9,13 @@ use Rattle.buffers.specs.Roles.{Permutation}
 use Rattle.buffers.specs.Number.{numberOf, placesOf, numberOf4}
 use Rattle.buffers.proofs.Numbers.{number-below, number-places, places-number, places4-number}
 use Rattle.state.specs.declared.control.Modes.{Modes}
+use Rattle.state.specs.declared.control.Chain.{Chain}
+use Rattle.state.specs.declared.state.Drawn.{Drawn}
 use Rattle.state.specs.declared.state.Outputs.{Outputs}
-use Rattle.state.specs.Image.{bitOf, modesOf, marksOf, inputsCode}
-use Rattle.state.specs.Unpack.{odd, bitAt, modesIn, outputsIn, inputsIn}
+use Rattle.state.specs.Number.{drawnNumber, drawnNumbered}
+use Rattle.state.specs.Image.{bitOf, modesOf, marksOf, inputsCode, chainCode}
+use Rattle.state.specs.Unpack.{odd, bitAt, modesIn, outputsIn, inputsIn, chainIn}
+use Rattle.state.proofs.Numbers.{drawn-back, drawn-counted, drawn-le}
 use Rattle.state.proofs.Bits.{bit-le, bit-in, odd-bit, marked, sum-marks}
 
 -- ---- the number of the roles
@@ -102,10 +106,35 @@ inputs-back t h =
 pub inputs-coded : (x : ℕ) → x ≤ 11 → inputsCode (inputsIn x) ≡ x
 inputs-coded x h = twofold x (numberOf (placesOf (x / 2))) (bitOf (odd x)) (number-places (x / 2) (omega arith)) (odd-bit x)
 
-second-below : (n f : ℕ) → n ≤ 5 → f ≤ 1 → 2 * n + f ≤ 11
-second-below n f hn hf = omega arith
+second-below : (n f most : ℕ) → n ≤ most → f ≤ 1 → 2 * n + f ≤ 2 * most + 1
+second-below n f most hn hf = omega arith
 
 pub inputs-below : (t : Triple) → inputsCode t ≤ 11
 inputs-below t =
     let n = number-below (t .place) in
-    second-below (numberOf (t .place)) (bitOf (t .fresh)) (omega arith) (bit-le (t .fresh))
+    second-below (numberOf (t .place)) (bitOf (t .fresh)) 5 (omega arith) (bit-le (t .fresh))
+
+-- ---- the chain
+
+-- it comes back from its code and its master
+pub chain-back : (h : Chain) → chainIn (chainCode h) (h .master) ≡ h
+chain-back h =
+    let q = halved (chainCode h) (drawnNumber (h .drawn)) (bitOf (h .fcb)) (bit-le (h .fcb)) (λ _. chainCode h) in
+    λ i.
+    record {
+      master = h .master;
+      fcb = bit-in (h .fcb) (chainCode h % 2) (q .first) i;
+      drawn = (ap drawnNumbered (q .number-is) ∙ drawn-back (h .drawn)) i;
+    }
+
+-- and the code from it
+pub chain-coded : (x master : ℕ) → x ≤ 17 → chainCode (chainIn x master) ≡ x
+chain-coded x master h = twofold x (drawnNumber (drawnNumbered (x / 2))) (bitOf (odd x)) (drawn-counted (x / 2) (omega arith)) (odd-bit x)
+
+-- the number of what was drawn
+pub drawn-below : (n : ℕ) (d : Drawn) → n ≡ drawnNumber d → n ≤ 8
+drawn-below n d e = let h = drawn-le d in omega arith
+
+-- which is at most 17
+pub chain-below : (h : Chain) → chainCode h ≤ 17
+chain-below h = second-below (drawnNumber (h .drawn)) (bitOf (h .fcb)) 8 (drawn-le (h .drawn)) (bit-le (h .fcb))

@@ -24,23 +24,19 @@ abbrev leasts : List ℕ
 leasts = 1 ∷ 1 ∷ 7 ∷ 1 ∷ 6 ∷ 1 ∷ 0 ∷ 0 ∷ []
 
 abbrev mosts : List ℕ
-mosts = replicate 6 shortLength ++ 0 ∷ 0 ∷ []
+mosts = replicate 6 shortLength ++ 17 ∷ 127 ∷ []
 
--- an octet that is 0 at least and at most
-only-none : (x : ℕ) → within 0 x 0 ≡ eqb x 0
-only-none zero = refl
-only-none (suc x) =
-    ap (λ (t : Bool). leb 0 (suc x) && t) (lt-leb (suc x) 0 (omega arith))
-    ∙ and-false (leb 0 (suc x))
-    ∙ sym (ne-eqb (suc x) 0 (λ z. omega arith))
+-- an octet that is 0 at least
+only-most : (x most : ℕ) → within 0 x most ≡ leb x most
+only-most x most = ap (λ (t : Bool). t && leb x most) (le-leb 0 x (omega arith))
 
--- the test of the word is those of its octets, the two that are not used first
+-- the test of the word is those of its octets, the two of the chain first
 pub short-word : (m : List ℕ) → 56 ≤ length m → (atMost (part m 48 8) mosts && atMost leasts (part m 48 8)) ≡ all (shortTests m)
 short-word m h =
     let tests = rangeTests m 48 leasts mosts in
     ranges-all m 48 leasts mosts refl h
     ∙ all-swap (take 6 tests) (drop 6 tests)
-    ∙ (λ i. all (only-none (getD m 54 0) i ∷ only-none (getD m 55 0) i ∷ take 6 tests))
+    ∙ (λ i. all (only-most (getD m 54 0) 17 i ∷ only-most (getD m 55 0) 127 i ∷ take 6 tests))
 
 -- ---- what the test says
 

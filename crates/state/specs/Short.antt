@@ -1,10 +1,9 @@
 -- Short lengths: what the damage check looks at before it goes through the lengths one by one. No promise above it mentions them.
 use Prim.Native.Nat.{ℕ}
 use mathlib.Core.Bool.{Bool}
-use mathlib.Core.List.{List, [], _∷_}
-use lib.Dec.{eqb}
+use mathlib.Core.List.{List, [], _∷_, _++_}
 use lib.ListN.{getD}
-use Rattle.state.specs.Well.{within}
+use Rattle.state.specs.Well.{within, chainTests}
 
 -- the longest of them: all six lengths 88 end at 1,536, the length of the shortest memory
 abbrev pub shortLength : ℕ
@@ -18,12 +17,10 @@ shortEnd = 1536
 abbrev pub lastEnd : ℕ
 lastEnd = 4096
 
--- the word of the lengths where all of them are short
+-- the word of the lengths where all of them are short, with the chain
 abbrev pub shortTests : List ℕ → List Bool
 shortTests m =
-    eqb (getD m 54 0) 0
-    ∷ eqb (getD m 55 0) 0
-    ∷ within 1 (getD m 48 0) shortLength
+    chainTests m ++ within 1 (getD m 48 0) shortLength
     ∷ within 1 (getD m 49 0) shortLength
     ∷ within 7 (getD m 50 0) shortLength
     ∷ within 1 (getD m 51 0) shortLength

@@ -11,6 +11,7 @@ use Rattle.octets.specs.Part.{pasted}
 use Rattle.telegram.specs.Reading.{off}
 use Rattle.telegram.specs.Sending.{empty}
 use Rattle.state.specs.declared.setup.Setup.{Setup}
+use Rattle.state.specs.declared.control.Chain.{Chain}
 use Rattle.state.specs.declared.control.Control.{Control}
 use Rattle.state.specs.declared.control.Phase.the-variants.{WaitPrm}
 use Rattle.state.specs.declared.state.State.{State}
@@ -53,6 +54,10 @@ asked s =
 abbrev pub noOwner : ℕ
 noOwner = 255
 
+-- no request that a telegram could repeat: 127 is no master's address (document 02, Req 04)
+abbrev pub noChain : Chain
+noChain = record { master = 127; fcb = false; drawn = Nothing }
+
 -- "enters WAIT_PRM without publishing, no owner, nothing new or shown, diagnosis count 6, no flags, no events"
 abbrev pub firstControl : Control
 firstControl =
@@ -76,6 +81,7 @@ firstControl =
       noted = false;
       diagnosis = record { count = 6; «delayed_count» = 0; «delayed_flags» = 0 };
       modes = record { sync = false; freeze = false; «sync_allowed» = false; «freeze_allowed» = false };
+      chain = noChain;
     }
 
 -- nothing shown, nothing waits

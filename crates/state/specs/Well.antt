@@ -1,7 +1,7 @@
 -- Which octets are the image of a sound state: tests of the octets alone.
 use Prim.Native.Nat.{ℕ, suc}
 use mathlib.Core.Bool.{Bool, true, cond, _&&_, _||_}
-use mathlib.Core.List.{List, [], _∷_}
+use mathlib.Core.List.{List, [], _∷_, _++_}
 use lib.Dec.{leb, eqb}
 use lib.ListN.{getD}
 use Rattle.state.specs.declared.setup.Setup.{Setup}
@@ -46,9 +46,13 @@ lengthTests s =
     ∷ within 1 (s .«get_cfg_len») 244
     ∷ []
 
--- the word of the lengths, octets 48 to 55: six lengths, and two octets that are not used
+-- the chain, octets 54 and 55: what its request drew with the frame count bit, and the master
+abbrev pub chainTests : List ℕ → List Bool
+chainTests m = leb (getD m 54 0) 17 ∷ leb (getD m 55 0) 127 ∷ []
+
+-- the word of the lengths, octets 48 to 55: the chain and six lengths
 abbrev pub lengthsTests : List ℕ → List Bool
-lengthsTests m = eqb (getD m 54 0) 0 ∷ eqb (getD m 55 0) 0 ∷ lengthTests (setupIn m 0)
+lengthsTests m = chainTests m ++ lengthTests (setupIn m 0)
 
 -- the counts of a delayed diagnosis and of the sets that are shown and that wait, octets 57 to 61; two octets are not used
 abbrev pub setTests : List ℕ → List Bool

@@ -11,6 +11,7 @@ use Rattle.state.specs.declared.control.Watchdog.{Watchdog}
 use Rattle.state.specs.declared.control.Flags.{Flags}
 use Rattle.state.specs.declared.control.Diagnosis.{Diagnosis}
 use Rattle.state.specs.declared.control.Modes.{Modes}
+use Rattle.state.specs.declared.control.Chain.{Chain}
 use Rattle.state.specs.declared.control.Control.{Control}
 use Rattle.state.specs.declared.state.Outputs.{Outputs}
 use Rattle.state.specs.declared.state.Sets.{Sets}
@@ -74,8 +75,8 @@ withOutline s r =
     withReply s (record { drawn = r .drawn; sender = s .reply .sender; place = r .place; header = r .header })
 
 -- a control part of its parts
-abbrev pub controlOf : Phase → ℕ → ℕ → ℕ → Watchdog → Flags → Events → Bool → Diagnosis → Modes → Control
-controlOf phase owner group stored watchdog flags events noted diagnosis modes =
+abbrev pub controlOf : Phase → ℕ → ℕ → ℕ → Watchdog → Flags → Events → Bool → Diagnosis → Modes → Chain → Control
+controlOf phase owner group stored watchdog flags events noted diagnosis modes chain =
     record {
       phase = phase;
       owner = owner;
@@ -87,21 +88,22 @@ controlOf phase owner group stored watchdog flags events noted diagnosis modes =
       noted = noted;
       diagnosis = diagnosis;
       modes = modes;
+      chain = chain;
     }
 
--- with the control part but for the events and the ticks that remain
+-- with the control part but for the events, the ticks that remain and the chain
 abbrev pub withStanding : State → Control → State
 withStanding s c =
     withControl s
     (controlOf (c .phase) (c .owner) (c .group) (c .stored)
     (record { reload = c .watchdog .reload; remaining = s .control .watchdog .remaining }) (c .flags) (s .control .events) (c .noted) (c .diagnosis)
-    (c .modes))
+    (c .modes) (s .control .chain))
 
 -- with the events
 abbrev pub withEventWord : State → Events → State
 withEventWord s x =
     let c = s .control in
-    withControl s (controlOf (c .phase) (c .owner) (c .group) (c .stored) (c .watchdog) (c .flags) x (c .noted) (c .diagnosis) (c .modes))
+    withControl s (controlOf (c .phase) (c .owner) (c .group) (c .stored) (c .watchdog) (c .flags) x (c .noted) (c .diagnosis) (c .modes) (c .chain))
 
 -- with the ticks that remain of the watchdog
 abbrev pub withTicks : State → ℕ → State
@@ -109,4 +111,11 @@ withTicks s n =
     let c = s .control in
     withControl s
     (controlOf (c .phase) (c .owner) (c .group) (c .stored) (record { reload = c .watchdog .reload; remaining = n }) (c .flags) (c .events) (c .noted)
-    (c .diagnosis) (c .modes))
+    (c .diagnosis) (c .modes) (c .chain))
+
+-- with the last request that a repeat is told by
+abbrev pub withChain : State → Chain → State
+withChain s x =
+    let c = s .control in
+    withControl s
+    (controlOf (c .phase) (c .owner) (c .group) (c .stored) (c .watchdog) (c .flags) (c .events) (c .noted) (c .diagnosis) (c .modes) x)

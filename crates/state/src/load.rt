@@ -1,4 +1,5 @@
 // The octets of a memory read straight as a state, as a whole or a part of it alone.
+use crate::control::Chain;
 use crate::control::Control;
 use crate::control::Diagnosis;
 use crate::control::Flags;
@@ -126,6 +127,19 @@ pub fn noted(mem: &[u8]) -> bool
     mem[3] / 4 % 2 == 1
 }
 
+// The last request that a repeat is told by.
+pub fn chain(mem: &[u8]) -> Chain
+    requires { ⌜ stateLength ≤ length (now mem) ⌝ }
+    ensures { λ r. ⌜ r ≡ unpacked (now (mem .entry)) .control .chain ⌝ }
+{
+    let code = mem[54];
+    Chain {
+        master: mem[55],
+        fcb: code % 2 == 1,
+        drawn: drawn_numbered(code / 2),
+    }
+}
+
 // The control part.
 pub fn control(mem: &[u8]) -> Control
     requires { ⌜ stateLength ≤ length (now mem) ⌝ }
@@ -144,6 +158,7 @@ pub fn control(mem: &[u8]) -> Control
         noted: noted(mem),
         diagnosis: diagnosis(mem),
         modes: modes_in(mem[27]),
+        chain: chain(mem),
     }
 }
 

@@ -1,7 +1,9 @@
 // A part of the state packed alone: its octets are written, and no other. Whatever state stands in front of the memory, afterwards it
 // is that state with the part changed.
+use crate::control::Chain;
 use crate::control::Control;
 use crate::image::bit;
+use crate::image::chain_code;
 use crate::image::flags;
 use crate::image::high;
 use crate::image::inputs_code;
@@ -24,7 +26,7 @@ ghost use Prim.Native.Nat.{_≤_};
 ghost use lib.ListN.{length};
 ghost use Rattle.state.specs.Layout.{stateLength};
 ghost use Rattle.state.specs.Memory.{Changes};
-ghost use Rattle.state.specs.With.{withControl, withStanding, withEventWord, withTicks, withOutputs, withInputs, withParameters, withConfiguration, withSwapped, withIncoming, withData, withSender, withOutline, withReply};
+ghost use Rattle.state.specs.With.{withControl, withStanding, withEventWord, withTicks, withChain, withOutputs, withInputs, withParameters, withConfiguration, withSwapped, withIncoming, withData, withSender, withOutline, withReply};
 
 // The telegram that is coming: octets 30 to 41.
 pub fn save_incoming(i: Incoming, mem: &mut [u8])
@@ -117,7 +119,16 @@ pub fn save_ticks(ticks: u16, mem: &mut [u8])
     mem[43] = high(ticks);
 }
 
-// The control part but for the events and the ticks that remain: octets 0 to 3, 21, 26, 27, 44, 45, 56 and 57.
+// The last request that a repeat is told by: octets 54 and 55.
+pub fn save_chain(chain: Chain, mem: &mut [u8])
+    requires { ⌜ stateLength ≤ length (now mem) ⌝ }
+    ensures { λ _. ⌜ Changes (now (mem .entry)) (now (mem .exit)) (λ s. withChain s chain) ⌝ }
+{
+    mem[54] = chain_code(chain);
+    mem[55] = chain.master;
+}
+
+// The control part but for the events, the ticks that remain and the chain: octets 0 to 3, 21, 26, 27, 44, 45, 56 and 57.
 fn save_standing(control: Control, mem: &mut [u8])
     requires { ⌜ stateLength ≤ length (now mem) ⌝ }
     ensures { λ _. ⌜ Changes (now (mem .entry)) (now (mem .exit)) (λ s. withStanding s control) ⌝ }
@@ -138,7 +149,7 @@ fn save_standing(control: Control, mem: &mut [u8])
     mem[57] = control.diagnosis.delayed_count;
 }
 
-// The control part: octets 0 to 5, 21, 26, 27, 42 to 45, 56 and 57.
+// The control part: octets 0 to 5, 21, 26, 27, 42 to 45 and 54 to 57.
 pub fn save_control(control: Control, mem: &mut [u8])
     requires { ⌜ stateLength ≤ length (now mem) ⌝ }
     ensures { λ _. ⌜ Changes (now (mem .entry)) (now (mem .exit)) (λ s. withControl s control) ⌝ }
@@ -146,6 +157,7 @@ pub fn save_control(control: Control, mem: &mut [u8])
     save_standing(control, mem);
     save_events(control.events, mem);
     save_ticks(control.watchdog.remaining, mem);
+    save_chain(control.chain, mem);
 }
 
 // The output set: octets 22 and 29.

@@ -1,5 +1,6 @@
 // Start: what it asks of a setup, the first state, and what it leaves.
 use crate::answer::Refusal;
+use crate::control::Chain;
 use crate::control::Control;
 use crate::control::Diagnosis;
 use crate::control::Flags;
@@ -90,7 +91,7 @@ pub fn setup_of(
     })
 }
 
-// WAIT_PRM, no owner, no flags, no events, diagnosis count 6.
+// WAIT_PRM, no owner, no flags, no events, diagnosis count 6, no chain.
 fn first_control() -> Control
     ensures { λ r. ⌜ r ≡ firstControl ⌝ }
 {
@@ -125,6 +126,7 @@ fn first_control() -> Control
             sync_allowed: false,
             freeze_allowed: false,
         },
+        chain: Chain::none(),
     }
 }
 

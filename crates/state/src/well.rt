@@ -114,20 +114,20 @@ pub fn well_unused(mem: &[u8]) -> bool
     checks::nothing_in(mem, layout::USED_LENGTH)
 }
 
-// The lengths, where all of them are short.
+// The lengths, where all of them are short, and the chain, which shares their word.
 pub fn short_lengths(mem: &[u8]) -> bool
     requires { ⌜ stateLength ≤ length (now mem) ⌝ }
     ensures { λ r. ⌜ r ≡ all (shortTests (now (mem .entry))) ⌝ }
 {
-    checks::word_between(mem, 48, 0x0000_0106_0107_0101, 0x0000_5858_5858_5858)
+    checks::word_between(mem, 48, 0x0000_0106_0107_0101, 0x7f11_5858_5858_5858)
 }
 
-// The lengths, one by one.
+// The chain and the lengths, one by one.
 pub fn well_lengths(mem: &[u8]) -> bool
     requires { ⌜ stateLength ≤ length (now mem) ⌝ }
     ensures { λ r. ⌜ r ≡ all (lengthsTests (now (mem .entry))) ⌝ }
 {
-    if !((mem[54] == 0) & (mem[55] == 0)) {
+    if !((mem[54] <= 17) & (mem[55] <= 127)) {
         return false;
     }
     if !within(1, mem[48], 244) {

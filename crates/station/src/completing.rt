@@ -1,6 +1,6 @@
 // The last octet of a telegram over the memory that holds the state, where nothing waits for the end of the line's business. A good
 // Data_Exchange, which nearly every telegram to the station is, a telegram that does not act, which is nearly every other one on the
-// line, and Slave_Diag, which a master sends more often than the rest, have ways of their own.
+// line, Slave_Diag, which a master sends more often than the rest, and a repeat, which changes next to nothing, have ways of their own.
 use crate::reading::prm_at;
 use crate::reading::request_by;
 use crate::replies::draw;
@@ -23,12 +23,16 @@ use rules::requests::acts;
 use rules::requests::function_service;
 use rules::requests::master_of;
 use rules::requests::refilled;
+use rules::retries::chain_by;
+use rules::retries::chained;
+use rules::retries::repeats;
 use rules::services::exchanges;
-use rules::services::serve;
+use rules::services::outcome_by;
 use rules::services::slave_diag;
 use state::control::Control;
 use state::layout::parameters_at;
 use state::load;
+use state::saving::save_chain;
 use state::saving::save_control;
 use state::saving::save_events;
 use state::saving::save_incoming;
@@ -73,7 +77,7 @@ fn outcome_in(mem: &[u8], r: Request, service: Service) -> Outcome
 {
     let setup = load::setup(mem);
     let incoming = load::incoming(mem);
-    let control = refilled(setup, load::control(mem), r);
+    let control = load::control(mem);
     let outputs = load::outputs(mem);
     let occupied = Occupied {
         parameters: is_open(load::parameters(mem)),
@@ -85,7 +89,7 @@ fn outcome_in(mem: &[u8], r: Request, service: Service) -> Outcome
         first: incoming.first,
         second: incoming.second,
     };
-    serve(service, setup, control, occupied, r, octets)
+    outcome_by(service, setup, control, occupied, r, octets)
 }
 
 // An outcome carried out, the telegram read to its end, and the reply drawn.
@@ -165,6 +169,7 @@ fn exchange(mem: &mut [u8], i: Incoming, r: Request)
     save_incoming(i, mem);
     save_events(announced(deed, control.events), mem);
     save_ticks(control.watchdog.remaining, mem);
+    save_chain(chain_by(r, Drawn::Exchange), mem);
     save_outputs(outputs, mem);
     save_inputs(inputs, mem);
     save_reply(reply, mem);
@@ -176,7 +181,8 @@ fn diagnose(mem: &mut [u8], i: Incoming, r: Request)
     ensures { λ _. ⌜ now (mem .exit) ≡ completedBy (now (mem .entry)) i r ⌝ }
 {
     let setup = load::setup(&mem[..]);
-    let o = slave_diag(refilled(setup, load::control(&mem[..]), r), r);
+    let control = refilled(setup, load::control(&mem[..]), r);
+    let o = chained(setup, r, slave_diag(control, r));
     let outputs = load::outputs(&mem[..]);
     let reply = draw(
         Drawn::Diagnosis,
@@ -190,7 +196,23 @@ fn diagnose(mem: &mut [u8], i: Incoming, r: Request)
     save_reply(reply, mem);
 }
 
-// A telegram that acts, by the service that it asks for.
+// A repeat draws the reply again: of the station's own parts it changes the owner's watchdog alone.
+fn repeat(mem: &mut [u8], i: Incoming, r: Request)
+    requires { ⌜ (Holds (now mem) (unpacked (now mem))) × (isRepeat (unpacked (now mem) .setup) (unpacked (now mem) .control) r ≡ true) ⌝ }
+    ensures { λ _. ⌜ now (mem .exit) ≡ completedBy (now (mem .entry)) i r ⌝ }
+{
+    let setup = load::setup(&mem[..]);
+    let control = refilled(setup, load::control(&mem[..]), r);
+    let chain = control.chain;
+    let drawn = chain.drawn;
+    let outputs = load::outputs(&mem[..]);
+    let reply = draw(drawn, setup, control, outputs.set.held(), master_of(r));
+    save_incoming(i, mem);
+    save_ticks(control.watchdog.remaining, mem);
+    save_reply(reply, mem);
+}
+
+// A telegram that acts and is no repeat, by the service that it asks for.
 fn apply(mem: &mut [u8], i: Incoming, r: Request, service: Service)
     requires { ⌜ (Holds (now mem) (unpacked (now mem))) × (service ≡ serviceOf (unpacked (now mem) .setup) r) ⌝ }
     ensures { λ _. ⌜ now (mem .exit) ≡ completedBy (now (mem .entry)) i r ⌝ }
@@ -233,6 +255,10 @@ pub fn complete(mem: &mut [u8], i: Incoming)
     let r = request_by(reader);
     if !acts(load::setup(&mem[..]), r) {
         pass_by(mem, i, r);
+        return;
+    }
+    if repeats(load::chain(&mem[..]), r) {
+        repeat(mem, i, r);
         return;
     }
     apply(mem, i, r, function_service(r));

@@ -10,9 +10,8 @@ use rules::request::Occupied;
 use rules::request::Prm;
 use rules::request::Request;
 use rules::requests::master_of;
-use rules::requests::refilled;
 use rules::requests::service_of;
-use rules::services::serve;
+use rules::services::outcome_by;
 use state::layout::configuration_at;
 use state::layout::outputs_at;
 use state::layout::parameters_at;
@@ -163,7 +162,7 @@ fn outcome_of(s: State, mem: &[u8], r: Request) -> Outcome
     let setup = s.setup;
     let incoming = s.incoming;
     let service = service_of(setup, r);
-    let control = refilled(setup, s.control, r);
+    let control = s.control;
     let occupied = Occupied {
         parameters: is_open(s.parameters),
         configuration: is_open(s.configuration),
@@ -174,7 +173,7 @@ fn outcome_of(s: State, mem: &[u8], r: Request) -> Outcome
         first: incoming.first,
         second: incoming.second,
     };
-    serve(service, setup, control, occupied, r, octets)
+    outcome_by(service, setup, control, occupied, r, octets)
 }
 
 // An outcome carried out, and the reply drawn.

@@ -4,7 +4,7 @@ use native.Mathlib.Omega.{arith}
 use mathlib.Core.Path.{_≡_, refl}
 use mathlib.Core.Bool.{Bool, true, false, not, _&&_}
 use mathlib.Core.List.{List}
-use mathlib.Core.Logic.{inl, inr}
+use mathlib.Core.Logic.{inl, inr, ⊎-elim}
 use lib.Dec.{leb}
 use borrow.Author.Tests.{leb-true, eqb-false, not-true, not-false}
 use Rattle.buffers.specs.Roles as role
@@ -57,10 +57,10 @@ SoundTold t = Sound (t .state)
 
 -- ---- an outcome carried out
 
-sound-carried : {Given Held Moved Clear : Type 0} {At : ℕ → Type 0} {o : Outcome} (s : State) (m : List ℕ) (count : ℕ) → Sound s
-    → Lawful (s .setup) (s .control) count Given Held Moved Clear At o → SoundStep (carried s m o count)
+sound-carried : {Given Held Asked Clear : Type 0} {At : ℕ → Type 0} {o : Outcome} (s : State) (m : List ℕ) (count : ℕ) → Sound s
+    → Lawful (s .setup) (s .control) count Given Held Asked Clear At o → SoundStep (carried s m o count)
 unfolding carried
-sound-carried {Given} {Held} {Moved} {Clear} {At} {o} s m count h w =
+sound-carried {Given} {Held} {Asked} {Clear} {At} {o} s m count h w =
     record {
       setup = h .setup;
       outputs = outputs-permute (o .outputs) (s .outputs) (h .outputs);
@@ -70,6 +70,7 @@ sound-carried {Given} {Held} {Moved} {Clear} {At} {o} s m count h w =
       parameter-counts = sets-counts 7 (s .setup .«parameter_len») (omega arith) _ count (λ v. v .1) (o .parameters) (s .parameters) (w .parameters-come) (h .parameter-counts);
       configuration-counts = sets-counts 1 (s .setup .«configuration_len») (omega arith) _ count (λ v. v .1) (o .configuration) (s .configuration) (w .configuration-come) (h .configuration-counts);
       diagnosis-counts = rw (w .counts-stay) (h .diagnosis-counts);
+      chain-master = ⊎-elim (λ e. rw e (h .chain-master)) (λ x. x .1) (w .chain-comes);
       reading = h .reading;
       sending = h .sending;
       place = h .place;
@@ -93,6 +94,7 @@ sound-after-reply s h = by-test Sound (delayed (s .control) && not (diagnosisLea
           delayed = inl refl;
           flags = omega arith;
         })
+        refl
 
 sound-settle : (s : State) (m : List ℕ) → Sound s → SoundStep (settle s m)
 unfolding settle
@@ -185,8 +187,8 @@ module _ (s : State) (m : List ℕ) (h : Sound s) where
       by-test SoundTold (not (within 6 count len && leb flags 7)) _ _ (λ _. h)
       (λ e. either SoundTold (delayed (s .control)) h
       (either SoundTold (diagnosisLeaves s)
-      (sound-control s h (delaying (s .control) count flags) (s .swapped) (record { count = h .diagnosis-counts .count; delayed = inr (fits e); flags = bits e }))
-      (sound-control s h (diagnosed (s .control) count flags) (not (s .swapped)) (record { count = fits e; delayed = inl refl; flags = omega arith }))))
+      (sound-control s h (delaying (s .control) count flags) (s .swapped) (record { count = h .diagnosis-counts .count; delayed = inr (fits e); flags = bits e }) refl)
+      (sound-control s h (diagnosed (s .control) count flags) (not (s .swapped)) (record { count = fits e; delayed = inl refl; flags = omega arith }) refl)))
     where
       len : ℕ
       len = s .setup .«diagnosis_len»
@@ -216,7 +218,7 @@ module _ (s : State) (m : List ℕ) (h : Sound s) where
       either SoundTold (not (isOpen (s .configuration) && s .control .flags .«parameters_good»)) h
       (either SoundTold (not (leb j 1)) h (sound-quiet s m h (configuration-quiet (s .setup) (s .control) _ _ tt)))
   sound-after events = h
-  sound-after (acknowledge mask) = sound-control s h _ (s .swapped) (h .diagnosis-counts)
+  sound-after (acknowledge mask) = sound-control s h _ (s .swapped) (h .diagnosis-counts) refl
   sound-after pending = h
   sound-after leave = sound-quiet s m h (clear-quiet (s .setup) (s .control) (busy s) (λ _. tt))
 

@@ -24,10 +24,10 @@ unfolding waitPrm
 returns c =
     rw (
       c .ended .ensures,
-      c .before .before .before .raise .ensures,
-      c .before .before .before .before .clear2 .ensures,
-      c .before .before .before .before .before .clear .ensures,
-      c .before .before .before .before .before .before .left-exchange .ensures,
+      c .before .before .before .before .raise .ensures,
+      c .before .before .before .before .before .clear2 .ensures,
+      c .before .before .before .before .before .before .clear .ensures,
+      c .before .before .before .before .before .before .before .left-exchange .ensures,
     )
 
 pub wait-prm-spec : {M : Type 1} → statement M

@@ -24,10 +24,10 @@ unfolding parametrized
 returns c =
     rw (
       c .allowed .ensures,
-      c .before .before .before .ticks-of .ensures,
-      c .before .before .before .before .showing .ensures,
-      c .before .before .before .before .before .clear .ensures,
-      c .before .before .before .before .before .before .wait-cfg .ensures,
+      c .before .before .before .before .ticks-of .ensures,
+      c .before .before .before .before .before .showing .ensures,
+      c .before .before .before .before .before .before .clear .ensures,
+      c .before .before .before .before .before .before .before .wait-cfg .ensures,
     )
 
 pub parametrized-spec : {M : Type 1} → statement M

@@ -48,10 +48,14 @@ shared-slice-read-modes-in c = search needs
 modes-in-requires : tie.Need-modes-in-requires
 modes-in-requires c κs = search needs
 
+chain-requires : tie.Need-chain-requires
+chain-requires c κs = search needs
+
 returns : tie.Need-returns
 unfolding unpacked
 returns c =
-    let diagnosed = c .before .before in
+    let moded = c .before in
+    let diagnosed = moded .before .before in
     let noted = diagnosed .before in
     let raised = noted .before in
     let flagged = raised .before in
@@ -69,7 +73,8 @@ returns c =
       events = raised .events .ensures i;
       noted = noted .noted .ensures i;
       diagnosis = diagnosed .diagnosis .ensures i;
-      modes = c .modes-in .ensures i;
+      modes = moded .modes-in .ensures i;
+      chain = c .chain .ensures i;
     }
 
 pub control-spec : {M : Type 1} → statement M
@@ -90,4 +95,5 @@ control-spec =
     diagnosis-requires
     shared-slice-read-modes-in
     modes-in-requires
+    chain-requires
     returns)

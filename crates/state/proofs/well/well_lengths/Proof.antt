@@ -3,7 +3,7 @@ use Prim.Native.Nat.{ℕ}
 use mathlib.Core.Path.{sym, ap, _∙_}
 use mathlib.Core.Bool.{Bool, _&&_, not}
 use mathlib.Core.List.{List, _∷_}
-use lib.Dec.{eqb}
+use lib.Dec.{leb}
 use lib.ListN.{getD}
 use denote.Ref.{now}
 use borrow.Author.Tests.{not-true}
@@ -14,9 +14,9 @@ use borrow.Author.Needs.{needs}
 use Rattle.state.proofs.well.well_lengths.Statement.{statement}
 use Rattle.state.proofs.well.well_lengths.Tie as tie
 
--- the tests, the two octets that are not used in one
+-- the tests, the two of the chain in one
 abbrev tests : List ℕ → List Bool
-tests m = (eqb (getD m 54 0) 0 && eqb (getD m 55 0) 0) ∷ lengthTests (setupIn m 0)
+tests m = (leb (getD m 54 0) 17 && leb (getD m 55 0) 127) ∷ lengthTests (setupIn m 0)
 
 shared-slice-read-if1 : tie.Need-shared-slice-read-if1
 shared-slice-read-if1 c = search needs

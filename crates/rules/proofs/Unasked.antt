@@ -1,0 +1,83 @@
+-- What is no request: a telegram with function 4 or 6, or one that does not act. It asks for nothing or is a Global_Control, and changes no set.
+use Prim.Native.Nat.{ℕ}
+use native.Mathlib.Omega.{arith}
+use mathlib.Core.Path.{_≡_, refl, sym, _∙_}
+use mathlib.Core.Bool.{true, false, not, _||_}
+use mathlib.Core.Logic.{_⊎_, inl, inr}
+use lib.Dec.{eqb}
+use borrow.Author.Tests.{eqb-true, ne-eqb, not-false}
+use Rattle.telegram.proofs.Run.{no-true}
+use Rattle.state.specs.declared.setup.Setup.{Setup}
+use Rattle.state.specs.declared.control.Control.{Control}
+use Rattle.state.proofs.Choice.{by-test, either, or-either, and-second}
+use Rattle.rules.specs.declared.request.Request.{Request}
+use Rattle.rules.specs.declared.request.Data.{Data}
+use Rattle.rules.specs.declared.request.Occupied.{Occupied}
+use Rattle.rules.specs.declared.request.Service.{Service}
+use Rattle.rules.specs.declared.request.Service.the-variants.{Nothing, Status, Reject, GlobalControl, DataExchange, SetPrm, ChkCfg, SlaveDiag, GetCfg, ReadInputs, ReadOutputs}
+use Rattle.rules.specs.declared.outcome.SetDeed.the-variants as set-deed
+use Rattle.rules.specs.declared.outcome.Outcome.{Outcome}
+use Rattle.rules.specs.Requests.{functionOf, wantsAcknowledgement, wantsNone, globalForm, acts, functionService, serviceOf}
+use Rattle.rules.specs.Retries.{isRequest}
+use Rattle.rules.specs.Services.{controls, globalControl, serve}
+
+-- nothing, or Global_Control
+abbrev Unasked : Service → Type 0
+Unasked Nothing = Unit
+Unasked Status = ⊥
+Unasked Reject = ⊥
+Unasked GlobalControl = Unit
+Unasked DataExchange = ⊥
+Unasked SetPrm = ⊥
+Unasked ChkCfg = ⊥
+Unasked SlaveDiag = ⊥
+Unasked GetCfg = ⊥
+Unasked ReadInputs = ⊥
+Unasked ReadOutputs = ⊥
+
+-- no set changes
+abbrev pub SetsStay : Outcome → Type 0
+SetsStay o = (o .parameters ≡ set-deed.Keep) × (o .configuration ≡ set-deed.Keep)
+
+-- functions 4 and 6 are no other
+other-function : (f n : ℕ) → eqb f 4 || eqb f 6 ≡ true → (n ≡ 4 → ⊥) → (n ≡ 6 → ⊥) → eqb f n ≡ false
+other-function f n e x y = go (or-either (eqb f 4) (eqb f 6) e)
+  where
+    go : (eqb f 4 ≡ true) ⊎ (eqb f 6 ≡ true) → eqb f n ≡ false
+    go (inl h) = ne-eqb f n (λ z. x (sym z ∙ eqb-true f 4 h))
+    go (inr h) = ne-eqb f n (λ z. y (sym z ∙ eqb-true f 6 h))
+
+module _ (g : Setup) (r : Request) where
+  function-unasked : wantsNone r ≡ true → Unasked (functionService r)
+  function-unasked e =
+      let f = functionOf r in
+      let no-status = other-function f 9 e (λ z. omega arith) (λ z. omega arith) in
+      let no-3 = other-function f 3 e (λ z. omega arith) (λ z. omega arith) in
+      let no-5 = other-function f 5 e (λ z. omega arith) (λ z. omega arith) in
+      by-test Unasked (eqb f 9) _ _ (λ h. no-true (sym no-status ∙ h))
+      (λ _. by-test Unasked (wantsAcknowledgement r) _ _ (λ h. no-true ((λ i. sym no-3 i || sym no-5 i) ∙ h))
+      (λ _. by-test Unasked (wantsNone r) _ _ (λ _. either Unasked (globalForm r) tt tt) (λ h. no-true (sym h ∙ e))))
+
+  service-unasked : isRequest g r ≡ false → Unasked (serviceOf g r)
+  unfolding serviceOf
+  service-unasked e =
+      by-test Unasked (acts g r) _ _ (λ h. function-unasked (not-false (wantsNone r) (and-second (acts g r) (not (wantsNone r)) e h))) (λ _. tt)
+
+module _ (g : Setup) (c : Control) (b : Occupied) (r : Request) (octets : Data) where
+  serve-stays : (v : Service) → Unasked v → SetsStay (serve v g c b r octets)
+  unfolding globalControl
+  serve-stays Nothing h = (refl, refl)
+  serve-stays Status h = absurd h
+  serve-stays Reject h = absurd h
+  serve-stays GlobalControl h = either SetsStay (controls c r (octets .second)) (refl, refl) (refl, refl)
+  serve-stays DataExchange h = absurd h
+  serve-stays SetPrm h = absurd h
+  serve-stays ChkCfg h = absurd h
+  serve-stays SlaveDiag h = absurd h
+  serve-stays GetCfg h = absurd h
+  serve-stays ReadInputs h = absurd h
+  serve-stays ReadOutputs h = absurd h
+
+  -- what is no request changes no set
+  pub unasked-stays : isRequest g r ≡ false → SetsStay (serve (serviceOf g r) g c b r octets)
+  unasked-stays e = serve-stays (serviceOf g r) (service-unasked g r e)

@@ -1,0 +1,67 @@
+-- Retries (document 02, Req 04): which telegrams are requests, which of them repeat the request before, and what a repeat does.
+use mathlib.Core.Bool.{Bool, cond, not, _&&_}
+use lib.Dec.{eqb}
+use Rattle.state.specs.declared.setup.Setup.{Setup}
+use Rattle.state.specs.declared.control.Chain.{Chain}
+use Rattle.state.specs.declared.control.Control.{Control}
+use Rattle.state.specs.declared.state.Drawn.{Drawn}
+use Rattle.state.specs.Start.{noChain}
+use Rattle.rules.specs.declared.request.Request.{Request}
+use Rattle.rules.specs.declared.outcome.Outcome.{Outcome}
+use Rattle.rules.specs.Control.{bit, withChain}
+use Rattle.rules.specs.Phases.{drawing}
+use Rattle.rules.specs.Requests.{masterOf, wantsNone, acts, refilled}
+
+-- every telegram that acts, but "Telegrams with function 4 or 6, so every Global_Control, are no requests here"
+abbrev pub isRequest : Setup → Request → Bool
+isRequest s r = acts s r && not (wantsNone r)
+
+-- "FC bit 4 says that bit 5 counts" (frame count bit valid)
+abbrev pub fcvOf : Request → Bool
+fcvOf r = bit (r .fc) 4
+
+-- bit 5, the frame count bit
+abbrev pub fcbOf : Request → Bool
+fcbOf r = bit (r .fc) 5
+
+-- both set, or neither
+abbrev pub same : Bool → Bool → Bool
+same a b = cond a b (not b)
+
+-- a request "with bit 4 set, the same SA (low 7 bits) and the same bit 5" as the last one
+abbrev pub repeats : Chain → Request → Bool
+repeats h r = not (wantsNone r) && fcvOf r && eqb (masterOf r) (h .master) && same (fcbOf r) (h .fcb)
+
+-- the telegram acts, and is one
+abbrev pub isRepeat : Setup → Control → Request → Bool
+isRepeat s c r = acts s r && repeats (c .chain) r
+
+-- what a later request is compared with after one that is no repeat and drew d: itself, or nothing, since "An acting request with bit 4
+-- clear ends the chain"
+abbrev pub chainBy : Request → Drawn → Chain
+chainBy r d = cond (fcvOf r) (record { master = masterOf r; fcb = fcbOf r; drawn = d }) noChain
+
+-- the same after any telegram that is no repeat: what is no request leaves the chain as it is
+abbrev pub chainAfter : Setup → Chain → Request → Drawn → Chain
+chainAfter s h r d = cond (isRequest s r) (chainBy r d) h
+
+-- an outcome with another chain
+abbrev pub onChain : Outcome → Chain → Outcome
+onChain o h =
+    record {
+      control = withChain (o .control) h;
+      outputs = o .outputs;
+      inputs = o .inputs;
+      parameters = o .parameters;
+      configuration = o .configuration;
+      drawn = o .drawn;
+    }
+
+-- with the chain after it
+abbrev pub chained : Setup → Request → Outcome → Outcome
+chained s r o = onChain o (chainAfter s (o .control .chain) r (o .drawn))
+
+-- "A repeat changes nothing, but the owner's refills the watchdog", and it draws what the earlier request drew: the reply of that service,
+-- formed "from the buffers and state as they then stand, without RS for phase or owner", or E5, RS or nothing
+abbrev pub repeated : Setup → Control → Request → Outcome
+repeated s c r = drawing (refilled s c r) (c .chain .drawn)

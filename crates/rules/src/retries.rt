@@ -1,0 +1,77 @@
+// Retries: which telegrams are requests, which of them repeat the request before, and what a repeat does.
+use crate::outcome::Outcome;
+use crate::phases::drawing;
+use crate::request::Request;
+use crate::requests::acts;
+use crate::requests::master_of;
+use crate::requests::refilled;
+use state::control::Chain;
+use state::control::Control;
+use state::setup::Setup;
+use state::state::Drawn;
+ghost use mathlib.Core.Bool.{not};
+ghost use mathlib.Core.Path.{_≡_};
+ghost use Rattle.rules.specs.Requests.{wantsNone};
+ghost use Rattle.rules.specs.Retries.{same, repeats, chainBy, chained, repeated};
+
+// Not functions 4 and 6, which are sent without a reply.
+fn wants_reply(r: Request) -> bool
+    ensures { λ b. ⌜ b ≡ not (wantsNone r) ⌝ }
+{
+    let function = r.fc % 16;
+    !((function == 4) | (function == 6))
+}
+
+// Both set, or neither.
+fn same(a: bool, b: bool) -> bool
+    ensures { λ r. ⌜ r ≡ same a b ⌝ }
+{
+    if a { b } else { !b }
+}
+
+// A request with bit 4 set, the master and the frame count bit of the last one.
+pub fn repeats(chain: Chain, r: Request) -> bool
+    ensures { λ b. ⌜ b ≡ repeats chain r ⌝ }
+{
+    let wanted = wants_reply(r);
+    let master = master_of(r);
+    wanted & (r.fc / 16 % 2 == 1) & (master == chain.master) & same(r.fc / 32 % 2 == 1, chain.fcb)
+}
+
+// What a later request is compared with after one that is no repeat: itself, or nothing where bit 4 is clear.
+pub fn chain_by(r: Request, drawn: Drawn) -> Chain
+    ensures { λ h. ⌜ h ≡ chainBy r drawn ⌝ }
+{
+    if r.fc / 16 % 2 == 1 {
+        return Chain {
+            master: master_of(r),
+            fcb: r.fc / 32 % 2 == 1,
+            drawn,
+        };
+    }
+    Chain::none()
+}
+
+// An outcome with the chain after it: what is no request leaves the chain as it is.
+pub fn chained(setup: Setup, r: Request, mut o: Outcome) -> Outcome
+    ensures { λ x. ⌜ x ≡ chained setup r o ⌝ }
+{
+    if acts(setup, r) & wants_reply(r) {
+        let drawn = o.drawn;
+        let chain = chain_by(r, drawn);
+        let mut control = o.control;
+        control.chain = chain;
+        o.control = control;
+        return o;
+    }
+    o
+}
+
+// A repeat changes nothing but the owner's watchdog, and draws what the earlier request drew.
+pub fn repeated(setup: Setup, control: Control, r: Request) -> Outcome
+    ensures { λ o. ⌜ o ≡ repeated setup control r ⌝ }
+{
+    let chain = control.chain;
+    let drawn = chain.drawn;
+    drawing(refilled(setup, control, r), drawn)
+}
