@@ -14,12 +14,13 @@ use Rattle.telegram.specs.Reading.{start, off, readerAfter, status, datumOf}
 use Rattle.telegram.specs.Sending.{left, sent}
 use Rattle.telegram.proofs.Run.{no-true}
 use Rattle.state.specs.declared.answer.Refusal.the-variants.{Judging, Range, Absent, Delayed}
-use Rattle.state.specs.declared.control.Chain.{Chain}
+use Rattle.state.specs.declared.chain.Chain.{Chain}
 use Rattle.state.specs.declared.control.Control.{Control}
 use Rattle.state.specs.declared.setup.Setup.{Setup}
 use Rattle.state.specs.declared.state.Reply.{Reply}
 use Rattle.state.specs.declared.state.State.{State}
 use Rattle.rules.specs.declared.outcome.Outcome.{Outcome}
+use Rattle.state.specs.Chain.{drawnIn}
 use Rattle.state.specs.Well.{within}
 use Rattle.rules.specs.Control.{inExchange}
 use Rattle.rules.specs.Diagnosis.{delayed, diagnosed, delaying, caughtUp}
@@ -52,10 +53,10 @@ use Rattle.steps.proofs.OutcomeServed.{outcome-served}
 
 -- an outcome without data that spares the reply leaves no DATA_EXCH under it, and no chain
 quiet-allows : {g : Setup} {c : Control} {o : Outcome} (r : Reply) → Quiet g c (Spared r) o → Allows c r → Allows (o .control) r
-quiet-allows {g} {c} {o} r q f w h = ⊎-elim inside linked (or-either (inExchange c) (isOutputs (c .chain .drawn)) (f w h))
+quiet-allows {g} {c} {o} r q f w h = ⊎-elim inside linked (or-either (inExchange c) (isOutputs (drawnIn (c .chain))) (f w h))
   where
     after : Bool
-    after = isOutputs (o .control .chain .drawn)
+    after = isOutputs (drawnIn (o .control .chain))
 
     -- DATA_EXCH stays
     inside : inExchange c ≡ true → mayRead (o .control) ≡ true
@@ -66,10 +67,10 @@ quiet-allows {g} {c} {o} r q f w h = ⊎-elim inside linked (or-either (inExchan
         go false l = absurd (subst (Publishes (⊥ × (0 ≡ g .«output_len»)) ⊥ (Spared r)) (q .leaves e l) (q .outputs-come) w h)
 
     -- and so does the chain
-    linked : isOutputs (c .chain .drawn) ≡ true → mayRead (o .control) ≡ true
+    linked : isOutputs (drawnIn (c .chain)) ≡ true → mayRead (o .control) ≡ true
     linked e =
         or-second (inExchange (o .control)) after
-        (⊎-elim (λ s. ap (λ (x : Chain). isOutputs (x .drawn)) s ∙ e) (λ x. absurd (x .0)) (q .chain-comes))
+        (⊎-elim (λ s. ap (λ (x : Chain). isOutputs (drawnIn x)) s ∙ e) (λ x. absurd (x .0)) (q .chain-comes))
 
 -- no reply is allowed everywhere
 none-allowed : (c : Control) → Allows c noReply

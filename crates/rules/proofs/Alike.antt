@@ -4,6 +4,7 @@ use mathlib.Core.Path.{_≡_, refl, ap}
 use mathlib.Core.Bool.{_&&_, _||_}
 use Rattle.state.specs.declared.setup.Setup.{Setup}
 use Rattle.state.specs.declared.control.Control.{Control}
+use Rattle.state.specs.Chain.{drawnIn}
 use Rattle.state.proofs.Choice.{by-test}
 use Rattle.rules.specs.declared.request.Request.{Request}
 use Rattle.rules.specs.Control.{owns, exchanging, inExchange, withWatchdog}
@@ -25,7 +26,7 @@ exchange-same s = ap exchanging (s .phase-same)
 
 -- the held outputs may be drawn with both, or with neither
 pub may-read-same : {c d : Control} → Alike c d → mayRead d ≡ mayRead c
-may-read-same s = λ i. exchanging (s .phase-same i) || isOutputs (s .chain-same i .drawn)
+may-read-same s = λ i. exchanging (s .phase-same i) || isOutputs (drawnIn (s .chain-same i))
 
 -- the watchdog refilled
 pub refilled-alike : (g : Setup) (c : Control) (r : Request) → Alike c (refilled g c r)

@@ -13,7 +13,7 @@ use Rattle.telegram.proofs.Run.{no-true}
 use Rattle.state.specs.declared.setup.Setup.{Setup}
 use Rattle.state.specs.declared.control.Flags.{Flags}
 use Rattle.state.specs.declared.control.Modes.{Modes}
-use Rattle.state.specs.declared.control.Chain.{Chain}
+use Rattle.state.specs.declared.chain.Chain.{Chain}
 use Rattle.state.specs.declared.control.Control.{Control}
 use Rattle.state.specs.declared.state.Drawn.{Drawn}
 use Rattle.state.specs.declared.state.Drawn.the-variants as drawn

@@ -9,7 +9,7 @@ use Rattle.buffers.proofs.Word.{raised-same, raised-other, cleared-same, cleare
 use Rattle.state.specs.declared.setup.Setup.{Setup}
 use Rattle.state.specs.declared.control.Flags.{Flags}
 use Rattle.state.specs.declared.control.Modes.{Modes}
-use Rattle.state.specs.declared.control.Chain.{Chain}
+use Rattle.state.specs.declared.chain.Chain.{Chain}
 use Rattle.state.specs.declared.control.Control.{Control}
 use Rattle.state.specs.declared.state.Drawn.{Drawn}
 use Rattle.state.specs.declared.state.Drawn.the-variants.{Nothing}
@@ -27,6 +27,7 @@ use Rattle.rules.specs.Control.{inExchange, withFlags, clear}
 use Rattle.rules.specs.Modes.{announced}
 use Rattle.rules.specs.Phases.{drawing, leftExchange, left, waitPrm, enteringWaitPrm, waitCfg, dataExch, zerosIfLeft}
 use Rattle.rules.specs.Requests.{refilled, serviceOf}
+use Rattle.state.specs.Chain.{drawnIn}
 use Rattle.rules.specs.Retries.{onChain}
 use Rattle.rules.specs.Services.{showing, parametrized, goodPrm, goodCfg, serve, outcomeBy}
 use Rattle.rules.specs.Line.{clearOn, clearNoted, ticked}
@@ -275,5 +276,5 @@ module _ (opened : Occupied) (waiting : Waiting) where
   telegram-follows g c r octets =
       let k = refilled g c r in
       telegram-cases (λ o. EventsAfter (c .events) opened waiting o) (relinks-follow (c .events)) g c opened r octets
-      (replies-follow c k (c .chain .drawn) (refilled-akin g c r))
+      (replies-follow c k (drawnIn (c .chain)) (refilled-akin g c r))
       (subst (λ (e : Events). EventsAfter e opened waiting (serve (serviceOf g r) g k opened r octets)) (refilled-same g c r .1) (serve-follows g k r octets))

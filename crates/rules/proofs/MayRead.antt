@@ -3,6 +3,7 @@ use mathlib.Core.Bool.{Bool, true, false, _||_}
 use Rattle.state.specs.declared.control.Control.{Control}
 use Rattle.state.specs.declared.state.Drawn.{Drawn}
 use Rattle.state.specs.declared.state.Drawn.the-variants.{Nothing, Acknowledge, Status, Rejected, Exchange, Inputs, Outputs, Configuration, Diagnosis}
+use Rattle.state.specs.Chain.{drawnIn}
 use Rattle.rules.specs.Control.{inExchange}
 
 -- the held outputs are drawn
@@ -19,4 +20,4 @@ isOutputs Diagnosis = false
 
 -- they may be, with this control part
 abbrev pub mayRead : Control → Bool
-mayRead c = inExchange c || isOutputs (c .chain .drawn)
+mayRead c = inExchange c || isOutputs (drawnIn (c .chain))

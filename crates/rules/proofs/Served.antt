@@ -9,11 +9,13 @@ use mathlib.Core.Bool.{Bool, true, false, cond}
 use Rattle.telegram.proofs.Run.{no-true}
 use Rattle.state.specs.declared.setup.Setup.{Setup}
 use Rattle.state.specs.declared.control.Modes.{Modes}
-use Rattle.state.specs.declared.control.Chain.{Chain}
+use Rattle.state.specs.declared.chain.Chain.{Chain}
 use Rattle.state.specs.declared.control.Control.{Control}
 use Rattle.state.specs.declared.state.Drawn.{Drawn}
+use Rattle.state.specs.declared.state.Drawn.the-variants.{Nothing}
 use Rattle.state.specs.Sound.{Within}
-use Rattle.state.specs.Start.{noChain}
+use Rattle.state.specs.Chain.{chainOf, noChain, drawnIn}
+use Rattle.state.proofs.SetCodes.{drawn-in, chain-below}
 use Rattle.state.proofs.Choice.{by-test, either, or-first, or-second, or-either}
 use Rattle.rules.specs.declared.request.Request.{Request}
 use Rattle.rules.specs.declared.request.Data.{Data}
@@ -29,7 +31,7 @@ use Rattle.rules.specs.declared.outcome.Outcome.{Outcome}
 use Rattle.rules.specs.Control.{inExchange}
 use Rattle.rules.specs.Phases.{drawing, left, waitPrm, enteringWaitPrm, waitCfg, dataExch, zerosIfLeft}
 use Rattle.rules.specs.Requests.{masterOf, refilled, serviceOf}
-use Rattle.rules.specs.Retries.{isRequest, fcvOf, fcbOf, isRepeat, chainBy, chainAfter, chained, repeated}
+use Rattle.rules.specs.Retries.{isRequest, fcvOf, fcbOf, onChain, isRepeat, chainBy, chainAfter, chained, repeated}
 use Rattle.rules.specs.Services.{parametrized, goodPrm, goodCfg, serve, outcomeBy}
 use Rattle.rules.specs.Line.{clearOn, clearNoted, ticked}
 use Rattle.rules.specs.User.{changingSets, judgedParameters, judgedConfiguration}
@@ -54,6 +56,10 @@ Receives Given set-deed.Receive = Given
 Receives Given set-deed.Advance = Unit
 Receives Given set-deed.Drop = Unit
 
+-- a chain as a request leaves it
+abbrev pub ChainIn : Chain → Type 0
+ChainIn h = (h .master ≤ 127) × (h .code ≤ 17)
+
 -- what every outcome keeps. There are n data octets; Given: they may be published or held back, Held: what is held back may be published,
 -- Asked: a telegram came, so that new inputs may be brought and the chain may change, Clear: zeros may be published, At: the data octets came
 -- to that service point.
@@ -68,7 +74,7 @@ pub record Lawful (g : Setup) (c : Control) (n : ℕ) (Given Held Asked Clear : 
   -- DATA_EXCH is left only with zeros
   pub leaves : inExchange c ≡ true → inExchange (o .control) ≡ false → o .outputs ≡ outputs-deed.Zeros
   -- only a telegram changes the chain
-  pub chain-comes : (o .control .chain ≡ c .chain) ⊎ (Asked × (o .control .chain .master ≤ 127))
+  pub chain-comes : (o .control .chain ≡ c .chain) ⊎ (Asked × ChainIn (o .control .chain))
 
 module _ {g : Setup} {c : Control} {n : ℕ} {Given Held Asked Clear : Type 0} {At : ℕ → Type 0} where
   -- nothing but a reply
@@ -298,23 +304,23 @@ module _ {g : Setup} {c : Control} {withheld : Bool} {r : Request} {o : Outcome}
 
   -- in DATA_EXCH
   within : inExchange (o .control) ≡ true → Stays
-  within e = let w = v .in-exchange e in (or-first (inExchange c) (isOutputs (c .chain .drawn)) (w .0), w .1, w .2)
+  within e = let w = v .in-exchange e in (or-first (inExchange c) (isOutputs (drawnIn (c .chain))) (w .0), w .1, w .2)
 
   -- a repeat may draw the held outputs if the request drew them
-  by-request : (t : Bool) → isOutputs (cond t (record { master = masterOf r; fcb = fcbOf r; drawn = o .drawn }) noChain .drawn) ≡ true → Stays
-  by-request true e = within (v .draws-within e)
-  by-request false e = no-true e
+  by-request : (t : Bool) → isOutputs (drawnIn (cond t (chainOf (masterOf r) (fcbOf r) (o .drawn)) noChain)) ≡ true → Stays
+  by-request true e = within (v .draws-within (sym (ap isOutputs (drawn-in (masterOf r) (fcbOf r) (o .drawn))) ∙ e))
+  by-request false e = no-true (sym (ap isOutputs (drawn-in 127 false Nothing)) ∙ e)
 
-  by-chain : isOutputs (chainAfter g (o .control .chain) r (o .drawn) .drawn) ≡ true → Stays
+  by-chain : isOutputs (drawnIn (chainAfter g (o .control .chain) r (o .drawn))) ≡ true → Stays
   by-chain =
-      by-test (λ (h : Chain). isOutputs (h .drawn) ≡ true → Stays) (isRequest g r) (chainBy r (o .drawn)) (o .control .chain)
+      by-test (λ (h : Chain). isOutputs (drawnIn h) ≡ true → Stays) (isRequest g r) (chainBy r (o .drawn)) (o .control .chain)
       (λ _. by-request (fcvOf r))
-      (λ f e. (or-second (inExchange c) (isOutputs (c .chain .drawn)) (ap (λ (h : Chain). isOutputs (h .drawn)) (sym same) ∙ e), unasked f .0, unasked f .1))
+      (λ f e. (or-second (inExchange c) (isOutputs (drawnIn (c .chain))) (ap (λ (h : Chain). isOutputs (drawnIn h)) (sym same) ∙ e), unasked f .0, unasked f .1))
 
-  -- a chain has a master's address
-  master-in : (t : Bool) → cond t (record { master = masterOf r; fcb = fcbOf r; drawn = o .drawn }) noChain .master ≤ 127
-  master-in true = let m : masterOf r < 128 = mod-lt (r .sa) (omega arith) in omega arith
-  master-in false = omega arith
+  -- a chain is in its ranges
+  chain-in : (t : Bool) → ChainIn (cond t (chainOf (masterOf r) (fcbOf r) (o .drawn)) noChain)
+  chain-in true = let m : masterOf r < 128 = mod-lt (r .sa) (omega arith) in (omega arith, chain-below (masterOf r) (fcbOf r) (o .drawn))
+  chain-in false = (omega arith, omega arith)
 
   chained-served : Served g c withheld r (chained g r o)
   chained-served = record {
@@ -326,7 +332,7 @@ module _ {g : Setup} {c : Control} {withheld : Bool} {r : Request} {o : Outcome}
       configuration-come = v .lawful .configuration-come;
       leaves = v .lawful .leaves;
       chain-comes =
-          either (λ (h : Chain). (h ≡ c .chain) ⊎ (Unit × (h .master ≤ 127))) (isRequest g r) (inr (tt, master-in (fcvOf r))) (inl same);
+          either (λ (h : Chain). (h ≡ c .chain) ⊎ (Unit × ChainIn h)) (isRequest g r) (inr (tt, chain-in (fcvOf r))) (inl same);
     };
     in-exchange = λ e. ⊎-elim within by-chain (or-either (inExchange (o .control)) _ e);
     draws-within = λ e. or-first (inExchange (o .control)) _ (v .draws-within e);
@@ -340,7 +346,7 @@ repeated-served g c withheld r =
     record {
       lawful = draws a;
       in-exchange = λ e. (sym (may-read-same a) ∙ e, refl, refl);
-      draws-within = λ e. or-second (inExchange (refilled g c r)) _ (ap (λ (h : Chain). isOutputs (h .drawn)) (a .chain-same) ∙ e);
+      draws-within = λ e. or-second (inExchange (refilled g c r)) _ (ap (λ (h : Chain). isOutputs (drawnIn h)) (a .chain-same) ∙ e);
       judges = a .good-same;
     }
 
@@ -351,3 +357,9 @@ served g c b r octets =
     let a = refilled-alike g c r in
     either (Served g c (b .outputs) r) (isRepeat g c r) (repeated-served g c (b .outputs) r)
     (chained-served (served-from a (serve-served g k b r octets)) (serve-chain g k b r octets ∙ a .chain-same) (unasked-stays g k b r octets))
+
+-- ---- the chain
+
+-- an outcome without a telegram leaves the chain, so that one carried out without it is the same
+pub chain-stays : {g : Setup} {c : Control} {Clear : Type 0} {o : Outcome} → Quiet g c Clear o → onChain o (c .chain) ≡ o
+chain-stays {g} {c} {Clear} {o} q = ⊎-elim (λ e. λ i. onChain o (sym e i)) (λ x. absurd (x .0)) (q .chain-comes)

@@ -10,7 +10,7 @@ use Rattle.state.specs.declared.control.Watchdog.{Watchdog}
 use Rattle.state.specs.declared.control.Flags.{Flags}
 use Rattle.state.specs.declared.control.Diagnosis.{Diagnosis}
 use Rattle.state.specs.declared.control.Modes.{Modes}
-use Rattle.state.specs.declared.control.Chain.{Chain}
+use Rattle.state.specs.declared.chain.Chain.{Chain}
 use Rattle.state.specs.declared.control.Control.{Control}
 use Rattle.state.specs.With.{controlOf}
 

@@ -2,10 +2,10 @@
 use mathlib.Core.Bool.{Bool, cond, not, _&&_}
 use lib.Dec.{eqb}
 use Rattle.state.specs.declared.setup.Setup.{Setup}
-use Rattle.state.specs.declared.control.Chain.{Chain}
+use Rattle.state.specs.declared.chain.Chain.{Chain}
 use Rattle.state.specs.declared.control.Control.{Control}
 use Rattle.state.specs.declared.state.Drawn.{Drawn}
-use Rattle.state.specs.Start.{noChain}
+use Rattle.state.specs.Chain.{chainOf, noChain, fcbIn, drawnIn}
 use Rattle.rules.specs.declared.request.Request.{Request}
 use Rattle.rules.specs.declared.outcome.Outcome.{Outcome}
 use Rattle.rules.specs.Control.{bit, withChain}
@@ -30,7 +30,7 @@ same a b = cond a b (not b)
 
 -- a request "with bit 4 set, the same SA (low 7 bits) and the same bit 5" as the last one
 abbrev pub repeats : Chain → Request → Bool
-repeats h r = not (wantsNone r) && fcvOf r && eqb (masterOf r) (h .master) && same (fcbOf r) (h .fcb)
+repeats h r = not (wantsNone r) && fcvOf r && eqb (masterOf r) (h .master) && same (fcbOf r) (fcbIn h)
 
 -- the telegram acts, and is one
 abbrev pub isRepeat : Setup → Control → Request → Bool
@@ -39,7 +39,7 @@ isRepeat s c r = acts s r && repeats (c .chain) r
 -- what a later request is compared with after one that is no repeat and drew d: itself, or nothing, since "An acting request with bit 4
 -- clear ends the chain"
 abbrev pub chainBy : Request → Drawn → Chain
-chainBy r d = cond (fcvOf r) (record { master = masterOf r; fcb = fcbOf r; drawn = d }) noChain
+chainBy r d = cond (fcvOf r) (chainOf (masterOf r) (fcbOf r) d) noChain
 
 -- the same after any telegram that is no repeat: what is no request leaves the chain as it is
 abbrev pub chainAfter : Setup → Chain → Request → Drawn → Chain
@@ -64,4 +64,4 @@ chained s r o = onChain o (chainAfter s (o .control .chain) r (o .drawn))
 -- "A repeat changes nothing, but the owner's refills the watchdog", and it draws what the earlier request drew: the reply of that service,
 -- formed "from the buffers and state as they then stand, without RS for phase or owner", or E5, RS or nothing
 abbrev pub repeated : Setup → Control → Request → Outcome
-repeated s c r = drawing (refilled s c r) (c .chain .drawn)
+repeated s c r = drawing (refilled s c r) (drawnIn (c .chain))

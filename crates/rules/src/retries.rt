@@ -5,7 +5,7 @@ use crate::request::Request;
 use crate::requests::acts;
 use crate::requests::master_of;
 use crate::requests::refilled;
-use state::control::Chain;
+use state::chain::Chain;
 use state::control::Control;
 use state::setup::Setup;
 use state::state::Drawn;
@@ -15,7 +15,7 @@ ghost use Rattle.rules.specs.Requests.{wantsNone};
 ghost use Rattle.rules.specs.Retries.{same, repeats, chainBy, chained, repeated};
 
 // Not functions 4 and 6, which are sent without a reply.
-fn wants_reply(r: Request) -> bool
+pub fn wants_reply(r: Request) -> bool
     ensures { λ b. ⌜ b ≡ not (wantsNone r) ⌝ }
 {
     let function = r.fc % 16;
@@ -33,9 +33,14 @@ fn same(a: bool, b: bool) -> bool
 pub fn repeats(chain: Chain, r: Request) -> bool
     ensures { λ b. ⌜ b ≡ repeats chain r ⌝ }
 {
-    let wanted = wants_reply(r);
     let master = master_of(r);
-    wanted & (r.fc / 16 % 2 == 1) & (master == chain.master) & same(r.fc / 32 % 2 == 1, chain.fcb)
+    if !same(r.fc / 32 % 2 == 1, chain.fcb()) {
+        return false;
+    }
+    if master != chain.master {
+        return false;
+    }
+    wants_reply(r) & (r.fc / 16 % 2 == 1)
 }
 
 // What a later request is compared with after one that is no repeat: itself, or nothing where bit 4 is clear.
@@ -43,11 +48,7 @@ pub fn chain_by(r: Request, drawn: Drawn) -> Chain
     ensures { λ h. ⌜ h ≡ chainBy r drawn ⌝ }
 {
     if r.fc / 16 % 2 == 1 {
-        return Chain {
-            master: master_of(r),
-            fcb: r.fc / 32 % 2 == 1,
-            drawn,
-        };
+        return Chain::new(master_of(r), r.fc / 32 % 2 == 1, drawn);
     }
     Chain::none()
 }
@@ -72,6 +73,5 @@ pub fn repeated(setup: Setup, control: Control, r: Request) -> Outcome
     ensures { λ o. ⌜ o ≡ repeated setup control r ⌝ }
 {
     let chain = control.chain;
-    let drawn = chain.drawn;
-    drawing(refilled(setup, control, r), drawn)
+    drawing(refilled(setup, control, r), chain.drawn())
 }

@@ -37,6 +37,7 @@ initial-sound s r =
       configuration-counts = record { shown = inl refl; waiting = inl refl; fresh = refl; behind = λ _. refl };
       diagnosis-counts = record { count = (omega arith, r .diagnosis-len .0); delayed = inl refl; flags = omega arith };
       chain-master = omega arith;
+      chain-code = omega arith;
       reading = off-counts;
       sending = empty-counts;
       place = omega arith;

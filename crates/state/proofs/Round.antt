@@ -15,7 +15,7 @@ use Rattle.state.specs.declared.control.Flags.{Flags}
 use Rattle.state.specs.declared.state.State.{State}
 use Rattle.state.specs.Number.{readingNumber, kindNumber, stageNumber, phaseNumber, drawnNumber}
 use Rattle.state.specs.Layout.{stateLength, usedLength}
-use Rattle.state.specs.Image.{bitOf, flagsOf, modesOf, marksOf, inputsCode, chainCode, used, unused, image}
+use Rattle.state.specs.Image.{bitOf, flagsOf, modesOf, marksOf, inputsCode, used, unused, image}
 use Rattle.state.specs.Unpack.{wordAt, setupIn, flagsIn, readerIn, senderIn, unpacked}
 use Rattle.state.specs.Sound.{Sound}
 use Rattle.state.specs.Well.{all, lengthTests, lengthsTests, countTests, lineTests, limitTests, codeTests, unusedTests, imageTests, wellImage}
@@ -24,7 +24,7 @@ use Rattle.state.proofs.Asking.{tests-ranged, lengths-hold}
 use Rattle.state.proofs.Tests.{all-at, all-behind, within-true, within-holds, none-or-true, none-or-holds, set-counts-true, set-counts-holds}
 use Rattle.state.proofs.LineCounts.{reading-before, reading-numbered, stage-before, stage-numbered, part-true, part-holds}
 use Rattle.state.proofs.Bits.{bit-le, bit-in, mark-coded, Marked, marked, sum-marks}
-use Rattle.state.proofs.SetCodes.{outputs-back, marks-coded, marks-below, modes-back, modes-coded, modes-below, inputs-back, inputs-coded, inputs-below, chain-back, chain-coded, chain-below}
+use Rattle.state.proofs.SetCodes.{outputs-back, marks-coded, marks-below, modes-back, modes-coded, modes-below, inputs-back, inputs-coded, inputs-below}
 
 -- the image has its length
 pub image-length : (s : State) → length (image s) ≡ stateLength
@@ -73,7 +73,7 @@ round s h r =
             noted = flags-marked (c .flags) (c .noted) .bit₂ i;
             diagnosis = c .diagnosis;
             modes = modes-back (c .modes) i;
-            chain = chain-back (c .chain) i;
+            chain = c .chain;
           };
       outputs = outputs-back (s .outputs) (h .outputs) i;
       inputs = inputs-back (s .inputs) (h .inputs) i;
@@ -131,7 +131,7 @@ module _ (s : State) (h : Sound s) (r : List ℕ) where
   unfolding image used
   lengths-well =
       let chain = s .control .chain in
-      (λ i. all (le-leb (chainCode chain) 17 (chain-below chain) i ∷ le-leb (chain .master) 127 (h .chain-master) i ∷ lengthTests (s .setup)))
+      (λ i. all (le-leb (chain .code) 17 (h .chain-code) i ∷ le-leb (chain .master) 127 (h .chain-master) i ∷ lengthTests (s .setup)))
       ∙ lengths-hold (s .setup) (h .setup)
 
   -- the codes pass
@@ -239,6 +239,7 @@ well-sound m h =
         delayed = none-or-true 6 (getD m 57 0) (getD m 52 0) (all-at (countTests m) 1 counts);
         flags = leb-true (getD m 26 0) 7 (code-at m codes 10);
       };
+      chain-code = leb-true (getD m 54 0) 17 (all-at (lengthsTests m) 0 (all-at (imageTests m) 4 h));
       chain-master = leb-true (getD m 55 0) 127 (all-at (lengthsTests m) 1 (all-at (imageTests m) 4 h));
       reading = record { count = leb-true (getD m 32 0) 246 (all-at (lineTests m) 0 line); read = reading .0; none-yet = reading .1 };
       sending = record { count = leb-true (getD m 14 0) 246 (all-at (lineTests m) 2 line); sent = sending .0; none-yet = sending .1 };
@@ -295,7 +296,6 @@ unfolding image used wellImage unpacked
 image-spread m small h =
     let counts = all-at (imageTests m) 0 h in
     let codes = code-at m (all-at (imageTests m) 2 h) in
-    let lengths = all-at (imageTests m) 4 h in
     λ i.
     spread m 0 3
     ++ sum-marks (getD m 3 0) (small 3) i
@@ -324,9 +324,7 @@ image-spread m small h =
     ∷ high-at m 44 (small 44) i
     ∷ low-at m 46 (small 46) i
     ∷ high-at m 46 (small 46) i
-    ∷ spread m 48 6
-    ++ chain-coded (getD m 54 0) (getD m 55 0) (leb-true (getD m 54 0) 17 (all-at (lengthsTests m) 0 lengths)) i
-    ∷ spread m 55 7
+    ∷ spread m 48 14
     ++ zero-at m 62 (all-at (countTests m) 4 counts) i
     ∷ zero-at m 63 (all-at (countTests m) 5 counts) i
     ∷ zeros-at m usedLength 64 (all-at (imageTests m) 3 h) i

@@ -2,20 +2,20 @@
 use Prim.Native.Nat.{ℕ, _+_, _*_, _/_, _%_, _≤_}
 use native.Mathlib.Omega.{arith}
 use mathlib.Core.Path.{_≡_, ap, _∙_}
-use mathlib.Core.Bool.{false}
+use mathlib.Core.Bool.{Bool, false}
 use mathlib.Core.List.{List}
 use Rattle.buffers.specs.declared.triple.Triple.{Triple}
 use Rattle.buffers.specs.Roles.{Permutation}
 use Rattle.buffers.specs.Number.{numberOf, placesOf, numberOf4}
 use Rattle.buffers.proofs.Numbers.{number-below, number-places, places-number, places4-number}
 use Rattle.state.specs.declared.control.Modes.{Modes}
-use Rattle.state.specs.declared.control.Chain.{Chain}
 use Rattle.state.specs.declared.state.Drawn.{Drawn}
 use Rattle.state.specs.declared.state.Outputs.{Outputs}
 use Rattle.state.specs.Number.{drawnNumber, drawnNumbered}
-use Rattle.state.specs.Image.{bitOf, modesOf, marksOf, inputsCode, chainCode}
-use Rattle.state.specs.Unpack.{odd, bitAt, modesIn, outputsIn, inputsIn, chainIn}
-use Rattle.state.proofs.Numbers.{drawn-back, drawn-counted, drawn-le}
+use Rattle.state.specs.Image.{bitOf, modesOf, marksOf, inputsCode}
+use Rattle.state.specs.Unpack.{odd, bitAt, modesIn, outputsIn, inputsIn}
+use Rattle.state.specs.Chain.{chainOf, fcbIn, drawnIn}
+use Rattle.state.proofs.Numbers.{drawn-back, drawn-le}
 use Rattle.state.proofs.Bits.{bit-le, bit-in, odd-bit, marked, sum-marks}
 
 -- ---- the number of the roles
@@ -116,25 +116,21 @@ inputs-below t =
 
 -- ---- the chain
 
--- it comes back from its code and its master
-pub chain-back : (h : Chain) → chainIn (chainCode h) (h .master) ≡ h
-chain-back h =
-    let q = halved (chainCode h) (drawnNumber (h .drawn)) (bitOf (h .fcb)) (bit-le (h .fcb)) (λ _. chainCode h) in
-    λ i.
-    record {
-      master = h .master;
-      fcb = bit-in (h .fcb) (chainCode h % 2) (q .first) i;
-      drawn = (ap drawnNumbered (q .number-is) ∙ drawn-back (h .drawn)) i;
-    }
+-- its parts come back from it
+module _ (master : ℕ) (fcb : Bool) (d : Drawn) where
+  halves : Halved (chainOf master fcb d .code) (drawnNumber d) (bitOf fcb)
+  halves = halved (chainOf master fcb d .code) (drawnNumber d) (bitOf fcb) (bit-le fcb) (λ _. chainOf master fcb d .code)
 
--- and the code from it
-pub chain-coded : (x master : ℕ) → x ≤ 17 → chainCode (chainIn x master) ≡ x
-chain-coded x master h = twofold x (drawnNumber (drawnNumbered (x / 2))) (bitOf (odd x)) (drawn-counted (x / 2) (omega arith)) (odd-bit x)
+  pub fcb-in : fcbIn (chainOf master fcb d) ≡ fcb
+  fcb-in = bit-in fcb (chainOf master fcb d .code % 2) (halves .first)
+
+  pub drawn-in : drawnIn (chainOf master fcb d) ≡ d
+  drawn-in = ap drawnNumbered (halves .number-is) ∙ drawn-back d
+
+  -- the code is at most 17
+  pub chain-below : chainOf master fcb d .code ≤ 17
+  chain-below = second-below (drawnNumber d) (bitOf fcb) 8 (drawn-le d) (bit-le fcb)
 
 -- the number of what was drawn
 pub drawn-below : (n : ℕ) (d : Drawn) → n ≡ drawnNumber d → n ≤ 8
 drawn-below n d e = let h = drawn-le d in omega arith
-
--- which is at most 17
-pub chain-below : (h : Chain) → chainCode h ≤ 17
-chain-below h = second-below (drawnNumber (h .drawn)) (bitOf (h .fcb)) 8 (drawn-le (h .drawn)) (bit-le (h .fcb))

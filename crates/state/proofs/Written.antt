@@ -9,14 +9,14 @@ use Rattle.buffers.specs.declared.events.Events.{Events}
 use Rattle.buffers.specs.declared.triple.Triple.{Triple}
 use Rattle.buffers.specs.Number.{numberOf, numberOf4}
 use Rattle.telegram.specs.declared.sender.Sender.{Sender}
-use Rattle.state.specs.declared.control.Chain.{Chain}
+use Rattle.state.specs.declared.chain.Chain.{Chain}
 use Rattle.state.specs.declared.control.Control.{Control}
 use Rattle.state.specs.declared.state.Incoming.{Incoming}
 use Rattle.state.specs.declared.state.Outputs.{Outputs}
 use Rattle.state.specs.declared.state.Reply.{Reply}
 use Rattle.state.specs.declared.state.Sets.{Sets}
 use Rattle.state.specs.declared.state.State.{State}
-use Rattle.state.specs.Image.{bitOf, flagsOf, modesOf, marksOf, inputsCode, chainCode, used, image}
+use Rattle.state.specs.Image.{bitOf, flagsOf, modesOf, marksOf, inputsCode, used, image}
 use Rattle.state.specs.Layout.{stateLength}
 use Rattle.state.specs.Memory.{kept, Changes}
 use Rattle.state.specs.Number.{readingNumber, kindNumber, stageNumber, phaseNumber, drawnNumber}
@@ -113,9 +113,9 @@ module _ (m : List ℕ) (s : State) (front : m ≡ kept s m) where
   ticks-saved n = ap (λ (l : List ℕ). wrote l 42 (wordOctets n)) front
 
   -- octets 54 and 55
-  pub chain-saved : (h : Chain) → wrote m 54 (chainCode h ∷ h .master ∷ []) ≡ kept (withChain s h) m
+  pub chain-saved : (h : Chain) → wrote m 54 (h .code ∷ h .master ∷ []) ≡ kept (withChain s h) m
   unfolding image used
-  chain-saved h = ap (λ (l : List ℕ). wrote l 54 (chainCode h ∷ h .master ∷ [])) front
+  chain-saved h = ap (λ (l : List ℕ). wrote l 54 (h .code ∷ h .master ∷ [])) front
 
   -- octets 0 to 3, 21, 26, 27, 44, 45, 56 and 57
   pub standing-saved : (c : Control) → wrote (wrote (wrote (wrote (wrote m 21 (phaseNumber (c .phase) ∷ [])) 44 (wordOctets (c .watchdog .reload))) 0 (c .owner ∷ c .group ∷ c .stored ∷ flagsOf (c .flags) (c .noted) ∷ [])) 26 (c .diagnosis .«delayed_flags» ∷ modesOf (c .modes) ∷ [])) 56 (c .diagnosis .count ∷ c .diagnosis .«delayed_count» ∷ []) ≡ kept (withStanding s c) m

@@ -5,7 +5,6 @@ use mathlib.Core.List.{List, [], _∷_, _++_}
 use lib.ListN.{replicate}
 use Rattle.buffers.specs.declared.triple.Triple.{Triple}
 use Rattle.buffers.specs.Number.{numberOf, numberOf4}
-use Rattle.state.specs.declared.control.Chain.{Chain}
 use Rattle.state.specs.declared.control.Flags.{Flags}
 use Rattle.state.specs.declared.control.Modes.{Modes}
 use Rattle.state.specs.declared.state.Outputs.{Outputs}
@@ -41,10 +40,6 @@ marksOf o = bitOf (o .set .fresh) + 2 * bitOf (o .zeros) + 4 * bitOf (o .set .wi
 -- the input set in one octet: its roles, whether next is new
 abbrev pub inputsCode : Triple → ℕ
 inputsCode t = 2 * numberOf (t .place) + bitOf (t .fresh)
-
--- what the last request of the chain drew in one octet, with its frame count bit
-abbrev pub chainCode : Chain → ℕ
-chainCode h = 2 * drawnNumber (h .drawn) + bitOf (h .fcb)
 
 -- those with fields, octet by octet from 0 on; among them 62 and 63 are not used
 unfoldable pub used : State → List ℕ
@@ -103,7 +98,7 @@ used s =
     ∷ s .setup .«configuration_len»
     ∷ s .setup .«diagnosis_len»
     ∷ s .setup .«get_cfg_len»
-    ∷ chainCode (s .control .chain)
+    ∷ s .control .chain .code
     ∷ s .control .chain .master
     ∷ s .control .diagnosis .count
     ∷ s .control .diagnosis .«delayed_count»

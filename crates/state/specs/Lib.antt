@@ -2,6 +2,7 @@ pub mod Number
 pub mod Image
 pub mod Unpack
 pub mod With
+pub mod Chain
 pub mod Sound
 pub mod Well
 pub mod Short

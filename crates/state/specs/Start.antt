@@ -11,7 +11,6 @@ use Rattle.octets.specs.Part.{pasted}
 use Rattle.telegram.specs.Reading.{off}
 use Rattle.telegram.specs.Sending.{empty}
 use Rattle.state.specs.declared.setup.Setup.{Setup}
-use Rattle.state.specs.declared.control.Chain.{Chain}
 use Rattle.state.specs.declared.control.Control.{Control}
 use Rattle.state.specs.declared.control.Phase.the-variants.{WaitPrm}
 use Rattle.state.specs.declared.state.State.{State}
@@ -21,6 +20,7 @@ use Rattle.state.specs.declared.state.Drawn.the-variants.{Nothing}
 use Rattle.state.specs.declared.answer.Refusal.the-variants.{Address, Length}
 use Rattle.state.specs.declared.start.Asked.{Asked}
 use Rattle.state.specs.declared.start.Asked.the-variants.{Accepted, Declined}
+use Rattle.state.specs.Chain.{noChain}
 use Rattle.state.specs.Layout.{stateLength, getCfgAt, endOf}
 use Rattle.state.specs.Memory.{kept}
 use Rattle.state.specs.Well.{all, lengthTests}
@@ -53,10 +53,6 @@ asked s =
 -- what diagnosis shows for no owner
 abbrev pub noOwner : ℕ
 noOwner = 255
-
--- no request that a telegram could repeat: 127 is no master's address (document 02, Req 04)
-abbrev pub noChain : Chain
-noChain = record { master = 127; fcb = false; drawn = Nothing }
 
 -- "enters WAIT_PRM without publishing, no owner, nothing new or shown, diagnosis count 6, no flags, no events"
 abbrev pub firstControl : Control

@@ -15,7 +15,6 @@ use Rattle.state.specs.declared.setup.Setup.{Setup}
 use Rattle.state.specs.declared.control.Flags.{Flags}
 use Rattle.state.specs.declared.control.Modes.{Modes}
 use Rattle.state.specs.declared.control.Diagnosis.{Diagnosis}
-use Rattle.state.specs.declared.control.Chain.{Chain}
 use Rattle.state.specs.declared.control.Control.{Control}
 use Rattle.state.specs.declared.state.Outputs.{Outputs}
 use Rattle.state.specs.declared.state.Sets.{Sets}
@@ -72,10 +71,6 @@ modesIn x = record { sync = odd x; freeze = bitAt x 2; «sync_allowed» = bitAt 
 abbrev pub diagnosisIn : List ℕ → Diagnosis
 diagnosisIn l = record { count = getD l 56 0; «delayed_count» = getD l 57 0; «delayed_flags» = getD l 26 0 }
 
--- the chain of its code and its master
-abbrev pub chainIn : ℕ → ℕ → Chain
-chainIn code master = record { master = master; fcb = odd code; drawn = drawnNumbered (code / 2) }
-
 -- octets 0 to 5, 21, 27, 42 to 45, 54 and 55; diagnosis
 abbrev pub controlIn : List ℕ → Control
 controlIn l =
@@ -90,7 +85,7 @@ controlIn l =
       noted = bitAt (getD l 3 0) 4;
       diagnosis = diagnosisIn l;
       modes = modesIn (getD l 27 0);
-      chain = chainIn (getD l 54 0) (getD l 55 0);
+      chain = record { master = getD l 55 0; code = getD l 54 0 };
     }
 
 -- the output set of its roles and its marks

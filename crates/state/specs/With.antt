@@ -11,7 +11,7 @@ use Rattle.state.specs.declared.control.Watchdog.{Watchdog}
 use Rattle.state.specs.declared.control.Flags.{Flags}
 use Rattle.state.specs.declared.control.Diagnosis.{Diagnosis}
 use Rattle.state.specs.declared.control.Modes.{Modes}
-use Rattle.state.specs.declared.control.Chain.{Chain}
+use Rattle.state.specs.declared.chain.Chain.{Chain}
 use Rattle.state.specs.declared.control.Control.{Control}
 use Rattle.state.specs.declared.state.Outputs.{Outputs}
 use Rattle.state.specs.declared.state.Sets.{Sets}
@@ -98,6 +98,12 @@ withStanding s c =
     (controlOf (c .phase) (c .owner) (c .group) (c .stored)
     (record { reload = c .watchdog .reload; remaining = s .control .watchdog .remaining }) (c .flags) (s .control .events) (c .noted) (c .diagnosis)
     (c .modes) (s .control .chain))
+
+-- with the control part but for the chain
+abbrev pub withControlBesideChain : State → Control → State
+withControlBesideChain s c =
+    withControl s
+    (controlOf (c .phase) (c .owner) (c .group) (c .stored) (c .watchdog) (c .flags) (c .events) (c .noted) (c .diagnosis) (c .modes) (s .control .chain))
 
 -- with the events
 abbrev pub withEventWord : State → Events → State

@@ -1,8 +1,6 @@
 // The control part of the state: what the rules look at and change beside the buffers.
-use crate::state::Drawn;
+use crate::chain::Chain;
 use buffers::events::Events;
-ghost use mathlib.Core.Path.{_≡_};
-ghost use Rattle.state.specs.Start.{noChain};
 
 // The phases of the DP state machine: WAIT_PRM, WAIT_CFG, DATA_EXCH.
 pub enum Phase {
@@ -43,31 +41,6 @@ pub struct Diagnosis {
     pub delayed_flags: u8,
 }
 
-// The last request that a repeat is told by: who sent it, its frame count bit, and what it drew.
-pub struct Chain {
-    // the master's address, or NO_MASTER
-    pub master: u8,
-    // FC bit 5
-    pub fcb: bool,
-    pub drawn: Drawn,
-}
-
-impl Chain {
-    // The address of all stations, which no master has: there is no chain.
-    pub const NO_MASTER: u8 = 127;
-
-    // No telegram repeats a request.
-    pub fn none() -> Chain
-        ensures { λ r. ⌜ r ≡ noChain ⌝ }
-    {
-        Chain {
-            master: Chain::NO_MASTER,
-            fcb: false,
-            drawn: Drawn::Nothing,
-        }
-    }
-}
-
 pub struct Control {
     pub phase: Phase,
     // the address of the master that holds the station, or NO_OWNER
@@ -82,6 +55,7 @@ pub struct Control {
     pub noted: bool,
     pub diagnosis: Diagnosis,
     pub modes: Modes,
+    // the last request that a repeat is told by
     pub chain: Chain,
 }
 

@@ -1,5 +1,4 @@
 // The image of a state: the octets that hold it, laid out one by one.
-use crate::control::Chain;
 use crate::control::Flags;
 use crate::control::Modes;
 use crate::layout;
@@ -16,7 +15,7 @@ ghost use mathlib.Core.List.{_++_};
 ghost use Prim.Native.Nat.{_≤_, _/_, _%_};
 ghost use lib.ListN.{length, drop};
 ghost use Rattle.state.specs.Layout.{stateLength};
-ghost use Rattle.state.specs.Image.{bitOf, flagsOf, modesOf, marksOf, inputsCode, chainCode, used, image};
+ghost use Rattle.state.specs.Image.{bitOf, flagsOf, modesOf, marksOf, inputsCode, used, image};
 
 // A mark as a number.
 pub fn bit(b: bool) -> u8
@@ -72,14 +71,6 @@ pub fn inputs_code(t: Triple) -> u8
     ensures { λ r. ⌜ r ≡ inputsCode t ⌝ }
 {
     2 * t.number() + bit(t.fresh)
-}
-
-// What the last request of the chain drew in one octet, with its frame count bit.
-pub fn chain_code(chain: Chain) -> u8
-    ensures { λ r. ⌜ r ≡ chainCode chain ⌝ }
-{
-    let drawn = chain.drawn;
-    2 * drawn_number(drawn) + bit(chain.fcb)
 }
 
 // The octets that are used, in their order.
@@ -152,7 +143,7 @@ pub fn octets(s: State) -> [u8; 64]
         s.setup.configuration_len,
         s.setup.diagnosis_len,
         s.setup.get_cfg_len,
-        chain_code(control.chain),
+        control.chain.code,
         control.chain.master,
         control.diagnosis.count,
         control.diagnosis.delayed_count,

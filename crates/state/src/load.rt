@@ -1,5 +1,5 @@
 // The octets of a memory read straight as a state, as a whole or a part of it alone.
-use crate::control::Chain;
+use crate::chain::Chain;
 use crate::control::Control;
 use crate::control::Diagnosis;
 use crate::control::Flags;
@@ -132,11 +132,9 @@ pub fn chain(mem: &[u8]) -> Chain
     requires { ⌜ stateLength ≤ length (now mem) ⌝ }
     ensures { λ r. ⌜ r ≡ unpacked (now (mem .entry)) .control .chain ⌝ }
 {
-    let code = mem[54];
     Chain {
         master: mem[55],
-        fcb: code % 2 == 1,
-        drawn: drawn_numbered(code / 2),
+        code: mem[54],
     }
 }
 

@@ -1,9 +1,8 @@
 // A part of the state packed alone: its octets are written, and no other. Whatever state stands in front of the memory, afterwards it
 // is that state with the part changed.
-use crate::control::Chain;
+use crate::chain::Chain;
 use crate::control::Control;
 use crate::image::bit;
-use crate::image::chain_code;
 use crate::image::flags;
 use crate::image::high;
 use crate::image::inputs_code;
@@ -26,7 +25,7 @@ ghost use Prim.Native.Nat.{_≤_};
 ghost use lib.ListN.{length};
 ghost use Rattle.state.specs.Layout.{stateLength};
 ghost use Rattle.state.specs.Memory.{Changes};
-ghost use Rattle.state.specs.With.{withControl, withStanding, withEventWord, withTicks, withChain, withOutputs, withInputs, withParameters, withConfiguration, withSwapped, withIncoming, withData, withSender, withOutline, withReply};
+ghost use Rattle.state.specs.With.{withControlBesideChain, withStanding, withEventWord, withTicks, withChain, withOutputs, withInputs, withParameters, withConfiguration, withSwapped, withIncoming, withData, withSender, withOutline, withReply};
 
 // The telegram that is coming: octets 30 to 41.
 pub fn save_incoming(i: Incoming, mem: &mut [u8])
@@ -124,7 +123,7 @@ pub fn save_chain(chain: Chain, mem: &mut [u8])
     requires { ⌜ stateLength ≤ length (now mem) ⌝ }
     ensures { λ _. ⌜ Changes (now (mem .entry)) (now (mem .exit)) (λ s. withChain s chain) ⌝ }
 {
-    mem[54] = chain_code(chain);
+    mem[54] = chain.code;
     mem[55] = chain.master;
 }
 
@@ -149,15 +148,14 @@ fn save_standing(control: Control, mem: &mut [u8])
     mem[57] = control.diagnosis.delayed_count;
 }
 
-// The control part: octets 0 to 5, 21, 26, 27, 42 to 45 and 54 to 57.
+// The control part but for the chain, which telegrams alone change: octets 0 to 5, 21, 26, 27, 42 to 45, 56 and 57.
 pub fn save_control(control: Control, mem: &mut [u8])
     requires { ⌜ stateLength ≤ length (now mem) ⌝ }
-    ensures { λ _. ⌜ Changes (now (mem .entry)) (now (mem .exit)) (λ s. withControl s control) ⌝ }
+    ensures { λ _. ⌜ Changes (now (mem .entry)) (now (mem .exit)) (λ s. withControlBesideChain s control) ⌝ }
 {
     save_standing(control, mem);
     save_events(control.events, mem);
     save_ticks(control.watchdog.remaining, mem);
-    save_chain(control.chain, mem);
 }
 
 // The output set: octets 22 and 29.

@@ -1,6 +1,6 @@
 // Start: what it asks of a setup, the first state, and what it leaves.
 use crate::answer::Refusal;
-use crate::control::Chain;
+use crate::chain::Chain;
 use crate::control::Control;
 use crate::control::Diagnosis;
 use crate::control::Flags;

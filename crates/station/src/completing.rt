@@ -24,10 +24,10 @@ use rules::requests::function_service;
 use rules::requests::master_of;
 use rules::requests::refilled;
 use rules::retries::chain_by;
-use rules::retries::chained;
 use rules::retries::repeats;
+use rules::retries::wants_reply;
 use rules::services::exchanges;
-use rules::services::outcome_by;
+use rules::services::serve;
 use rules::services::slave_diag;
 use state::control::Control;
 use state::layout::parameters_at;
@@ -77,7 +77,7 @@ fn outcome_in(mem: &[u8], r: Request, service: Service) -> Outcome
 {
     let setup = load::setup(mem);
     let incoming = load::incoming(mem);
-    let control = load::control(mem);
+    let control = refilled(setup, load::control(mem), r);
     let outputs = load::outputs(mem);
     let occupied = Occupied {
         parameters: is_open(load::parameters(mem)),
@@ -89,7 +89,17 @@ fn outcome_in(mem: &[u8], r: Request, service: Service) -> Outcome
         first: incoming.first,
         second: incoming.second,
     };
-    outcome_by(service, setup, control, occupied, r, octets)
+    serve(service, setup, control, occupied, r, octets)
+}
+
+// A later request is compared with this one, if it is a request.
+fn keep_request(mem: &mut [u8], r: Request, drawn: Drawn)
+    requires { ⌜ stateLength ≤ length (now mem) ⌝ }
+    ensures { λ _. ⌜ Changes (now (mem .entry)) (now (mem .exit)) (λ s. withChain s (cond (wantsNone r) (s .control .chain) (chainBy r drawn))) ⌝ }
+{
+    if wants_reply(r) {
+        save_chain(chain_by(r, drawn), mem);
+    }
 }
 
 // An outcome carried out, the telegram read to its end, and the reply drawn.
@@ -105,6 +115,7 @@ fn answer(mem: &mut [u8], o: Outcome, i: Incoming, r: Request)
     carry_over(mem, o, r.count);
     save_incoming(i, mem);
     save_reply(reply, mem);
+    keep_request(mem, r, drawn);
 }
 
 // Whether a service is Data_Exchange.
@@ -181,8 +192,7 @@ fn diagnose(mem: &mut [u8], i: Incoming, r: Request)
     ensures { λ _. ⌜ now (mem .exit) ≡ completedBy (now (mem .entry)) i r ⌝ }
 {
     let setup = load::setup(&mem[..]);
-    let control = refilled(setup, load::control(&mem[..]), r);
-    let o = chained(setup, r, slave_diag(control, r));
+    let o = slave_diag(refilled(setup, load::control(&mem[..]), r), r);
     let outputs = load::outputs(&mem[..]);
     let reply = draw(
         Drawn::Diagnosis,
@@ -193,6 +203,7 @@ fn diagnose(mem: &mut [u8], i: Incoming, r: Request)
     );
     save_incoming(i, mem);
     save_control(o.control, mem);
+    save_chain(chain_by(r, Drawn::Diagnosis), mem);
     save_reply(reply, mem);
 }
 
@@ -204,9 +215,8 @@ fn repeat(mem: &mut [u8], i: Incoming, r: Request)
     let setup = load::setup(&mem[..]);
     let control = refilled(setup, load::control(&mem[..]), r);
     let chain = control.chain;
-    let drawn = chain.drawn;
     let outputs = load::outputs(&mem[..]);
-    let reply = draw(drawn, setup, control, outputs.set.held(), master_of(r));
+    let reply = draw(chain.drawn(), setup, control, outputs.set.held(), master_of(r));
     save_incoming(i, mem);
     save_ticks(control.watchdog.remaining, mem);
     save_reply(reply, mem);

@@ -38,6 +38,7 @@ module _ (s : State) (h : Sound s) where
     configuration-counts = h .configuration-counts;
     diagnosis-counts = d;
     chain-master = rw e (h .chain-master);
+    chain-code = rw e (h .chain-code);
     reading = a;
     sending = b .counts;
     place = b .place;

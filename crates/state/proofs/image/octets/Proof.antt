@@ -72,9 +72,6 @@ low-requires-4 c κs = search needs
 high-requires-4 : tie.Need-high-requires-4
 high-requires-4 c κs = search needs
 
-chain-code-requires : tie.Need-chain-code-requires
-chain-code-requires c κs = search needs
-
 returns : tie.Need-returns
 unfolding used
 returns c =
@@ -99,39 +96,36 @@ returns c =
     let c19 = c18 .before in
     let c20 = c19 .before in
     let c21 = c20 .before in
-    let c22 = c21 .before in
-    let same = part (used (c22 .before .before .before .before .before .before .args .s)) in
+    let same = part (used (c21 .before .before .before .before .before .before .args .s)) in
     λ i.
     same 0 3
-    ++ c22 .flags .ensures i
-    ∷ c21 .low .ensures i
-    ∷ c20 .high .ensures i
+    ++ c21 .flags .ensures i
+    ∷ c20 .low .ensures i
+    ∷ c19 .high .ensures i
     ∷ same 6 10
-    ++ c19 .kind-number .ensures i
-    ∷ c18 .stage-number .ensures i
-    ∷ c17 .drawn-number .ensures i
+    ++ c18 .kind-number .ensures i
+    ∷ c17 .stage-number .ensures i
+    ∷ c16 .drawn-number .ensures i
     ∷ same 19 2
-    ++ c16 .phase-number .ensures i
-    ∷ c15 .number .ensures i
-    ∷ c14 .inputs-code .ensures i
-    ∷ c13 .number2 .ensures i
-    ∷ c12 .number3 .ensures i
+    ++ c15 .phase-number .ensures i
+    ∷ c14 .number .ensures i
+    ∷ c13 .inputs-code .ensures i
+    ∷ c12 .number2 .ensures i
+    ∷ c11 .number3 .ensures i
     ∷ same 26 1
-    ++ c11 .modes .ensures i
-    ∷ c10 .bit .ensures .0 i
-    ∷ c9 .output-marks .ensures i
-    ∷ c8 .kind-number2 .ensures i
-    ∷ c7 .reading-number .ensures i
+    ++ c10 .modes .ensures i
+    ∷ c9 .bit .ensures .0 i
+    ∷ c8 .output-marks .ensures i
+    ∷ c7 .kind-number2 .ensures i
+    ∷ c6 .reading-number .ensures i
     ∷ same 32 10
-    ++ c6 .low2 .ensures i
-    ∷ c5 .high2 .ensures i
-    ∷ c4 .low3 .ensures i
-    ∷ c3 .high3 .ensures i
-    ∷ c2 .low4 .ensures i
-    ∷ c1 .high4 .ensures i
-    ∷ same 48 6
-    ++ c .chain-code .ensures i
-    ∷ same 55 9
+    ++ c5 .low2 .ensures i
+    ∷ c4 .high2 .ensures i
+    ∷ c3 .low3 .ensures i
+    ∷ c2 .high3 .ensures i
+    ∷ c1 .low4 .ensures i
+    ∷ c .high4 .ensures i
+    ∷ same 48 16
 
 pub octets-spec : {M : Type 1} → statement M
 octets-spec =
@@ -159,5 +153,4 @@ octets-spec =
     high-requires-3
     low-requires-4
     high-requires-4
-    chain-code-requires
     returns)

@@ -1,6 +1,6 @@
 -- `state::saving::save_control` meets its contract.
 use denote.Ref.{now}
-use Rattle.state.specs.With.{withStanding, withEventWord, withTicks, withChain}
+use Rattle.state.specs.With.{withStanding, withEventWord, withTicks}
 use Rattle.state.proofs.Written.{then}
 use borrow.Author.Needs.{needs}
 use Rattle.state.proofs.saving.save_control.Statement.{statement}
@@ -15,30 +15,23 @@ save-events-requires c κs = search needs
 save-ticks-requires : tie.Need-save-ticks-requires
 save-ticks-requires c κs = search needs
 
-save-chain-requires : tie.Need-save-chain-requires
-save-chain-requires c κs = search needs
-
 same-length : tie.Need-same-length
 same-length c = search needs
 
 returns : tie.Need-returns
 returns c =
-    let ticked = c .before .before .before .before .before .before in
-    let raised = ticked .before .before .before .before in
-    let stood = raised .before .before .before .before in
-    let control = stood .before .before .before .args .control in
-    let m = now (stood .before .before .before .args .mem) in
-    let n = stood .save-standing .last .1 .0 in
-    let l = raised .save-events .last .1 .0 in
-    let k = ticked .save-ticks .last .1 .0 in
-    then m k (c .before .before .save-chain .last .1 .0) (λ s. withTicks (withEventWord (withStanding s control) (control .events)) (control .watchdog .remaining))
-    (λ s. withChain s (control .chain))
-    (then m l k (λ s. withEventWord (withStanding s control) (control .events)) (λ s. withTicks s (control .watchdog .remaining))
-    (then m n l (λ s. withStanding s control) (λ s. withEventWord s (control .events)) (stood .save-standing .ensures) (raised .save-events .ensures))
-    (ticked .save-ticks .ensures))
-    (c .before .before .save-chain .ensures)
+    let control = c .before .before .before .before .before .before .before .before .before .before .before .before .before .args .control in
+    let m = now (c .before .before .before .before .before .before .before .before .before .before .before .before .before .args .mem) in
+    let n = c .before .before .before .before .before .before .before .before .before .before .save-standing .last .1 .0 in
+    let l = c .before .before .before .before .before .before .save-events .last .1 .0 in
+    then m l (c .before .before .save-ticks .last .1 .0) (λ s. withEventWord (withStanding s control) (control .events))
+    (λ s. withTicks s (control .watchdog .remaining))
+    (then m n l (λ s. withStanding s control) (λ s. withEventWord s (control .events))
+    (c .before .before .before .before .before .before .before .before .before .before .save-standing .ensures)
+    (c .before .before .before .before .before .before .save-events .ensures))
+    (c .before .before .save-ticks .ensures)
 
 pub save-control-spec : {M : Type 1} → statement M
 save-control-spec =
     tie.close
-    (tie.spec save-standing-requires save-events-requires save-ticks-requires save-chain-requires same-length returns)
+    (tie.spec save-standing-requires save-events-requires save-ticks-requires same-length returns)

@@ -1,0 +1,52 @@
+// The chain of a master's requests: the last one, which a repeat is told by. What it drew and its frame count bit are one octet, so that
+// the calls that leave the chain alone move two octets and decode nothing.
+use crate::image::bit;
+use crate::number::drawn_number;
+use crate::number::drawn_numbered;
+use crate::state::Drawn;
+ghost use mathlib.Core.Path.{_≡_};
+ghost use Rattle.state.specs.Chain.{chainOf, noChain, fcbIn, drawnIn};
+
+pub struct Chain {
+    // the address of the master that sent it, or NO_MASTER
+    pub master: u8,
+    // the number of what it drew, doubled, and its frame count bit
+    pub code: u8,
+}
+
+impl Chain {
+    // The address of all stations, which no master has: there is no chain.
+    pub const NO_MASTER: u8 = 127;
+
+    // A request of this master, with this frame count bit, that drew this.
+    pub fn new(master: u8, fcb: bool, drawn: Drawn) -> Chain
+        ensures { λ r. ⌜ r ≡ chainOf master fcb drawn ⌝ }
+    {
+        let code = 2 * drawn_number(drawn) + bit(fcb);
+        Chain { master, code }
+    }
+
+    // No request that a telegram could repeat.
+    pub fn none() -> Chain
+        ensures { λ r. ⌜ r ≡ noChain ⌝ }
+    {
+        Chain {
+            master: Chain::NO_MASTER,
+            code: 0,
+        }
+    }
+
+    // Its frame count bit.
+    pub fn fcb(self) -> bool
+        ensures { λ r. ⌜ r ≡ fcbIn self ⌝ }
+    {
+        self.code % 2 == 1
+    }
+
+    // What it drew.
+    pub fn drawn(self) -> Drawn
+        ensures { λ r. ⌜ r ≡ drawnIn self ⌝ }
+    {
+        drawn_numbered(self.code / 2)
+    }
+}
