@@ -11,6 +11,7 @@ use Rattle.ledger.specs.ReadBack.{ReadingBack}
 use Rattle.ledger.specs.Octets.{SentOctets}
 use Rattle.ledger.specs.EventsFollow.{EventsOpen, PublishingRaises}
 use Rattle.ledger.specs.ModesKept.{ModesAlways}
+use Rattle.ledger.specs.Repeats.{E5Again, SetPrmOnce, NoDeedAgain}
 
 pub record Demand2 : Type 0 where
   -- of every list of octets the reader tells what the grammar says
@@ -39,6 +40,12 @@ pub record Demand2 : Type 0 where
   pub publishing-raises : PublishingRaises
   -- a mode is on in DATA_EXCH alone and where Set_Prm allowed it, and something is held back in sync alone
   pub modes-kept : ModesAlways
+  -- a request that drew E5 and is sent again draws E5, and nothing else comes of it
+  pub e5-again : E5Again
+  -- so a Set_Prm's event comes once
+  pub set-prm-once : SetPrmOnce
+  -- and the outputs of a Data_Exchange are accepted once
+  pub no-deed-again : NoDeedAgain
   -- the sender of a telegram sends its octets
   pub sending : SendingPromise
   -- every reply but E5 reads back as a telegram with the same fields

@@ -15,4 +15,5 @@ pub mod ReadBack
 pub mod EventsFollow
 pub mod Octets
 pub mod ModesKept
+pub mod Repeats
 pub mod Demand2

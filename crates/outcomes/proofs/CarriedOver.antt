@@ -13,13 +13,15 @@ use Rattle.state.specs.declared.state.Sets.{Sets}
 use Rattle.state.specs.declared.state.State.{State}
 use Rattle.state.specs.Layout.{stateLength, outputRow}
 use Rattle.state.specs.Memory.{kept, Holds, Changes}
-use Rattle.state.specs.With.{withControl, withOutputs, withInputs, withParameters, withConfiguration}
+use Rattle.state.specs.With.{withControlBesideChain, withOutputs, withInputs, withParameters, withConfiguration}
 use Rattle.state.proofs.Damage.{fronted}
 use Rattle.state.proofs.Places.{inside}
 use Rattle.state.proofs.Written.{again, onto}
 use Rattle.rules.specs.declared.outcome.OutputsDeed.{OutputsDeed}
 use Rattle.rules.specs.declared.outcome.OutputsDeed.the-variants as outputs-deed
 use Rattle.rules.specs.declared.outcome.Outcome.{Outcome}
+use Rattle.rules.specs.Control.{withChain}
+use Rattle.rules.specs.Retries.{onChain}
 use Rattle.steps.specs.Stepped.{packedAfter}
 use Rattle.steps.specs.Outcome.{onOutputs, onInputs, onSets, onMemory, carried}
 use Rattle.steps.proofs.Holding.{holds-safe}
@@ -50,7 +52,7 @@ module _ (m : List ℕ) (s : State) (o : Outcome) (count : ℕ) (h : Holds m s) 
       → ((t : State) → t .parameters ≡ parameters → n₂ ≡ kept t n₂ → n₃ ≡ kept (withParameters t (onSets (o .parameters) parameters count)) n₂)
       → ((t : State) → t .configuration ≡ configuration → n₃ ≡ kept t n₃
       → n₄ ≡ kept (withConfiguration t (onSets (o .configuration) configuration count)) n₃)
-      → Changes n₄ n₅ (λ t. withControl t (o .control)) → n₅ ≡ packedAfter (carried s m o count)
+      → Changes n₄ n₅ (λ t. withControlBesideChain t (o .control)) → n₅ ≡ packedAfter (carried s m (onChain o (s .control .chain)) count)
   unfolding carried
   carried-over outputs inputs parameters configuration eo ei ep ec n₀ n₁ n₂ n₃ n₄ n₅ e p₁ p₂ p₃ p₄ p₅ =
       let s₁ : State = withOutputs s (onOutputs (o .outputs) outputs) in
@@ -62,13 +64,13 @@ module _ (m : List ℕ) (s : State) (o : Outcome) (count : ℕ) (h : Holds m s) 
       let e₂ : n₂ ≡ kept s₂ n₀ = onto n₀ n₁ n₂ s₁ s₂ e₁ (p₂ s₁ (sym ei) (again n₀ n₁ s₁ e₁)) in
       let e₃ : n₃ ≡ kept s₃ n₀ = onto n₀ n₂ n₃ s₂ s₃ e₂ (p₃ s₂ (sym ep) (again n₀ n₂ s₂ e₂)) in
       let e₄ : n₄ ≡ kept s₄ n₀ = onto n₀ n₃ n₄ s₃ s₄ e₃ (p₄ s₃ (sym ec) (again n₀ n₃ s₃ e₃)) in
-      let e₅ : n₅ ≡ kept (withControl s₄ (o .control)) n₀ = onto n₀ n₄ n₅ s₄ _ e₄ (p₅ s₄ (again n₀ n₄ s₄ e₄)) in
+      let e₅ : n₅ ≡ kept (withControlBesideChain s₄ (o .control)) n₀ = onto n₀ n₄ n₅ s₄ _ e₄ (p₅ s₄ (again n₀ n₄ s₄ e₄)) in
       e₅
       ∙ (λ i.
       kept
       (record {
         setup = s .setup;
-        control = o .control;
+        control = withChain (o .control) (s .control .chain);
         outputs = onOutputs (o .outputs) (eo i);
         inputs = onInputs (o .inputs) (ei i);
         parameters = onSets (o .parameters) (ep i) count;

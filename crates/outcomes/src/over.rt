@@ -24,6 +24,7 @@ ghost use Rattle.state.specs.Layout.{stateLength};
 ghost use Rattle.state.specs.Memory.{kept, Holds};
 ghost use Rattle.state.specs.Unpack.{unpacked};
 ghost use Rattle.state.specs.With.{withOutputs, withInputs, withParameters, withConfiguration};
+ghost use Rattle.rules.specs.Retries.{onChain};
 ghost use Rattle.steps.specs.Stepped.{packedAfter};
 ghost use Rattle.steps.specs.Outcome.{onOutputs, onInputs, onSets, onMemory, carried};
 
@@ -103,10 +104,11 @@ fn put_configuration(deed: SetDeed, sets: Sets, count: u8, mem: &mut [u8])
     }
 }
 
-// An outcome carried out: the buffers first, where the deed asks for it, then each part of the state.
+// An outcome carried out: the buffers first, where the deed asks for it, then each part of the state. The chain, which telegrams alone
+// change, is left as it is.
 pub fn carry_over(mem: &mut [u8], o: Outcome, count: u8)
     requires { ⌜ Holds (now mem) (unpacked (now mem)) ⌝ }
-    ensures { λ _. ⌜ now (mem .exit) ≡ packedAfter (carried (unpacked (now (mem .entry))) (now (mem .entry)) o count) ⌝ }
+    ensures { λ _. ⌜ now (mem .exit) ≡ packedAfter (carried (unpacked (now (mem .entry))) (now (mem .entry)) (onChain o (unpacked (now (mem .entry)) .control .chain)) count) ⌝ }
 {
     let on_outputs = o.outputs;
     let on_inputs = o.inputs;

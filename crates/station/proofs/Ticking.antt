@@ -10,6 +10,8 @@ use Rattle.state.specs.Start.{noReply}
 use Rattle.state.specs.With.{withReply, withTicks}
 use Rattle.rules.specs.declared.outcome.Outcome.{Outcome}
 use Rattle.rules.specs.Line.{counts, ticked}
+use Rattle.rules.specs.Retries.{onChain}
+use Rattle.rules.proofs.Served.{ticked-quiet, chain-stays}
 use Rattle.steps.specs.Stepped.{Stepped, unchanged}
 use Rattle.steps.specs.Line.{begun, busy}
 use Rattle.steps.specs.Outcome.{carried, settle}
@@ -31,10 +33,14 @@ module _ (s : State) (m : List ℕ) (x : Control) (same : x ≡ s .control) wher
   tick-drops e = by-noted true e
 
   module _ (none : x .noted ≡ false) where
-    -- none is noted: the outcome of the rules,
-    pub tick-carries : (b : Bool) (o : Outcome) → b ≡ busy s → o ≡ ticked b x → elapsed s m ≡ carried s m o 0
+    -- none is noted: the outcome of the rules, which leaves the chain,
+    pub tick-carries : (b : Bool) (o : Outcome) → b ≡ busy s → o ≡ ticked b x → elapsed s m ≡ carried s m (onChain o (s .control .chain)) 0
     tick-carries b o e f =
-        by-noted false none ∙ ap (λ (p : Outcome). carried s m p 0) (sym (f ∙ (λ i. ticked (e i) (same i))))
+        by-noted false none
+        ∙ ap (λ (p : Outcome). carried s m p 0)
+        (sym
+        (ap (λ (p : Outcome). onChain p (s .control .chain)) (f ∙ (λ i. ticked (e i) (same i)))
+        ∙ chain-stays (ticked-quiet (s .setup) (s .control) {Clear = Unit} (busy s) (λ _. tt))))
 
     module _ (b : Bool) (tested : b ≡ counts x) where
       -- by the test of the code

@@ -15,11 +15,14 @@ use Rattle.state.specs.declared.state.State.{State}
 use Rattle.state.specs.Answer.{Meets}
 use Rattle.state.specs.Memory.{kept}
 use Rattle.state.specs.Well.{within}
-use Rattle.state.specs.With.{withControl, withOutputs}
+use Rattle.state.specs.With.{withControl, withControlBesideChain, withOutputs}
 use Rattle.rules.specs.declared.outcome.Outcome.{Outcome}
+use Rattle.rules.specs.Control.{withChain}
 use Rattle.rules.specs.Diagnosis.{delayed, diagnosed, delaying}
 use Rattle.rules.specs.Line.{clearOn}
 use Rattle.rules.specs.User.{judgedParameters, judgedConfiguration}
+use Rattle.rules.specs.Retries.{onChain}
+use Rattle.rules.proofs.Served.{Quiet, clear-quiet, parameters-quiet, configuration-quiet, chain-stays}
 use Rattle.steps.specs.Stepped.{packedAfter, told, toldOf}
 use Rattle.steps.specs.Line.{busy, diagnosisLeaves}
 use Rattle.steps.specs.Outcome.{isOpen, diagnosisChanged, carried}
@@ -72,31 +75,41 @@ module _ (s : State) (m : List ℕ) where
           rw (in-range, sym (tested ∙ ap delayed same) ∙ none, sym leaving ∙ e)
 
       -- it waits while a Slave_Diag reply is unfinished
-      pub delays-diagnosis : leaves ≡ true → {new : Control} {n : List ℕ} → new ≡ delaying control count flags → n ≡ kept (withControl s new) m
+      pub delays-diagnosis : leaves ≡ true → {new : Control} {n : List ℕ} → new ≡ delaying control count flags → n ≡ kept (withControlBesideChain s new) m
           → Meets (packed m (newDiagnosis s m count flags)) (Value 0) n
+      unfolding delaying
       delays-diagnosis e f g =
           rw (given e)
-          (record { answers = refl; leaves = g ∙ (λ i. kept (withControl s ((f ∙ (λ j. delaying (same j) count flags)) i)) m) })
+          (record { answers = refl; leaves = g ∙ (λ i. kept (withControlBesideChain s ((f ∙ (λ j. delaying (same j) count flags)) i)) m) })
 
       -- else it takes effect
-      pub changes-diagnosis : leaves ≡ false → {new : Control} {n : List ℕ} → new ≡ diagnosed control count flags → n ≡ kept (diagnosisChanged s new) m
+      pub changes-diagnosis : leaves ≡ false → {new : Control} {n : List ℕ} → new ≡ diagnosed control count flags → n ≡ kept (diagnosisChanged s (withChain new (s .control .chain))) m
           → Meets (packed m (newDiagnosis s m count flags)) (Value 0) n
+      unfolding diagnosed
       changes-diagnosis e f g =
           rw (given e)
-          (record { answers = refl; leaves = g ∙ (λ i. kept (diagnosisChanged s ((f ∙ (λ j. diagnosed (same j) count flags)) i)) m) })
+          (record {
+            answers = refl;
+            leaves = g ∙ (λ i. kept (diagnosisChanged s (withChain ((f ∙ (λ j. diagnosed (same j) count flags)) i) (s .control .chain))) m);
+          })
 
     -- ---- an outcome carried out
 
-    module _ {o : Outcome} {n : List ℕ} (left : n ≡ packedAfter (carried s m o 0)) where
-      -- the outcome p, and j is told
-      tells-carried : (j : ℕ) (p : Outcome) {k : ℕ} → k ≡ j → o ≡ p → Meets (packed m (toldOf j (carried s m p 0))) (Value k) n
-      tells-carried j p e f =
-          record { answers = ap Value e; leaves = left ∙ ap (λ (x : Outcome). packedAfter (carried s m x 0)) f }
+    module _ {o : Outcome} {n : List ℕ} (left : n ≡ packedAfter (carried s m (onChain o (s .control .chain)) 0)) where
+      -- the outcome p, which leaves the chain, and j is told
+      tells-carried : (j : ℕ) (p : Outcome) {k : ℕ} → k ≡ j → o ≡ p → Quiet (s .setup) (s .control) Unit p
+          → Meets (packed m (toldOf j (carried s m p 0))) (Value k) n
+      tells-carried j p e f q =
+          record {
+            answers = ap Value e;
+            leaves = left ∙ ap (λ (x : Outcome). packedAfter (carried s m x 0)) (ap (λ (x : Outcome). onChain x (s .control .chain)) f ∙ chain-stays q);
+          }
 
       -- leave master
       pub leaves-master : {b : Bool} → b ≡ busy s → o ≡ clearOn b control → Meets (packed m (leaveMaster s m)) (Value 0) n
       unfolding leaveMaster
-      leaves-master e f = tells-carried 0 _ refl (f ∙ (λ i. clearOn (e i) (same i)))
+      leaves-master e f =
+          tells-carried 0 _ refl (f ∙ (λ i. clearOn (e i) (same i))) (clear-quiet (s .setup) (s .control) (busy s) (λ _. tt))
 
       -- a set that is open is judged
       module _ (j : ℕ) (known : not (leb j 1) ≡ false) {sets : Sets} {b : Bool} (tested : b ≡ isOpen sets)
@@ -107,7 +120,8 @@ module _ (s : State) (m : List ℕ) where
         judges-parameters e f g =
             rw (ap not (sym (tested ∙ ap isOpen e)) ∙ f, known)
             (tells-carried _ _ (tells ∙ (λ i. cond (e i .set .fresh) 1 0))
-            (g ∙ (λ i. judgedParameters (same i) (e i .set .fresh) (eqb j 1))))
+            (g ∙ (λ i. judgedParameters (same i) (e i .set .fresh) (eqb j 1)))
+            (parameters-quiet (s .setup) (s .control) (s .parameters .set .fresh) (eqb j 1) tt))
 
         -- configuration not before good parameters
         pub judges-configuration : sets ≡ s .configuration → not (b && control .flags .«parameters_good») ≡ false
@@ -119,4 +133,5 @@ module _ (s : State) (m : List ℕ) where
             in
             rw (open-good, known)
             (tells-carried _ _ (tells ∙ (λ i. cond (e i .set .fresh) 1 0))
-            (g ∙ (λ i. judgedConfiguration (same i) (e i .set .fresh) (eqb j 1))))
+            (g ∙ (λ i. judgedConfiguration (same i) (e i .set .fresh) (eqb j 1)))
+            (configuration-quiet (s .setup) (s .control) (s .configuration .set .fresh) (eqb j 1) tt))

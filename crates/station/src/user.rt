@@ -155,10 +155,10 @@ pub fn hand_over(mem: &mut [u8]) -> Answer
     Answer::Value(0)
 }
 
-// The two diagnosis buffers change, with that control part.
+// The two diagnosis buffers change, with that control part but for its chain.
 fn change_diagnosis(mem: &mut [u8], control: Control)
     requires { ⌜ stateLength ≤ length (now mem) ⌝ }
-    ensures { λ _. ⌜ ((s : State) → unpacked (now (mem .entry)) ≡ s → now (mem .entry) ≡ kept s (now (mem .entry)) → now (mem .exit) ≡ kept (diagnosisChanged s control) (now (mem .entry))) ⌝ }
+    ensures { λ _. ⌜ ((s : State) → unpacked (now (mem .entry)) ≡ s → now (mem .entry) ≡ kept s (now (mem .entry)) → now (mem .exit) ≡ kept (diagnosisChanged s (withChain control (s .control .chain))) (now (mem .entry))) ⌝ }
 {
     let swapped = load::swapped(&mem[..]);
     save_control(control, mem);

@@ -1,0 +1,98 @@
+-- A request that is sent again (document 02, Req 04): what its repeat draws, and that the vat program notices nothing of it.
+use Prim.Native.Nat.{ℕ}
+use mathlib.Core.Path.{_≡_}
+use mathlib.Core.Bool.{Bool, true, false, not, _&&_}
+use mathlib.Core.List.{List, [], _∷_, _++_}
+use Rattle.telegram.specs.declared.reader.Status.{Status}
+use Rattle.telegram.specs.declared.reader.Status.the-variants.{Fresh, Inside, Complete, Broken}
+use Rattle.telegram.specs.Telegram.{Telegram, octetsOf, payloadOf, Valid}
+use Rattle.telegram.specs.Reading.{run, readerAfter, status}
+use Rattle.state.specs.declared.state.Drawn.the-variants as drawn
+use Rattle.rules.specs.declared.request.Service.the-variants.{SetPrm}
+use Rattle.rules.specs.Call.{Call, octet, gap, send, tick, take, read, write, hand-over, new-diagnosis, judge-parameters, judge-configuration, events, acknowledge, pending, leave}
+use Rattle.rules.specs.Requests.{masterOf, refilled, serviceOf}
+use Rattle.rules.specs.Retries.{isRequest, fcvOf, fcbOf, isRepeat}
+use Rattle.rules.specs.Services.{otherOwns}
+use Rattle.ledger.specs.Ledger.{Ledger}
+use Rattle.ledger.specs.Outcome.{settle}
+use Rattle.ledger.specs.Bus.{telegramOn, requestBy, outcomeOf, completed}
+use Rattle.ledger.specs.Calls.{step, after}
+use Rattle.ledger.specs.Hearing.{hear}
+use Rattle.ledger.specs.History.{clears, telegramDeeds}
+
+-- the octets are those of a whole telegram
+abbrev pub isWhole : Status → Bool
+isWhole Fresh = false
+isWhole Inside = false
+isWhole Complete = true
+isWhole Broken = false
+
+-- a call completes a request: an octet with which the octets since the gap are one
+abbrev pub completesRequest : Ledger → Call → Bool
+completesRequest l (octet b bad) =
+    not (l .line .ignored) && isWhole (status (readerAfter (run (l .line .telegram)) b bad))
+    && isRequest (l .setup) (requestBy (telegramOn (l .line .telegram ++ b ∷ [])))
+completesRequest l gap = false
+completesRequest l send = false
+completesRequest l tick = false
+completesRequest l take = false
+completesRequest l (read kind index) = false
+completesRequest l (write kind index x) = false
+completesRequest l hand-over = false
+completesRequest l (new-diagnosis count flags) = false
+completesRequest l (judge-parameters j) = false
+completesRequest l (judge-configuration j) = false
+completesRequest l events = false
+completesRequest l (acknowledge mask) = false
+completesRequest l pending = false
+completesRequest l leave = false
+
+-- no call of a list completes a request; telegrams with function 4 or 6, and those that do not act, may come
+abbrev pub NoRequest : Ledger → List Call → Type 0
+NoRequest l [] = Unit
+NoRequest l (c ∷ cs) = (completesRequest l c ≡ false) × NoRequest (step l c .ledger) cs
+
+-- t is a request with FC bit 4 set that repeats none, and u is one with bit 4 set, that master and that bit 5; nothing else of u is looked at
+pub record SentAgain (l : Ledger) (t u : Telegram) : Type 0 where
+  pub first-asks : isRequest (l .setup) (requestBy t) ≡ true
+  pub first-counts : fcvOf (requestBy t) ≡ true
+  pub first-new : isRepeat (l .setup) (l .control) (requestBy t) ≡ false
+  pub second-valid : Valid u
+  pub second-asks : isRequest (l .setup) (requestBy u) ≡ true
+  pub second-counts : fcvOf (requestBy u) ≡ true
+  pub same-master : masterOf (requestBy u) ≡ masterOf (requestBy t)
+  pub same-bit : fcbOf (requestBy u) ≡ fcbOf (requestBy t)
+
+-- the ledger after t was completed, the calls cs and a gap
+abbrev pub gapAfter : Ledger → Telegram → List Call → Ledger
+gapAfter l t cs = step (after (settle (completed l t)) cs) gap .ledger
+
+-- of the ledger p after the gap: u is heard whole with no call between, octet by octet
+pub record NothingNew (p : Ledger) (u : Telegram) : Type 0 where
+  -- E5 is drawn
+  pub draws-e5 : after p (hear (octetsOf u)) .line .reply ≡ 0xE5 ∷ []
+  -- the control part stays, the events among it, but for the present owner's watchdog, and so do the lists
+  pub control-is : after p (hear (octetsOf u)) .control ≡ refilled (p .setup) (p .control) (requestBy u)
+  pub buffers-are : after p (hear (octetsOf u)) .buffers ≡ p .buffers
+  -- and before its last octet both stay whole
+  pub inner-control : (xs ys : List ℕ) (y : ℕ) → octetsOf u ≡ xs ++ y ∷ ys → after p (hear xs) .control ≡ p .control
+  pub inner-buffers : (xs ys : List ℕ) (y : ℕ) → octetsOf u ≡ xs ++ y ∷ ys → after p (hear xs) .buffers ≡ p .buffers
+
+-- if t drew E5: so it is after any calls between that complete no request
+abbrev pub E5Again : Type 0
+E5Again =
+    (l : Ledger) (t u : Telegram) (cs : List Call) → SentAgain l t u
+    → outcomeOf l (requestBy t) (payloadOf t) .drawn ≡ drawn.Acknowledge → NoRequest (settle (completed l t)) cs
+    → NothingNew (gapAfter l t cs) u
+
+-- "the vat program gets the event twice" no more: a Set_Prm that no other master's ownership refuses, and its repeat
+abbrev pub SetPrmOnce : Type 0
+SetPrmOnce =
+    (l : Ledger) (t u : Telegram) (cs : List Call) → SentAgain l t u → serviceOf (l .setup) (requestBy t) ≡ SetPrm
+    → otherOwns (l .control) (masterOf (requestBy t)) ≡ false → NoRequest (settle (completed l t)) cs
+    → NothingNew (gapAfter l t cs) u
+
+-- "the outputs of a repeated Data_Exchange count as accepted a single time": a repeat has no deed but that of a noted clear at its end
+abbrev pub NoDeedAgain : Type 0
+NoDeedAgain =
+    (l : Ledger) (t : Telegram) → isRepeat (l .setup) (l .control) (requestBy t) ≡ true → telegramDeeds l t ≡ clears (completed l t)
