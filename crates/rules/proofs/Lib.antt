@@ -3,7 +3,7 @@ pub mod MayRead
 pub mod Alike
 pub mod Headed
 pub mod ByCases
-mod Unasked
+pub mod Unasked
 pub mod Served
 pub mod EventsFollow
 pub mod Owner

@@ -290,7 +290,7 @@ serve-served g c b r octets =
     (λ k m u v x s f p _ _. moves-served g c w r k m u v x s f p) (serviceOf g r) octets (headed r g)
 
 -- and it leaves the chain as it is
-serve-chain : (g : Setup) (c : Control) (b : Occupied) (r : Request) (octets : Data) → serve (serviceOf g r) g c b r octets .control .chain ≡ c .chain
+pub serve-chain : (g : Setup) (c : Control) (b : Occupied) (r : Request) (octets : Data) → serve (serviceOf g r) g c b r octets .control .chain ≡ c .chain
 unfolding waitPrm parametrized
 serve-chain g c b r octets =
     serve-cases (λ o. o .control .chain ≡ c .chain) c (λ _ _ s _. s .alike-is .chain-same) (λ _ _ _ h _. h) g r b (λ _ _ _. refl)

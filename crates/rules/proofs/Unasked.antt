@@ -2,7 +2,7 @@
 use Prim.Native.Nat.{ℕ}
 use native.Mathlib.Omega.{arith}
 use mathlib.Core.Path.{_≡_, refl, sym, _∙_}
-use mathlib.Core.Bool.{true, false, not, _||_}
+use mathlib.Core.Bool.{Bool, true, false, not, _||_}
 use mathlib.Core.Logic.{_⊎_, inl, inr}
 use lib.Dec.{eqb}
 use borrow.Author.Tests.{eqb-true, ne-eqb, not-false}
@@ -22,7 +22,7 @@ use Rattle.rules.specs.Retries.{isRequest}
 use Rattle.rules.specs.Services.{controls, globalControl, serve}
 
 -- nothing, or Global_Control
-abbrev Unasked : Service → Type 0
+abbrev pub Unasked : Service → Type 0
 Unasked Nothing = Unit
 Unasked Status = ⊥
 Unasked Reject = ⊥
@@ -62,6 +62,14 @@ module _ (g : Setup) (r : Request) where
   unfolding serviceOf
   service-unasked e =
       by-test Unasked (acts g r) _ _ (λ h. function-unasked (not-false (wantsNone r) (and-second (acts g r) (not (wantsNone r)) e h))) (λ _. tt)
+
+-- so what asks for anything else is one
+pub request-asked : (g : Setup) (r : Request) → (Unasked (serviceOf g r) → ⊥) → isRequest g r ≡ true
+request-asked g r f = go (isRequest g r) refl
+  where
+    go : (t : Bool) → isRequest g r ≡ t → t ≡ true
+    go true e = refl
+    go false e = absurd (f (service-unasked g r e))
 
 module _ (g : Setup) (c : Control) (b : Occupied) (r : Request) (octets : Data) where
   serve-stays : (v : Service) → Unasked v → SetsStay (serve v g c b r octets)

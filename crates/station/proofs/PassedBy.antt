@@ -1,7 +1,7 @@
 -- A telegram that does not act: nothing comes of it but that it was read and that no reply is left.
 use Prim.Native.Nat.{ℕ}
 use mathlib.Core.Path.{_≡_, sym, ap, _∙_}
-use mathlib.Core.Bool.{false, cond, _&&_}
+use mathlib.Core.Bool.{Bool, false, cond, not, _&&_}
 use mathlib.Core.List.{List}
 use Rattle.buffers.specs.Roles.{heldOf}
 use Rattle.telegram.specs.Sending.{empty}
@@ -9,6 +9,8 @@ use Rattle.state.specs.declared.state.Drawn.the-variants as drawn
 use Rattle.state.specs.declared.state.Incoming.{Incoming}
 use Rattle.state.specs.declared.state.Reply.{Reply}
 use Rattle.state.specs.declared.state.State.{State}
+use Rattle.state.specs.declared.control.Control.{Control}
+use Rattle.state.specs.Chain.{drawnIn}
 use Rattle.state.specs.Memory.{kept, Holds, Changes}
 use Rattle.state.specs.With.{withIncoming, withReply}
 use Rattle.state.proofs.Damage.{fronted-same}
@@ -19,7 +21,8 @@ use Rattle.rules.specs.declared.request.Service.the-variants.{Nothing}
 use Rattle.rules.specs.Control.{owns, withWatchdog}
 use Rattle.rules.specs.Diagnosis.{headerOf}
 use Rattle.rules.specs.Phases.{drawing}
-use Rattle.rules.specs.Requests.{masterOf, acts, toStation, refilled, functionService, serviceOf}
+use Rattle.rules.specs.Requests.{masterOf, wantsNone, acts, toStation, refilled, functionService, serviceOf}
+use Rattle.rules.specs.Retries.{repeats, chainBy, onChain}
 use Rattle.rules.specs.Services.{serve}
 use Rattle.steps.specs.Stepped.{packedAfter}
 use Rattle.steps.specs.Outcome.{occupied, carried}
@@ -33,12 +36,13 @@ module _ (s : State) (m : List ℕ) (r : Request) (e : acts (s .setup) r ≡ fal
   passed =
       let c = s .control in
       let g = s .setup in
+      let refill : Bool → Control =
+      λ t. cond (t && toStation g r && owns c (masterOf r)) (withWatchdog c (record { reload = c .watchdog .reload; remaining = c .watchdog .reload })) c
+      in
+      let o : Bool → Outcome = λ t. serve (cond t (functionService r) Nothing) g (refill t) (occupied s) r (dataIn s m) in
       λ j.
-      serve (cond (e j) (functionService r) Nothing) g
-      (cond (e j && toStation g r && owns c (masterOf r)) (withWatchdog c (record { reload = c .watchdog .reload; remaining = c .watchdog .reload })) c)
-      (occupied s)
-      r
-      (dataIn s m)
+      cond (e j && repeats (c .chain) r) (drawing (refill (e j)) (drawnIn (c .chain)))
+      (onChain (o (e j)) (cond (e j && not (wantsNone r)) (chainBy r (o (e j) .drawn)) (o (e j) .control .chain)))
 
   -- so only the telegram and the reply change
   pub passed-by : Holds m s → (i : Incoming) (reply : Reply) (n l : List ℕ)

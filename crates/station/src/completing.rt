@@ -46,19 +46,22 @@ use state::state::Incoming;
 use state::state::Reply;
 use telegram::Kind;
 use telegram::sender::Sender;
-ghost use mathlib.Core.Bool.{true, false};
+ghost use Prim.Native.Nat.{_≤_};
+ghost use mathlib.Core.Bool.{true, false, cond, not};
 ghost use mathlib.Core.Path.{_≡_};
+ghost use lib.ListN.{length};
 ghost use Rattle.buffers.specs.Roles.{heldOf};
 ghost use Rattle.state.specs.declared.state.State.{State};
-ghost use Rattle.state.specs.Memory.{Holds};
+ghost use Rattle.state.specs.Layout.{stateLength};
+ghost use Rattle.state.specs.Memory.{Holds, Changes};
 ghost use Rattle.state.specs.Unpack.{unpacked};
-ghost use Rattle.state.specs.With.{withIncoming};
+ghost use Rattle.state.specs.With.{withChain};
 ghost use Rattle.rules.specs.declared.request.Service.the-variants.{SlaveDiag};
-ghost use Rattle.rules.specs.Requests.{acts, serviceOf};
-ghost use Rattle.steps.specs.Stepped.{packedAfter};
+ghost use Rattle.rules.specs.Requests.{wantsNone, acts, serviceOf};
+ghost use Rattle.rules.specs.Retries.{chainBy};
 ghost use Rattle.steps.specs.Replies.{replyFor};
-ghost use Rattle.steps.specs.Reading.{requestBy, prmIn, outcomeOf, answered};
-ghost use Rattle.station.specs.Completing.{completedBy, isDataExchange, isGoodExchange};
+ghost use Rattle.steps.specs.Reading.{requestBy, prmIn};
+ghost use Rattle.station.specs.Completing.{completedBy, served, answeredBy, isAgain, isDataExchange, isGoodExchange};
 
 // The octets of Set_Prm in the parameters' fill buffer.
 fn prm_in(mem: &[u8]) -> Prm
@@ -70,10 +73,10 @@ fn prm_in(mem: &[u8]) -> Prm
     prm_at(mem, parameters_at(setup, parameters.set.fill()))
 }
 
-// What comes of a telegram.
-fn outcome_in(mem: &[u8], r: Request, service: Service) -> Outcome
+// What comes of the service that a telegram asks for.
+fn served_in(mem: &[u8], r: Request, service: Service) -> Outcome
     requires { ⌜ (Holds (now mem) (unpacked (now mem))) × (service ≡ serviceOf (unpacked (now mem) .setup) r) ⌝ }
-    ensures { λ o. ⌜ o ≡ outcomeOf (unpacked (now (mem .entry))) (now (mem .entry)) r ⌝ }
+    ensures { λ o. ⌜ o ≡ served (unpacked (now (mem .entry))) (now (mem .entry)) r ⌝ }
 {
     let setup = load::setup(mem);
     let incoming = load::incoming(mem);
@@ -95,7 +98,7 @@ fn outcome_in(mem: &[u8], r: Request, service: Service) -> Outcome
 // A later request is compared with this one, if it is a request.
 fn keep_request(mem: &mut [u8], r: Request, drawn: Drawn)
     requires { ⌜ stateLength ≤ length (now mem) ⌝ }
-    ensures { λ _. ⌜ Changes (now (mem .entry)) (now (mem .exit)) (λ s. withChain s (cond (wantsNone r) (s .control .chain) (chainBy r drawn))) ⌝ }
+    ensures { λ _. ⌜ Changes (now (mem .entry)) (now (mem .exit)) (λ s. withChain s (cond (not (wantsNone r)) (chainBy r drawn) (s .control .chain))) ⌝ }
 {
     if wants_reply(r) {
         save_chain(chain_by(r, drawn), mem);
@@ -104,8 +107,8 @@ fn keep_request(mem: &mut [u8], r: Request, drawn: Drawn)
 
 // An outcome carried out, the telegram read to its end, and the reply drawn.
 fn answer(mem: &mut [u8], o: Outcome, i: Incoming, r: Request)
-    requires { ⌜ Holds (now mem) (unpacked (now mem)) ⌝ }
-    ensures { λ _. ⌜ now (mem .exit) ≡ packedAfter (answered (withIncoming (unpacked (now (mem .entry))) i) (now (mem .entry)) o r) ⌝ }
+    requires { ⌜ (Holds (now mem) (unpacked (now mem))) × (acts (unpacked (now mem) .setup) r ≡ true) ⌝ }
+    ensures { λ _. ⌜ now (mem .exit) ≡ answeredBy (now (mem .entry)) i r o ⌝ }
 {
     let drawn = o.drawn;
     let deed = o.outputs;
@@ -168,7 +171,7 @@ fn exchange_reply(setup: Setup, control: Control, held: u8, master: u8) -> Reply
 
 // A good Data_Exchange: its data is published, or held back in sync.
 fn exchange(mem: &mut [u8], i: Incoming, r: Request)
-    requires { ⌜ (Holds (now mem) (unpacked (now mem))) × (isGoodExchange (unpacked (now mem)) r ≡ true) ⌝ }
+    requires { ⌜ (Holds (now mem) (unpacked (now mem))) × (isGoodExchange (unpacked (now mem)) r ≡ true) × (isAgain (unpacked (now mem)) r ≡ false) ⌝ }
     ensures { λ _. ⌜ now (mem .exit) ≡ completedBy (now (mem .entry)) i r ⌝ }
 {
     let setup = load::setup(&mem[..]);
@@ -188,7 +191,7 @@ fn exchange(mem: &mut [u8], i: Incoming, r: Request)
 
 // Slave_Diag: of the station's own parts it changes the control part alone.
 fn diagnose(mem: &mut [u8], i: Incoming, r: Request)
-    requires { ⌜ (Holds (now mem) (unpacked (now mem))) × (serviceOf (unpacked (now mem) .setup) r ≡ SlaveDiag) ⌝ }
+    requires { ⌜ (Holds (now mem) (unpacked (now mem))) × (serviceOf (unpacked (now mem) .setup) r ≡ SlaveDiag) × (isAgain (unpacked (now mem)) r ≡ false) ⌝ }
     ensures { λ _. ⌜ now (mem .exit) ≡ completedBy (now (mem .entry)) i r ⌝ }
 {
     let setup = load::setup(&mem[..]);
@@ -209,7 +212,7 @@ fn diagnose(mem: &mut [u8], i: Incoming, r: Request)
 
 // A repeat draws the reply again: of the station's own parts it changes the owner's watchdog alone.
 fn repeat(mem: &mut [u8], i: Incoming, r: Request)
-    requires { ⌜ (Holds (now mem) (unpacked (now mem))) × (isRepeat (unpacked (now mem) .setup) (unpacked (now mem) .control) r ≡ true) ⌝ }
+    requires { ⌜ (Holds (now mem) (unpacked (now mem))) × (isAgain (unpacked (now mem)) r ≡ true) ⌝ }
     ensures { λ _. ⌜ now (mem .exit) ≡ completedBy (now (mem .entry)) i r ⌝ }
 {
     let setup = load::setup(&mem[..]);
@@ -224,7 +227,7 @@ fn repeat(mem: &mut [u8], i: Incoming, r: Request)
 
 // A telegram that acts and is no repeat, by the service that it asks for.
 fn apply(mem: &mut [u8], i: Incoming, r: Request, service: Service)
-    requires { ⌜ (Holds (now mem) (unpacked (now mem))) × (service ≡ serviceOf (unpacked (now mem) .setup) r) ⌝ }
+    requires { ⌜ (Holds (now mem) (unpacked (now mem))) × (service ≡ serviceOf (unpacked (now mem) .setup) r) × (acts (unpacked (now mem) .setup) r ≡ true) × (isAgain (unpacked (now mem)) r ≡ false) ⌝ }
     ensures { λ _. ⌜ now (mem .exit) ≡ completedBy (now (mem .entry)) i r ⌝ }
 {
     if is_good_exchange(&mem[..], r, service) {
@@ -235,7 +238,7 @@ fn apply(mem: &mut [u8], i: Incoming, r: Request, service: Service)
         diagnose(mem, i, r);
         return;
     }
-    answer(mem, outcome_in(&mem[..], r, service), i, r);
+    answer(mem, served_in(&mem[..], r, service), i, r);
 }
 
 // A telegram that does not act draws nothing.

@@ -36,6 +36,7 @@ ghost use Rattle.state.specs.Answer.{Meets};
 ghost use Rattle.state.specs.Layout.{stateLength};
 ghost use Rattle.state.specs.Memory.{kept, Holds};
 ghost use Rattle.state.specs.Unpack.{unpacked};
+ghost use Rattle.rules.specs.Control.{withChain};
 ghost use Rattle.steps.specs.Stepped.{Tells};
 ghost use Rattle.steps.specs.Step.{packed};
 ghost use Rattle.steps.specs.Outcome.{diagnosisChanged};
