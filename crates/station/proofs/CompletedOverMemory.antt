@@ -165,7 +165,15 @@ exchange-drawn setup c held master fc sender header ef es eh t e f g =
 chain-draw : (d : Drawn) (s : State) (c : Control) (h : Chain) (master : ℕ)
     → replyFor d (withControl s c) master ≡ replyFor d (withControl s (part.withChain c h)) master
 unfolding replyFor headerOf
-chain-draw d s c h master = refl
+chain-draw drawn.Nothing s c h master = refl
+chain-draw drawn.Acknowledge s c h master = refl
+chain-draw drawn.Status s c h master = refl
+chain-draw drawn.Rejected s c h master = refl
+chain-draw drawn.Exchange s c h master = refl
+chain-draw drawn.Inputs s c h master = refl
+chain-draw drawn.Outputs s c h master = refl
+chain-draw drawn.Configuration s c h master = refl
+chain-draw drawn.Diagnosis s c h master = refl
 
 -- nor that to a Data_Exchange at the events
 events-draw : (s : State) (c : Control) (e : Events) (h : Chain) (master : ℕ)

@@ -33,14 +33,17 @@ module _ (s : State) (m : List ℕ) (x : Control) (same : x ≡ s .control) wher
   tick-drops e = by-noted true e
 
   module _ (none : x .noted ≡ false) where
-    -- none is noted: the outcome of the rules, which leaves the chain,
-    pub tick-carries : (b : Bool) (o : Outcome) → b ≡ busy s → o ≡ ticked b x → elapsed s m ≡ carried s m (onChain o (s .control .chain)) 0
+    -- none is noted: the outcome of the rules,
+    pub tick-carries : (b : Bool) (o : Outcome) → b ≡ busy s → o ≡ ticked b x → elapsed s m ≡ carried s m o 0
     tick-carries b o e f =
-        by-noted false none
-        ∙ ap (λ (p : Outcome). carried s m p 0)
-        (sym
-        (ap (λ (p : Outcome). onChain p (s .control .chain)) (f ∙ (λ i. ticked (e i) (same i)))
-        ∙ chain-stays (ticked-quiet (s .setup) (s .control) {Clear = Unit} (busy s) (λ _. tt))))
+        by-noted false none ∙ ap (λ (p : Outcome). carried s m p 0) (sym (f ∙ (λ i. ticked (e i) (same i))))
+
+    -- which leaves the chain,
+    pub tick-carries-over : (b : Bool) (o : Outcome) → b ≡ busy s → o ≡ ticked b x → elapsed s m ≡ carried s m (onChain o (s .control .chain)) 0
+    tick-carries-over b o e f =
+        let is : o ≡ ticked (busy s) (s .control) = f ∙ (λ i. ticked (e i) (same i)) in
+        let stays = chain-stays (ticked-quiet (s .setup) (s .control) {Clear = Unit} (busy s) (λ _. tt)) in
+        by-noted false none ∙ ap (λ (p : Outcome). carried s m p 0) (sym ((λ i. onChain (is i) (s .control .chain)) ∙ stays))
 
     module _ (b : Bool) (tested : b ≡ counts x) where
       -- by the test of the code

@@ -2,7 +2,7 @@
 use Rattle.state.proofs.Damage.{fronted-same}
 use Rattle.steps.proofs.Holding.{holds-safe}
 use Rattle.station.proofs.SentOverMemory.{packs}
-use Rattle.station.proofs.Ticking.{tick-drops, tick-carries, tick-rests, tick-counts}
+use Rattle.station.proofs.Ticking.{tick-drops, tick-carries-over, tick-rests, tick-counts}
 use Rattle.state.specs.Unpack.{unpacked}
 use borrow.Author.Needs.{needs}
 use Rattle.station.proofs.bus.tick.Statement.{statement}
@@ -75,7 +75,7 @@ returns-4 : tie.Need-returns-4
 returns-4 c =
     let d = c .before .before .before .before .before .before .before .before in
     let m = d .before .before .before .before .before .before .args .mem .now in
-    rw (tick-carries (unpacked m) m _ (d .before .before .before .control .ensures) (d .before .before .if1 .left) _ _ (c .before .before .before .before .busy-in .ensures)
+    rw (tick-carries-over (unpacked m) m _ (d .before .before .before .control .ensures) (d .before .before .if1 .left) _ _ (c .before .before .before .before .busy-in .ensures)
     (c .before .before .before .ticked .ensures))
     (c .before .before .carry-over .ensures)
 

@@ -26,16 +26,33 @@ draw-requires : tie.Need-draw-requires
 draw-requires c κs = search needs
 
 carry-over-requires : tie.Need-carry-over-requires
-carry-over-requires c κs = search needs
+carry-over-requires c κs = c .before .before .before .before .before .before .before .before .before .before .pre .0
 
 save-incoming-requires : tie.Need-save-incoming-requires
-save-incoming-requires c κs = search needs
+save-incoming-requires c κs =
+    let carried = c .before .before .before in
+    let k1 = carried .carry-over .kept .0 in
+    let long = carried .before .before .before .before .before .before .before .before .before .before .before .pre .0 .long in
+    omega arith
 
 save-reply-requires : tie.Need-save-reply-requires
 save-reply-requires c κs =
-    let carried = c .before .before .before .before .before .before .before .carry-over .kept .0 in
-    let read = c .before .before .before .save-incoming .kept .1 .0 in
-    let long = c .before .before .before .before .before .before .before .before .before .before .before .before .before .before .before .before .before .before .pre .long in
+    let incoming = c .before .before .before in
+    let carried = incoming .before .before .before .before in
+    let k1 = carried .carry-over .kept .0 in
+    let k2 = incoming .save-incoming .kept .1 .0 in
+    let long = carried .before .before .before .before .before .before .before .before .before .before .before .pre .0 .long in
+    omega arith
+
+keep-request-requires : tie.Need-keep-request-requires
+keep-request-requires c κs =
+    let reply = c .before .before .before in
+    let incoming = reply .before .before .before .before in
+    let carried = incoming .before .before .before .before in
+    let k1 = carried .carry-over .kept .0 in
+    let k2 = incoming .save-incoming .kept .1 .0 in
+    let k3 = reply .save-reply .kept .1 .0 in
+    let long = carried .before .before .before .before .before .before .before .before .before .before .before .pre .0 .long in
     omega arith
 
 same-length : tie.Need-same-length
@@ -43,26 +60,30 @@ same-length c = search needs
 
 returns : tie.Need-returns
 returns c =
-    let reply = c .before .before in
+    let kept = c .before .before in
+    let reply = kept .before .before .before .before in
     let incoming = reply .before .before .before .before in
     let carried = incoming .before .before .before .before in
     let drawn = carried .before .before in
-    let start = drawn .before .before .before .before .before .before .before .before .before .args in
-    let m = now (start .mem) in
-    answered-over m (unpacked m) (start .i) (start .r) _ _ _ _ _
+    let start = drawn .before .before .before .before .before .before .before .before .before in
+    let m = now (start .args .mem) in
+    answered-over m (unpacked m) (start .args .i) (start .args .r) _ _ _ _ _
     (drawn .before .before .before .before .before .before .setup .ensures)
     (drawn .before .before .before .before .outputs .ensures)
     (drawn .before .before .held .ensures)
     (drawn .before .master-of .ensures)
-    (start .o) _
+    (start .pre .1)
+    (start .args .o) _
     (drawn .before .before .before .on-outputs .ensures)
     (drawn .draw .ensures)
     (carried .carry-over .last .0)
     (incoming .save-incoming .last .1 .0)
     (reply .save-reply .last .1 .0)
+    (kept .keep-request .last .0)
     (carried .carry-over .ensures)
     (incoming .save-incoming .ensures)
     (reply .save-reply .ensures)
+    (kept .keep-request .ensures)
 
 pub answer-spec : {M : Type 1} → statement M
 answer-spec =
@@ -77,5 +98,6 @@ answer-spec =
     carry-over-requires
     save-incoming-requires
     save-reply-requires
+    keep-request-requires
     same-length
     returns)

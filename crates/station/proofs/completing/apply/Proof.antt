@@ -1,5 +1,13 @@
 -- `station::completing::apply` meets its contract.
-use mathlib.Core.Path.{sym, _∙_}
+use mathlib.Core.Path.{sym, ap, _∙_}
+use denote.Ref.{now}
+use Rattle.state.specs.Unpack.{unpacked}
+use Rattle.state.specs.With.{withIncoming}
+use Rattle.rules.specs.declared.outcome.Outcome.{Outcome}
+use Rattle.steps.specs.Stepped.{packedAfter}
+use Rattle.steps.specs.Reading.{answered}
+use Rattle.station.specs.Completing.{answeredBy}
+use Rattle.station.proofs.CompletedOverMemory.{served-once}
 use borrow.Author.Needs.{needs}
 use Rattle.station.proofs.completing.apply.Statement.{statement}
 use Rattle.station.proofs.completing.apply.Tie as tie
@@ -8,7 +16,9 @@ is-good-exchange-requires : tie.Need-is-good-exchange-requires
 is-good-exchange-requires c κs = search needs
 
 exchange-requires : tie.Need-exchange-requires
-exchange-requires c κs = (c .before .before .before .before .before .pre .0, sym (c .before .before .is-good-exchange .ensures) ∙ c .before .if1 .taken)
+exchange-requires c κs =
+    let start = c .before .before .before .before .before in
+    (start .pre .0, sym (c .before .before .is-good-exchange .ensures) ∙ c .before .if1 .taken, start .pre .3)
 
 same-length : tie.Need-same-length
 same-length c = search needs
@@ -22,7 +32,7 @@ enum-told c = search needs
 diagnose-requires : tie.Need-diagnose-requires
 diagnose-requires c κs =
     let start = c .before .before .before .before .before .before .before in
-    (start .pre .0, sym (start .pre .1) ∙ c .before .enum-told .given .1)
+    (start .pre .0, sym (start .pre .1) ∙ c .before .enum-told .given .1, start .pre .3)
 
 same-length-2 : tie.Need-same-length-2
 same-length-2 c = search needs
@@ -30,17 +40,24 @@ same-length-2 c = search needs
 returns-2 : tie.Need-returns-2
 returns-2 c = search needs
 
-outcome-in-requires : tie.Need-outcome-in-requires
-outcome-in-requires c κs = search needs
+served-in-requires : tie.Need-served-in-requires
+served-in-requires c κs = let start = c .before .before .before .before .before .before .before in (start .pre .0, start .pre .1)
 
 answer-requires : tie.Need-answer-requires
-answer-requires c κs = search needs
+answer-requires c κs = let start = c .before .before .before .before .before .before .before .before in (start .pre .0, start .pre .2)
 
 same-length-3 : tie.Need-same-length-3
 same-length-3 c = search needs
 
 returns-3 : tie.Need-returns-3
-returns-3 c = rw (c .before .before .before .outcome-in .ensures) at (c .before .before .answer .ensures)
+returns-3 c =
+    let start = c .before .before .before .before .before .before .before .before .before .before .before in
+    let m = now (start .args .mem) in
+    let i = start .args .i in
+    let r = start .args .r in
+    c .before .before .answer .ensures
+    ∙ ap (answeredBy m i r) (c .before .before .before .served-in .ensures)
+    ∙ ap (λ (o : Outcome). packedAfter (answered (withIncoming (unpacked m) i) m o r)) (sym (served-once (unpacked m) m r (start .pre .3)))
 
 pub apply-spec : {M : Type 1} → statement M
 apply-spec =
@@ -54,7 +71,7 @@ apply-spec =
     diagnose-requires
     same-length-2
     returns-2
-    outcome-in-requires
+    served-in-requires
     answer-requires
     same-length-3
     returns-3)

@@ -43,12 +43,26 @@ save-control-requires c κs =
     let long = incoming .before .before .before .before .before .before .before .before .before .before .before .before .before .before .pre .0 .long in
     omega arith
 
-save-reply-requires : tie.Need-save-reply-requires
-save-reply-requires c κs =
-    let control = c .before .before .before in
+chain-by-requires : tie.Need-chain-by-requires
+chain-by-requires c κs = search needs
+
+save-chain-requires : tie.Need-save-chain-requires
+save-chain-requires c κs =
+    let control = c .before .before .before .before in
     let incoming = control .before .before .before .before in
     let read = incoming .save-incoming .kept .1 .0 in
     let changed = control .save-control .kept .1 .0 in
+    let long = incoming .before .before .before .before .before .before .before .before .before .before .before .before .before .before .pre .0 .long in
+    omega arith
+
+save-reply-requires : tie.Need-save-reply-requires
+save-reply-requires c κs =
+    let chain = c .before .before .before in
+    let control = chain .before .before .before .before .before in
+    let incoming = control .before .before .before .before in
+    let read = incoming .save-incoming .kept .1 .0 in
+    let changed = control .save-control .kept .1 .0 in
+    let linked = chain .save-chain .kept .1 .0 in
     let long = incoming .before .before .before .before .before .before .before .before .before .before .before .before .before .before .pre .0 .long in
     omega arith
 
@@ -58,7 +72,8 @@ same-length c = search needs
 returns : tie.Need-returns
 returns c =
     let reply = c .before .before in
-    let control = reply .before .before .before .before in
+    let chain = reply .before .before .before .before in
+    let control = chain .before .before .before .before .before in
     let incoming = control .before .before .before .before in
     let drawn = incoming .before .before in
     let start = drawn .before .before .before .before .before .before .before .before .before .before .before .before in
@@ -69,17 +84,21 @@ returns c =
     (drawn .before .before .held .ensures)
     (drawn .before .master-of .ensures)
     (fronted-same m (unpacked m) (start .pre .0))
-    (start .pre .1) _ _ _ _
+    (start .pre .1)
+    (start .pre .2) _ _ _ _ _
     (drawn .before .before .before .before .before .before .before .control .ensures)
     (drawn .before .before .before .before .before .before .refilled .ensures)
     (drawn .before .before .before .before .before .slave-diag .ensures)
+    (chain .before .before .chain-by .ensures)
     refl
     (drawn .draw .ensures)
     (incoming .save-incoming .last .1 .0)
     (control .save-control .last .1 .0)
+    (chain .save-chain .last .1 .0)
     (reply .save-reply .last .1 .0)
     (incoming .save-incoming .ensures)
     (control .save-control .ensures)
+    (chain .save-chain .ensures)
     (reply .save-reply .ensures)
 
 pub diagnose-spec : {M : Type 1} → statement M
@@ -96,6 +115,8 @@ diagnose-spec =
     draw-requires
     save-incoming-requires
     save-control-requires
+    chain-by-requires
+    save-chain-requires
     save-reply-requires
     same-length
     returns)

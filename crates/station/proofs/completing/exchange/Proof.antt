@@ -66,9 +66,12 @@ save-ticks-requires c κs =
     let long = incoming .before .before .before .before .before .before .before .before .before .before .before .before .before .before .before .before .before .before .before .pre .0 .long in
     omega arith
 
-save-outputs-requires : tie.Need-save-outputs-requires
-save-outputs-requires c κs =
-    let ticks = c .before .before .before in
+chain-by-requires : tie.Need-chain-by-requires
+chain-by-requires c κs = search needs
+
+save-chain-requires : tie.Need-save-chain-requires
+save-chain-requires c κs =
+    let ticks = c .before .before .before .before in
     let events = ticks .before .before .before .before in
     let incoming = events .before .before .before .before .before in
     let k1 = incoming .save-incoming .kept .1 .0 in
@@ -77,16 +80,31 @@ save-outputs-requires c κs =
     let long = incoming .before .before .before .before .before .before .before .before .before .before .before .before .before .before .before .before .before .before .before .pre .0 .long in
     omega arith
 
-save-inputs-requires : tie.Need-save-inputs-requires
-save-inputs-requires c κs =
-    let outputs = c .before .before .before in
-    let ticks = outputs .before .before .before .before in
+save-outputs-requires : tie.Need-save-outputs-requires
+save-outputs-requires c κs =
+    let chain = c .before .before .before in
+    let ticks = chain .before .before .before .before .before in
     let events = ticks .before .before .before .before in
     let incoming = events .before .before .before .before .before in
     let k1 = incoming .save-incoming .kept .1 .0 in
     let k2 = events .save-events .kept .1 .0 in
     let k3 = ticks .save-ticks .kept .1 .0 in
-    let k4 = outputs .save-outputs .kept .1 .0 in
+    let k4 = chain .save-chain .kept .1 .0 in
+    let long = incoming .before .before .before .before .before .before .before .before .before .before .before .before .before .before .before .before .before .before .before .pre .0 .long in
+    omega arith
+
+save-inputs-requires : tie.Need-save-inputs-requires
+save-inputs-requires c κs =
+    let outputs = c .before .before .before in
+    let chain = outputs .before .before .before .before in
+    let ticks = chain .before .before .before .before .before in
+    let events = ticks .before .before .before .before in
+    let incoming = events .before .before .before .before .before in
+    let k1 = incoming .save-incoming .kept .1 .0 in
+    let k2 = events .save-events .kept .1 .0 in
+    let k3 = ticks .save-ticks .kept .1 .0 in
+    let k4 = chain .save-chain .kept .1 .0 in
+    let k5 = outputs .save-outputs .kept .1 .0 in
     let long = incoming .before .before .before .before .before .before .before .before .before .before .before .before .before .before .before .before .before .before .before .pre .0 .long in
     omega arith
 
@@ -94,14 +112,16 @@ save-reply-requires : tie.Need-save-reply-requires
 save-reply-requires c κs =
     let inputs = c .before .before .before in
     let outputs = inputs .before .before .before .before in
-    let ticks = outputs .before .before .before .before in
+    let chain = outputs .before .before .before .before in
+    let ticks = chain .before .before .before .before .before in
     let events = ticks .before .before .before .before in
     let incoming = events .before .before .before .before .before in
     let k1 = incoming .save-incoming .kept .1 .0 in
     let k2 = events .save-events .kept .1 .0 in
     let k3 = ticks .save-ticks .kept .1 .0 in
-    let k4 = outputs .save-outputs .kept .1 .0 in
-    let k5 = inputs .save-inputs .kept .1 .0 in
+    let k4 = chain .save-chain .kept .1 .0 in
+    let k5 = outputs .save-outputs .kept .1 .0 in
+    let k6 = inputs .save-inputs .kept .1 .0 in
     let long = incoming .before .before .before .before .before .before .before .before .before .before .before .before .before .before .before .before .before .before .before .pre .0 .long in
     omega arith
 
@@ -113,7 +133,8 @@ returns c =
     let reply = c .before .before in
     let inputs = reply .before .before .before .before in
     let outputs = inputs .before .before .before .before in
-    let ticks = outputs .before .before .before .before in
+    let chain = outputs .before .before .before .before in
+    let ticks = chain .before .before .before .before .before in
     let events = ticks .before .before .before .before in
     let incoming = events .before .before .before .before .before in
     let drawn = incoming .before .before in
@@ -125,7 +146,8 @@ returns c =
     (drawn .before .before .held .ensures)
     (drawn .before .master-of .ensures)
     (fronted-same m (unpacked m) (start .pre .0))
-    (start .pre .1) _ _ _ _ _ _ _ _
+    (start .pre .1)
+    (start .pre .2) _ _ _ _ _ _ _ _ _
     (drawn .before .before .before .before .before .before .before .before .before .before .before .before .control .ensures)
     (drawn .before .before .before .before .before .before .before .before .before .before .before .refilled .ensures)
     (drawn .before .before .before .before .before .before .before .before .before .before .exchange-outputs .ensures)
@@ -134,16 +156,19 @@ returns c =
     (drawn .before .before .before .before .inputs .ensures)
     (drawn .before .before .before .on-inputs .ensures)
     (events .before .before .announced .ensures)
+    (chain .before .before .chain-by .ensures)
     (drawn .exchange-reply .ensures)
     (incoming .save-incoming .last .1 .0)
     (events .save-events .last .1 .0)
     (ticks .save-ticks .last .1 .0)
+    (chain .save-chain .last .1 .0)
     (outputs .save-outputs .last .1 .0)
     (inputs .save-inputs .last .1 .0)
     (reply .save-reply .last .1 .0)
     (incoming .save-incoming .ensures)
     (events .save-events .ensures)
     (ticks .save-ticks .ensures)
+    (chain .save-chain .ensures)
     (outputs .save-outputs .ensures)
     (inputs .save-inputs .ensures)
     (reply .save-reply .ensures)
@@ -168,6 +193,8 @@ exchange-spec =
     announced-requires
     save-events-requires
     save-ticks-requires
+    chain-by-requires
+    save-chain-requires
     save-outputs-requires
     save-inputs-requires
     save-reply-requires

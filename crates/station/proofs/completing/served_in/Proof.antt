@@ -1,8 +1,7 @@
--- `station::completing::outcome_in` meets its contract.
-use Rattle.steps.specs.Reading.{outcomeOf}
+-- `station::completing::served_in` meets its contract.
 use borrow.Author.Needs.{needs}
-use Rattle.station.proofs.completing.outcome_in.Statement.{statement}
-use Rattle.station.proofs.completing.outcome_in.Tie as tie
+use Rattle.station.proofs.completing.served_in.Statement.{statement}
+use Rattle.station.proofs.completing.served_in.Tie as tie
 
 setup-requires : tie.Need-setup-requires
 setup-requires c κs = search needs
@@ -38,7 +37,6 @@ serve-requires : tie.Need-serve-requires
 serve-requires c κs = search needs
 
 returns : tie.Need-returns
-unfolding outcomeOf
 returns c =
     rw (
       c .serve .ensures,
@@ -55,8 +53,8 @@ returns c =
       c .before .before .before .before .before .before .before .before .before .before .setup .ensures,
     )
 
-pub outcome-in-spec : {M : Type 1} → statement M
-outcome-in-spec =
+pub served-in-spec : {M : Type 1} → statement M
+served-in-spec =
     tie.close
     (tie.spec
     setup-requires
