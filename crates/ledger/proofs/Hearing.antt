@@ -21,14 +21,14 @@ use Rattle.ledger.specs.Calls.{answers, after}
 use Rattle.ledger.specs.Hearing.{hear, begunBy, Hears, sendsOf, values, replyTo, Dialogue}
 use Rattle.ledger.proofs.Runs.{answers-append}
 use Rattle.ledger.proofs.Settling.{settle-line}
-use Rattle.ledger.proofs.Exchange.{Lengthens, lengthens-heard}
+use Rattle.ledger.proofs.Exchange.{lengthens-heard}
 
 pub hear-answers : (l : Ledger) (xs : List ℕ) → answers l (hear xs) ≡ replicate (length xs) (Value 0)
 hear-answers l [] = refl
 hear-answers l (x ∷ xs) = ap (λ (a : List Answer). Value 0 ∷ a) (hear-answers (heard l x false) xs)
 
 -- a telegram that lacks octets is inside
-unfinished : (x : ℕ) (xs : List ℕ) (y : ℕ) (ys : List ℕ) → IsTelegram ((x ∷ xs) ++ y ∷ ys) → status (run (x ∷ xs)) ≡ Inside
+pub unfinished : (x : ℕ) (xs : List ℕ) (y : ℕ) (ys : List ℕ) → IsTelegram ((x ∷ xs) ++ y ∷ ys) → status (run (x ∷ xs)) ≡ Inside
 unfinished x xs y ys w = go (status (run (x ∷ xs))) refl
   where
     go : (s : Status) → status (run (x ∷ xs)) ≡ s → s ≡ Inside
@@ -43,7 +43,7 @@ pub one-more : {s : Status} (xs : List ℕ) (y : ℕ) → status (run (xs ++ y �
 one-more xs y e = ap status (sym (run-snoc xs y)) ∙ e
 
 -- what comes of a telegram does not look at the line
-completed-on : (l : Ledger) (n : Line) (t : Telegram) → completed (withLine l n) t ≡ completed l t
+pub completed-on : (l : Ledger) (n : Line) (t : Telegram) → completed (withLine l n) t ≡ completed l t
 unfolding answered
 completed-on l n t = refl
 
@@ -52,6 +52,11 @@ pub last-heard : (l : Ledger) (y : ℕ) (bad : Bool) → l .line .ignored ≡ fa
     → heard l y bad ≡ settle (completed l (telegramOn (l .line .telegram ++ y ∷ [])))
 unfolding heard
 last-heard l y bad i s = rw (i, s)
+
+-- an inner octet
+pub inner-heard : (l : Ledger) (x : ℕ) (xs : List ℕ) (y : ℕ) → l .line .ignored ≡ false → l .line .telegram ≡ x ∷ xs
+    → status (run ((x ∷ xs) ++ y ∷ [])) ≡ Inside → heard l y false ≡ withLine l (lengthened (l .line) y)
+inner-heard l x xs y i e s = lengthens-heard l y false (record { listens = i; begins = rw e; inside = rw e (one-more (x ∷ xs) y s) })
 
 module _ (t : Telegram) (v : Valid t) where
   -- the octets y ∷ ys that the telegram lacks
@@ -66,9 +71,7 @@ module _ (t : Telegram) (v : Valid t) where
       ∙ ap (λ (u : Telegram). settle (completed l u)) (framing (octetsOf t) .told t v refl)
   rest-heard l x xs y (z ∷ zs) i e o =
       let w : octetsOf t ≡ (x ∷ (xs ++ y ∷ [])) ++ z ∷ zs = o ∙ sym (append-assoc (x ∷ xs) (y ∷ []) (z ∷ zs)) in
-      let s = one-more (x ∷ xs) y (unfinished x (xs ++ y ∷ []) z zs (t, v, w)) in
-      let g : Lengthens (l .line) y false = record { listens = i; begins = rw e; inside = rw e s } in
-      ap (λ (m : Ledger). after m (hear (z ∷ zs))) (lengthens-heard l y false g)
+      ap (λ (m : Ledger). after m (hear (z ∷ zs))) (inner-heard l x xs y i e (unfinished x (xs ++ y ∷ []) z zs (t, v, w)))
       ∙ rest-heard (withLine l (lengthened (l .line) y)) x (xs ++ y ∷ []) z zs refl (rw e) w
       ∙ ap settle (completed-on l (lengthened (l .line) y) t)
 

@@ -15,6 +15,7 @@ pub mod ModesKept
 pub mod OctetReplies
 pub mod OctetsCarried
 pub mod Octets
+pub mod RequestKept
 pub mod Repeats
 pub mod Demand2
 pub mod Scripts

@@ -5,6 +5,7 @@ pub mod Headed
 pub mod ByCases
 pub mod Unasked
 pub mod Served
+pub mod Repeats
 pub mod EventsFollow
 pub mod Owner
 pub mod ModesKept

@@ -40,7 +40,7 @@ pub use Rattle.rules.proofs.MayRead.{isOutputs, mayRead}
 pub use Rattle.rules.proofs.ByCases.{Publishes}
 use Rattle.rules.proofs.ByCases.{Akin, moving, clear-cases, noted-cases, ticked-cases, parameters-cases, configuration-cases, serve-cases}
 use Rattle.rules.proofs.Alike.{Alike, exchange-same, may-read-same, refilled-alike}
-use Rattle.rules.proofs.Unasked.{SetsStay, unasked-stays}
+use Rattle.rules.proofs.Unasked.{Silent, unasked-silent}
 
 -- ---- every outcome
 
@@ -298,7 +298,7 @@ serve-chain g c b r octets =
 
 -- the chain then
 module _ {g : Setup} {c : Control} {withheld : Bool} {r : Request} {o : Outcome} (v : Once g c withheld r o) (same : o .control .chain ≡ c .chain)
-    (unasked : isRequest g r ≡ false → SetsStay o) where
+    (unasked : isRequest g r ≡ false → Silent o) where
   abbrev Stays : Type 0
   Stays = (mayRead c ≡ true) × (o .parameters ≡ set-deed.Keep) × (o .configuration ≡ set-deed.Keep)
 
@@ -356,7 +356,7 @@ served g c b r octets =
     let k = refilled g c r in
     let a = refilled-alike g c r in
     either (Served g c (b .outputs) r) (isRepeat g c r) (repeated-served g c (b .outputs) r)
-    (chained-served (served-from a (serve-served g k b r octets)) (serve-chain g k b r octets ∙ a .chain-same) (unasked-stays g k b r octets))
+    (chained-served (served-from a (serve-served g k b r octets)) (serve-chain g k b r octets ∙ a .chain-same) (unasked-silent g k b r octets))
 
 -- ---- the chain
 

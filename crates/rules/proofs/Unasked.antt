@@ -1,4 +1,5 @@
--- What is no request: a telegram with function 4 or 6, or one that does not act. It asks for nothing or is a Global_Control, and changes no set.
+-- What is no request: a telegram with function 4 or 6, or one that does not act. It asks for nothing or is a Global_Control, changes no set and draws
+-- nothing.
 use Prim.Native.Nat.{ℕ}
 use native.Mathlib.Omega.{arith}
 use mathlib.Core.Path.{_≡_, refl, sym, _∙_}
@@ -9,6 +10,7 @@ use borrow.Author.Tests.{eqb-true, ne-eqb, not-false}
 use Rattle.telegram.proofs.Run.{no-true}
 use Rattle.state.specs.declared.setup.Setup.{Setup}
 use Rattle.state.specs.declared.control.Control.{Control}
+use Rattle.state.specs.declared.state.Drawn.the-variants as drawn
 use Rattle.state.proofs.Choice.{by-test, either, or-either, and-second}
 use Rattle.rules.specs.declared.request.Request.{Request}
 use Rattle.rules.specs.declared.request.Data.{Data}
@@ -35,9 +37,9 @@ Unasked GetCfg = ⊥
 Unasked ReadInputs = ⊥
 Unasked ReadOutputs = ⊥
 
--- no set changes
-abbrev pub SetsStay : Outcome → Type 0
-SetsStay o = (o .parameters ≡ set-deed.Keep) × (o .configuration ≡ set-deed.Keep)
+-- no set changes, and nothing is drawn
+abbrev pub Silent : Outcome → Type 0
+Silent o = (o .parameters ≡ set-deed.Keep) × (o .configuration ≡ set-deed.Keep) × (o .drawn ≡ drawn.Nothing)
 
 -- functions 4 and 6 are no other
 other-function : (f n : ℕ) → eqb f 4 || eqb f 6 ≡ true → (n ≡ 4 → ⊥) → (n ≡ 6 → ⊥) → eqb f n ≡ false
@@ -72,20 +74,20 @@ request-asked g r f = go (isRequest g r) refl
     go false e = absurd (f (service-unasked g r e))
 
 module _ (g : Setup) (c : Control) (b : Occupied) (r : Request) (octets : Data) where
-  serve-stays : (v : Service) → Unasked v → SetsStay (serve v g c b r octets)
+  serve-silent : (v : Service) → Unasked v → Silent (serve v g c b r octets)
   unfolding globalControl
-  serve-stays Nothing h = (refl, refl)
-  serve-stays Status h = absurd h
-  serve-stays Reject h = absurd h
-  serve-stays GlobalControl h = either SetsStay (controls c r (octets .second)) (refl, refl) (refl, refl)
-  serve-stays DataExchange h = absurd h
-  serve-stays SetPrm h = absurd h
-  serve-stays ChkCfg h = absurd h
-  serve-stays SlaveDiag h = absurd h
-  serve-stays GetCfg h = absurd h
-  serve-stays ReadInputs h = absurd h
-  serve-stays ReadOutputs h = absurd h
+  serve-silent Nothing h = (refl, refl, refl)
+  serve-silent Status h = absurd h
+  serve-silent Reject h = absurd h
+  serve-silent GlobalControl h = either Silent (controls c r (octets .second)) (refl, refl, refl) (refl, refl, refl)
+  serve-silent DataExchange h = absurd h
+  serve-silent SetPrm h = absurd h
+  serve-silent ChkCfg h = absurd h
+  serve-silent SlaveDiag h = absurd h
+  serve-silent GetCfg h = absurd h
+  serve-silent ReadInputs h = absurd h
+  serve-silent ReadOutputs h = absurd h
 
-  -- what is no request changes no set
-  pub unasked-stays : isRequest g r ≡ false → SetsStay (serve (serviceOf g r) g c b r octets)
-  unasked-stays e = serve-stays (serviceOf g r) (service-unasked g r e)
+  -- what is no request changes no set and draws nothing
+  pub unasked-silent : isRequest g r ≡ false → Silent (serve (serviceOf g r) g c b r octets)
+  unasked-silent e = serve-silent (serviceOf g r) (service-unasked g r e)

@@ -1,0 +1,173 @@
+-- A request that is sent again (specs/Repeats.antt): its repeat draws E5 again, and nothing else comes of it.
+use Prim.Native.Nat.{ℕ}
+use mathlib.Core.Path.{_≡_, refl, sym, ap, subst, _∙_}
+use mathlib.Core.Bool.{Bool, true, false, cond, _&&_}
+use mathlib.Core.List.{List, [], _∷_, _++_, append-nil, append-assoc}
+use Rattle.telegram.specs.declared.reader.Status.the-variants.{Inside}
+use Rattle.telegram.specs.Telegram.{Telegram, kindOf, octetsOf, payloadOf, Valid}
+use Rattle.telegram.specs.Reading.{run, status}
+use Rattle.telegram.specs.Sending.{startOctet}
+use Rattle.state.specs.declared.chain.Chain.{Chain}
+use Rattle.state.specs.declared.setup.Setup.{Setup}
+use Rattle.state.specs.declared.state.Drawn.the-variants.{Nothing, Acknowledge}
+use Rattle.state.specs.Chain.{chainOf, drawnIn}
+use Rattle.state.proofs.SetCodes.{drawn-in}
+use Rattle.rules.specs.declared.outcome.Outcome.{Outcome}
+use Rattle.rules.specs.Call.{Call, gap}
+use Rattle.rules.specs.Diagnosis.{isDelayed, delayed}
+use Rattle.rules.specs.Line.{clearing}
+use Rattle.rules.specs.Phases.{drawing}
+use Rattle.rules.specs.Replies.{diagnoses}
+use Rattle.rules.specs.Requests.{masterOf, refilled}
+use Rattle.rules.specs.Retries.{isRequest, fcvOf, fcbOf, isRepeat}
+use Rattle.rules.proofs.Alike.{refilled-alike}
+use Rattle.rules.proofs.Repeats.{is-repeat, by-repeat, request-chain, set-prm-draws}
+use Rattle.ledger.specs.Ledger.{Line, Ledger, withControl, withLine, busy, occupied}
+use Rattle.ledger.specs.Outcome.{carried, afterReply, settle}
+use Rattle.ledger.specs.Bus.{requestBy, dataBy, outcomeOf, answered, completed, lengthened, beginning, paused, gapped}
+use Rattle.ledger.specs.Calls.{step, after}
+use Rattle.ledger.specs.Hearing.{hear, begunBy}
+use Rattle.ledger.specs.History.{clears, deedsBy}
+use Rattle.ledger.specs.Repeats.{SentAgain, gapAfter, NothingNew, E5Again, SetPrmOnce, NoDeedAgain}
+use Rattle.ledger.proofs.Settling.{settle-line, settle-setup}
+use Rattle.ledger.proofs.Kept.{step-kept, after-kept}
+use Rattle.ledger.proofs.Hearing.{unfinished, completed-on, inner-heard, begun-heard, hears}
+use Rattle.ledger.proofs.RequestKept.{Waits, settle-waits, step-waits, after-waits}
+
+-- ---------------------------------------------------------------------------------------------------
+-- A busy line with nothing delayed.
+
+-- settling leaves all as it was: a noted clear waits
+settle-stays : (l : Ledger) → delayed (l .control) ≡ false → busy l ≡ true → settle l ≡ l
+unfolding settle afterReply
+settle-stays l d b = rw (d, b) (go (l .control .noted))
+  where
+    go : (t : Bool) → carried l (cond (t && false) (clearing (l .control)) (drawing (l .control) Nothing)) [] ≡ l
+    go true = refl
+    go false = refl
+
+-- so does a telegram's beginning, but for the line
+begun-stays : (l : Ledger) (b : ℕ) → delayed (l .control) ≡ false → begunBy l b ≡ withLine l (beginning b)
+begun-stays l b d = settle-stays (withLine l (beginning b)) d refl
+
+-- ---------------------------------------------------------------------------------------------------
+-- The octets before the last.
+
+-- the control part and the lists of m are those of l
+abbrev Same : Ledger → Ledger → Type 0
+Same l m = (m .control ≡ l .control) × (m .buffers ≡ l .buffers)
+
+module _ (t : Telegram) (v : Valid t) where
+  -- a telegram lacks octets while y and ys are to come
+  lacks : (x : ℕ) (xs zs : List ℕ) (y : ℕ) (ys : List ℕ) → octetsOf t ≡ (x ∷ xs) ++ (zs ++ y ∷ ys) → status (run (x ∷ xs)) ≡ Inside
+  lacks x xs [] y ys o = unfinished x xs y ys (t, v, o)
+  lacks x xs (z ∷ zs) y ys o = unfinished x xs z (zs ++ y ∷ ys) (t, v, o)
+
+  -- so the octets zs behind its first ones change the line alone
+  inner-same : (l : Ledger) (x : ℕ) (xs zs : List ℕ) (y : ℕ) (ys : List ℕ) → l .line .ignored ≡ false → l .line .telegram ≡ x ∷ xs
+      → octetsOf t ≡ (x ∷ xs) ++ (zs ++ y ∷ ys) → Same l (after l (hear zs))
+  inner-same l x xs [] y ys i e o = (refl, refl)
+  inner-same l x xs (z ∷ zs) y ys i e o =
+      let w : octetsOf t ≡ (x ∷ (xs ++ z ∷ [])) ++ (zs ++ y ∷ ys) = o ∙ sym (append-assoc (x ∷ xs) (z ∷ []) (zs ++ y ∷ ys)) in
+      subst (λ (m : Ledger). Same l (after m (hear zs))) (sym (inner-heard l x xs z i e (lacks x (xs ++ z ∷ []) zs y ys w)))
+      (inner-same (withLine l (lengthened (l .line) z)) x (xs ++ z ∷ []) zs y ys refl (rw e) w)
+
+  -- and from a gap on
+  part-same : (l : Ledger) (xs : List ℕ) (y : ℕ) (ys : List ℕ) → delayed (l .control) ≡ false → l .line .ignored ≡ false → l .line .telegram ≡ []
+      → octetsOf t ≡ xs ++ y ∷ ys → Same l (after l (hear xs))
+  part-same l [] y ys d i e o = (refl, refl)
+  part-same l (x ∷ xs) y ys d i e o =
+      subst (λ (m : Ledger). Same l (after m (hear xs))) (sym (begun-heard l x i e (lacks x [] xs y ys o) ∙ begun-stays l x d))
+      (inner-same (withLine l (beginning x)) x [] xs y ys refl refl o)
+
+-- ---------------------------------------------------------------------------------------------------
+-- The last octet.
+
+-- the ledger with E5 drawn by a repeat
+abbrev again : Ledger → Telegram → Ledger
+again l t =
+    withLine (withControl l (refilled (l .setup) (l .control) (requestBy t)))
+    (record { ignored = true; telegram = []; reply = 0xE5 ∷ []; diagnosing = false })
+
+-- a repeat of what drew E5
+repeat-completed : (l : Ledger) (t : Telegram) → isRepeat (l .setup) (l .control) (requestBy t) ≡ true → drawnIn (l .control .chain) ≡ Acknowledge
+    → completed l t ≡ again l t
+unfolding answered
+repeat-completed l t e d =
+    ap (λ (o : Outcome). answered l o (masterOf (requestBy t)) (payloadOf t))
+    (by-repeat (l .setup) (l .control) (occupied l) (requestBy t) (dataBy (payloadOf t)) e
+    ∙ ap (drawing (refilled (l .setup) (l .control) (requestBy t))) d)
+
+-- heard whole after a gap
+repeat-heard : (l : Ledger) (t : Telegram) → Valid t → delayed (l .control) ≡ false → l .line .ignored ≡ false → l .line .telegram ≡ []
+    → isRepeat (l .setup) (l .control) (requestBy t) ≡ true → drawnIn (l .control .chain) ≡ Acknowledge → after l (hear (octetsOf t)) ≡ again l t
+repeat-heard l t v n i e r d =
+    hears l t .ledger-is i e v
+    ∙ ap (λ (m : Ledger). settle (completed m t)) (begun-stays l (startOctet (kindOf t)) n)
+    ∙ ap settle (completed-on l (beginning (startOctet (kindOf t))) t ∙ repeat-completed l t r d)
+    ∙ settle-stays (again l t) (ap isDelayed (refilled-alike (l .setup) (l .control) (requestBy t) .diagnosis-same) ∙ n) refl
+
+-- ---------------------------------------------------------------------------------------------------
+-- Sent again.
+
+-- the chain of a request that drew E5
+abbrev e5Chain : Telegram → Chain
+e5Chain t = chainOf (masterOf (requestBy t)) (fcbOf (requestBy t)) Acknowledge
+
+-- its repeat after a gap
+nothing-new : (l : Ledger) (t : Telegram) → Valid t → Waits (e5Chain t) l → l .line .ignored ≡ false → l .line .telegram ≡ []
+    → isRequest (l .setup) (requestBy t) ≡ true → fcvOf (requestBy t) ≡ true → NothingNew l t
+nothing-new l t v w i e a b =
+    let r = requestBy t in
+    let n = w .none-delayed in
+    let s = repeat-heard l t v n i e (is-repeat (l .setup) (l .control) r Acknowledge a b (w .chain-is)) (ap drawnIn (w .chain-is) ∙ drawn-in (masterOf r) (fcbOf r) Acknowledge) in
+    record {
+      draws-e5 = ap (λ (m : Ledger). m .line .reply) s;
+      control-is = ap (λ (m : Ledger). m .control) s;
+      buffers-are = ap (λ (m : Ledger). m .buffers) s;
+      inner-control = λ xs ys y o. part-same t v l xs y ys n i e o .0;
+      inner-buffers = λ xs ys y o. part-same t v l xs y ys n i e o .1;
+    }
+
+-- the line after a gap
+gap-line : (l : Ledger) → step l gap .ledger .line ≡ gapped (l .line)
+unfolding paused
+gap-line l = settle-line (withLine l (gapped (l .line)))
+
+-- after a new request that drew E5 the chain is the one that its repeat asks for
+request-waits : (l : Ledger) (t u : Telegram) → SentAgain l t u → outcomeOf l (requestBy t) (payloadOf t) .drawn ≡ Acknowledge
+    → Waits (e5Chain u) (settle (completed l t))
+unfolding answered
+request-waits l t u s d =
+    settle-waits (completed l t)
+    (request-chain (l .setup) (l .control) (occupied l) (requestBy t) (dataBy (payloadOf t)) (s .first-asks) (s .first-counts) (s .first-new)
+    ∙ (λ i. chainOf (sym (s .same-master) i) (sym (s .same-bit) i) (d i)))
+    (ap diagnoses d)
+
+-- the setup after it, the calls cs and a gap
+setup-stays : (l : Ledger) (t : Telegram) (cs : List Call) → gapAfter l t cs .setup ≡ l .setup
+unfolding answered
+setup-stays l t cs =
+    let m = settle (completed l t) in
+    step-kept (after m cs) gap .0 ∙ after-kept m cs .0 ∙ settle-setup (completed l t)
+
+-- a request that drew E5
+pub e5-again : E5Again
+e5-again l t u cs s d n =
+    let k = settle (completed l t) in
+    let m = after k cs in
+    nothing-new (gapAfter l t cs) u (s .second-valid) (step-waits m gap refl (after-waits k cs n (request-waits l t u s d)))
+    (ap (λ (x : Line). x .ignored) (gap-line m)) (ap (λ (x : Line). x .telegram) (gap-line m))
+    (ap (λ (x : Setup). isRequest x (requestBy u)) (setup-stays l t cs) ∙ s .second-asks) (s .second-counts)
+
+-- among them every Set_Prm that no other master's ownership refuses
+pub set-prm-once : SetPrmOnce
+set-prm-once l t u cs s v o n =
+    e5-again l t u cs s (set-prm-draws (l .setup) (l .control) (occupied l) (requestBy t) (dataBy (payloadOf t)) (s .first-new) v o) n
+
+-- a repeat keeps the outputs, so that it has no deed of its own
+pub no-deed-again : NoDeedAgain
+no-deed-again l t e =
+    ap (λ (o : Outcome). clears (completed l t) ++ deedsBy (o .outputs) (payloadOf t))
+    (by-repeat (l .setup) (l .control) (occupied l) (requestBy t) (dataBy (payloadOf t)) e)
+    ∙ append-nil (clears (completed l t))

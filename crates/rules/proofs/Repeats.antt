@@ -1,0 +1,108 @@
+-- The chain after a telegram, and which telegram is a repeat by it.
+use mathlib.Core.Path.{_≡_, refl, sym, ap, _∙_}
+use mathlib.Core.Bool.{Bool, true, false, cond, not, _&&_, _||_}
+use lib.Dec.{eqb}
+use borrow.Author.Tests.{eq-eqb}
+use Rattle.telegram.proofs.Run.{no-true}
+use Rattle.state.specs.declared.setup.Setup.{Setup}
+use Rattle.state.specs.declared.control.Control.{Control}
+use Rattle.state.specs.declared.state.Drawn.{Drawn}
+use Rattle.state.specs.declared.state.Drawn.the-variants.{Nothing, Acknowledge}
+use Rattle.state.specs.Chain.{chainOf, noChain, fcbIn}
+use Rattle.state.specs.Well.{within}
+use Rattle.state.proofs.SetCodes.{fcb-in}
+use Rattle.state.proofs.Choice.{by-test, either, and-left, and-right}
+use Rattle.rules.specs.declared.request.Request.{Request}
+use Rattle.rules.specs.declared.request.Data.{Data}
+use Rattle.rules.specs.declared.request.Occupied.{Occupied}
+use Rattle.rules.specs.declared.request.Prm.{Prm}
+use Rattle.rules.specs.declared.request.Service.{Service}
+use Rattle.rules.specs.declared.request.Service.the-variants.{SetPrm}
+use Rattle.rules.specs.declared.outcome.Outcome.{Outcome}
+use Rattle.rules.specs.Control.{bit}
+use Rattle.rules.specs.Requests.{masterOf, wantsNone, acts, refilled, serviceOf}
+use Rattle.rules.specs.Retries.{isRequest, fcvOf, fcbOf, same, isRepeat, chained, repeated}
+use Rattle.rules.specs.Services.{otherOwns, otherIdent, wantsWatchdog, badFactors, setPrm, serve, outcomeBy}
+use Rattle.rules.proofs.Alike.{refilled-alike}
+use Rattle.rules.proofs.ByCases.{refilled-same}
+use Rattle.rules.proofs.Unasked.{unasked-silent}
+use Rattle.rules.proofs.Served.{serve-chain}
+
+-- ---- which telegram is a repeat
+
+-- a repeat is a request
+repeat-asks : (g : Setup) (c : Control) (r : Request) → isRepeat g c r ≡ true → isRequest g r ≡ true
+repeat-asks g c r e =
+    let x = not (wantsNone r) in
+    let m = eqb (masterOf r) (c .chain .master) in
+    let a = and-left (acts g r) _ e in
+    let w = and-left x (fcvOf r) (and-left (x && fcvOf r) m (and-left (x && fcvOf r && m) _ (and-right (acts g r) _ e))) in
+    λ i. a i && w i
+
+-- a mark is the same as itself
+same-self : (t : Bool) → same t t ≡ true
+same-self true = refl
+same-self false = refl
+
+-- a request with bit 4 set repeats one of that master with that bit 5
+pub is-repeat : (g : Setup) (c : Control) (r : Request) (d : Drawn) → isRequest g r ≡ true → fcvOf r ≡ true
+    → c .chain ≡ chainOf (masterOf r) (fcbOf r) d → isRepeat g c r ≡ true
+is-repeat g c r d a v h =
+    let x = and-left (acts g r) (not (wantsNone r)) a in
+    let y = and-right (acts g r) (not (wantsNone r)) a in
+    let m = eq-eqb (masterOf r) (c .chain .master) (λ i. sym h i .master) in
+    let f : fcbIn (c .chain) ≡ fcbOf r = ap fcbIn h ∙ fcb-in (masterOf r) (fcbOf r) d in
+    let b = ap (same (fcbOf r)) f ∙ same-self (fcbOf r) in
+    λ i. x i && (y i && v i && m i && b i)
+
+-- ---- the chain
+
+module _ (g : Setup) (c : Control) (b : Occupied) (r : Request) (octets : Data) where
+  -- what is served if it is no repeat
+  abbrev first : Outcome
+  first = serve (serviceOf g r) g (refilled g c r) b r octets
+
+  -- what comes of a telegram, by whether it is one
+  pub by-repeat : {t : Bool} → isRepeat g c r ≡ t → outcomeBy g c b r octets ≡ cond t (repeated g c r) (chained g r first)
+  by-repeat e = ap (λ (t : Bool). cond t (repeated g c r) (chained g r first)) e
+
+  -- what is no request leaves the chain and draws nothing
+  pub unasked-leaves : isRequest g r ≡ false → (outcomeBy g c b r octets .control .chain ≡ c .chain) × (outcomeBy g c b r octets .drawn ≡ Nothing)
+  unasked-leaves e =
+      by-test (λ (o : Outcome). (o .control .chain ≡ c .chain) × (o .drawn ≡ Nothing)) (isRepeat g c r) (repeated g c r) (chained g r first)
+      (λ x. no-true (sym e ∙ repeat-asks g c r x))
+      (λ _. rw e (serve-chain g (refilled g c r) b r octets ∙ refilled-alike g c r .chain-same, unasked-silent g (refilled g c r) b r octets e .2))
+
+  -- a new request with bit 4 set is what a later one is compared with
+  pub request-chain : isRequest g r ≡ true → fcvOf r ≡ true → isRepeat g c r ≡ false
+      → outcomeBy g c b r octets .control .chain ≡ chainOf (masterOf r) (fcbOf r) (outcomeBy g c b r octets .drawn)
+  request-chain a v n =
+      let s = by-repeat n in
+      ap (λ (o : Outcome). o .control .chain) s
+      ∙ (λ i. cond (a i) (cond (v i) (chainOf (masterOf r) (fcbOf r) (first .drawn)) noChain) (first .control .chain))
+      ∙ ap (λ (o : Outcome). chainOf (masterOf r) (fcbOf r) (o .drawn)) (sym s)
+
+-- ---- Set_Prm
+
+-- E5 is drawn
+abbrev Acknowledges : Outcome → Type 0
+Acknowledges o = o .drawn ≡ Acknowledge
+
+-- one that no other master's ownership refuses draws it
+acknowledged : (g : Setup) (c : Control) (opened : Bool) (r : Request) (p : Prm) → otherOwns c (masterOf r) ≡ false → Acknowledges (setPrm g c opened r p)
+unfolding setPrm
+acknowledged g c opened r p e =
+    by-test Acknowledges (otherOwns c (masterOf r)) _ _ (λ h. no-true (sym e ∙ h))
+    (λ _. either Acknowledges (not (within 7 (r .count) (g .«parameter_len»))) refl
+    (either Acknowledges (bit (p .status) 6) refl
+    (either Acknowledges (not (bit (p .status) 7)) refl
+    (either Acknowledges (otherIdent g p || (wantsWatchdog p && badFactors p)) refl refl))))
+
+-- so it does if it repeats none
+pub set-prm-draws : (g : Setup) (c : Control) (b : Occupied) (r : Request) (octets : Data) → isRepeat g c r ≡ false → serviceOf g r ≡ SetPrm
+    → otherOwns c (masterOf r) ≡ false → Acknowledges (outcomeBy g c b r octets)
+set-prm-draws g c b r octets n s e =
+    let k = refilled g c r in
+    ap (λ (o : Outcome). o .drawn) (by-repeat g c b r octets n)
+    ∙ ap (λ (v : Service). serve v g k b r octets .drawn) s
+    ∙ acknowledged g k (b .parameters) r (octets .prm) (rw (refilled-same g c r .0) e)
