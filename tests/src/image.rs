@@ -18,8 +18,12 @@ const LEAST: [u8; 6] = [1, 1, 7, 1, 6, 1];
 /// How many buffers there are of each length.
 const BUFFERS: [usize; 6] = [4, 3, 3, 3, 2, 1];
 
-/// Octets that are not used: behind the lengths, behind the counts, and all that follow.
-const UNUSED: [usize; 4] = [54, 55, 62, 63];
+/// The last request whose frame count bit counts: twice what it drew, as in octet 18, with the bit below it; and its
+/// master, 127 where there is none. With the most that each may be.
+pub const CHAIN: [(usize, u8); 2] = [(54, 17), (55, 127)];
+
+/// Octets that are not used: behind the counts, and all that follow.
+const UNUSED: [usize; 2] = [62, 63];
 pub const FURTHER: Range<usize> = 64..STATE;
 
 /// Whether the image is a state's whose roles, lengths and counts keep the rules, with buffers that end in the memory.
@@ -34,6 +38,7 @@ pub fn is_state(image: &[u8], memory_length: usize) -> bool {
         && none_or(6, image[57], image[52])
         && set_counts(7, image[58], image[59], image[50])
         && set_counts(1, image[60], image[61], image[51])
+        && CHAIN.into_iter().all(|(at, most)| image[at] <= most)
         && UNUSED.into_iter().chain(FURTHER).all(|at| image[at] == 0)
 }
 
@@ -71,10 +76,11 @@ fn set_counts(least: u8, shown: u8, waiting: u8, length: u8) -> bool {
 mod tests {
     use super::*;
 
-    /// Roles, codes and marks 0, the least lengths, diagnosis count 6.
+    /// Roles, codes and marks 0, the least lengths, diagnosis count 6, no request to be repeated.
     fn fresh() -> Vec<u8> {
         let mut image = vec![0; STATE];
         image[LENGTHS..LENGTHS + LEAST.len()].copy_from_slice(&LEAST);
+        image[55] = 127;
         image[56] = 6;
         image
     }
@@ -93,6 +99,16 @@ mod tests {
         for (at, most) in (16..32).zip(CODES) {
             assert!(is_state_with(&[(at, most)]), "octet {at}");
             assert!(!is_state_with(&[(at, most + 1)]), "octet {at}");
+        }
+    }
+
+    #[test]
+    fn the_chain_goes_up_to_its_limits() {
+        for (at, most) in CHAIN {
+            assert!(is_state_with(&[(at, 0)]), "octet {at}");
+            assert!(is_state_with(&[(at, most)]), "octet {at}");
+            assert!(!is_state_with(&[(at, most + 1)]), "octet {at}");
+            assert!(!is_state_with(&[(at, 0xFF)]), "octet {at}");
         }
     }
 
