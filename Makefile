@@ -37,6 +37,9 @@ HEADERS := include/dp.h examples/refusals.h examples/card.h
 FIRMWARE := examples/card.c examples/older.c examples/master.c examples/firmware.h $(HEADERS)
 WORKLOAD := bench/workload.c bench/workload.h $(HEADERS)
 
+# The calls that cross/wrong-stations.c makes wrong.
+WRAPPED := dp_read dp_write dp_start dp_gap dp_octet dp_window_read dp_window_write
+
 # The programs whose instructions are counted.
 COUNTED := bench $(if $(LENT),lent) $(if $(BEFORE),before)
 
@@ -96,7 +99,7 @@ $(OUT)/lists: cross/lists.c $(HEADERS) $(LIB) $(OUT)/library | $(OUT)
 
 $(OUT)/lists-wrong: cross/lists.c cross/wrong-stations.c $(HEADERS) $(LIB) $(OUT)/library | $(OUT)
 	$(CC) $(CPPFLAGS) $(CFLAGS) cross/lists.c cross/wrong-stations.c $(LIB) \
-	    -Wl,--wrap=dp_read,--wrap=dp_write,--wrap=dp_start,--wrap=dp_gap,--wrap=dp_window_read,--wrap=dp_window_write -o $@
+	    $(WRAPPED:%=-Wl,--wrap=%) -o $@
 
 check: check-example check-gsd check-header check-prototypes check-lists
 	@echo "check: all as expected"
