@@ -80,9 +80,10 @@ $(OUT)/bench: bench/bench.c $(WORKLOAD) $(LIB) $(OUT)/library | $(OUT)
 # $(1): a library of the tree BEFORE, $(2): what builds it there.
 require_before = [ -f $(1) ] || { echo "BEFORE: $(1) is not there; in $(BEFORE), $(2) builds it" >&2; exit 1; }
 
+# Another version is counted with the same telegrams, but what it makes of a repeat is its own.
 $(OUT)/before: bench/bench.c $(WORKLOAD) FORCE | $(OUT)
 	@$(call require_before,$(BEFORE)/$(PROVED_LIB),rt staticlib card)
-	$(CC) $(CPPFLAGS) $(CFLAGS) $< bench/workload.c $(BEFORE)/$(PROVED_LIB) -Wl,-z,now -o $@
+	$(CC) $(CPPFLAGS) $(CFLAGS) -DOTHER_VERSION $< bench/workload.c $(BEFORE)/$(PROVED_LIB) -Wl,-z,now -o $@
 
 # What the lookup of each service point says.
 target/bin/lookups: crates.txt $(shell find crates/points crates/lookups -type f \( -name '*.rt' -o -name '*.antt' \))
