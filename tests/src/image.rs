@@ -2,6 +2,8 @@
 //! other image with 5, and no image that is one.
 
 use crate::card::STATE;
+use crate::ledger::Drawn;
+use crate::retries::Chain;
 use std::ops::Range;
 
 /// The phase of reading and the stage of sending from which on data octets are counted.
@@ -40,6 +42,25 @@ pub fn is_state(image: &[u8], memory_length: usize) -> bool {
         && set_counts(1, image[60], image[61], image[51])
         && CHAIN.into_iter().all(|(at, most)| image[at] <= most)
         && UNUSED.into_iter().chain(FURTHER).all(|at| image[at] == 0)
+}
+
+/// What the chain's octets are.
+pub fn chain_octets(chain: Option<Chain>) -> [u8; 2] {
+    let Some(chain) = chain else {
+        return [0, 127];
+    };
+    let drawn = match chain.drawn {
+        Drawn::Nothing => 0,
+        Drawn::E5 => 1,
+        Drawn::Status => 2,
+        Drawn::Rs => 3,
+        Drawn::Exchange => 4,
+        Drawn::ReadInputs => 5,
+        Drawn::ReadOutputs => 6,
+        Drawn::GetCfg => 7,
+        Drawn::SlaveDiag => 8,
+    };
+    [2 * drawn + u8::from(chain.frame_count), chain.master]
 }
 
 fn lengths(image: &[u8]) -> bool {

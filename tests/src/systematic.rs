@@ -911,8 +911,15 @@ fn between_repeats() -> Vec<Vec<Call>> {
 /// a repeat of the repeat.
 fn every_request_again(walker: &mut Walker) -> Compared {
     for request in requests() {
-        for (bit, sent) in [(false, 0), (true, LONGEST_HEARD)] {
-            let request = request.counted(bit);
+        for (source, bit, sent) in [
+            (MASTER, false, 0),
+            (MASTER, true, LONGEST_HEARD),
+            (OTHER_MASTER, true, LONGEST_HEARD),
+        ] {
+            let request = Draft {
+                source,
+                ..request.counted(bit)
+            };
             let once = telegram_calls(&request.octets());
             let other_data = Draft {
                 data: request.data.iter().map(|octet| octet ^ 0x21).collect(),
@@ -928,12 +935,18 @@ fn every_request_again(walker: &mut Walker) -> Compared {
     Ok(())
 }
 
+/// A tick behind it shows whether the watchdog was refilled, and a Data_Exchange Diag_Flag.
 fn repeat_behind_all(walker: &mut Walker, begun: &[Call], again: &[Call]) -> Compared {
     let between = between_repeats();
+    let look = [
+        vec![Call::Tick, Call::Events],
+        heard(&telegram_calls(&exchange(&[0x73, 0x74]))),
+    ]
+    .concat();
     for first in &between {
-        walker.variant(&[begun, first, again, again].concat())?;
+        walker.variant(&[begun, first, again, again, &look].concat())?;
         for second in &between {
-            walker.variant(&[begun, first, second, again].concat())?;
+            walker.variant(&[begun, first, second, again, &look].concat())?;
         }
     }
     Ok(())
