@@ -37,6 +37,9 @@ HEADERS := include/dp.h examples/refusals.h examples/card.h
 FIRMWARE := examples/card.c examples/older.c examples/master.c examples/firmware.h $(HEADERS)
 WORKLOAD := bench/workload.c bench/workload.h $(HEADERS)
 
+# The calls that cross/wrong-stations.c makes wrong.
+WRAPPED := dp_read dp_write dp_start dp_gap dp_octet dp_window_read dp_window_write
+
 # The programs whose instructions are counted.
 COUNTED := bench $(if $(LENT),lent) $(if $(BEFORE),before)
 
@@ -77,9 +80,10 @@ $(OUT)/bench: bench/bench.c $(WORKLOAD) $(LIB) $(OUT)/library | $(OUT)
 # $(1): a library of the tree BEFORE, $(2): what builds it there.
 require_before = [ -f $(1) ] || { echo "BEFORE: $(1) is not there; in $(BEFORE), $(2) builds it" >&2; exit 1; }
 
+# Another version is counted with the same telegrams, but what it makes of a repeat is its own.
 $(OUT)/before: bench/bench.c $(WORKLOAD) FORCE | $(OUT)
 	@$(call require_before,$(BEFORE)/$(PROVED_LIB),rt staticlib card)
-	$(CC) $(CPPFLAGS) $(CFLAGS) $< bench/workload.c $(BEFORE)/$(PROVED_LIB) -Wl,-z,now -o $@
+	$(CC) $(CPPFLAGS) $(CFLAGS) -DOTHER_VERSION $< bench/workload.c $(BEFORE)/$(PROVED_LIB) -Wl,-z,now -o $@
 
 # What the lookup of each service point says.
 target/bin/lookups: crates.txt $(shell find crates/points crates/lookups -type f \( -name '*.rt' -o -name '*.antt' \))
@@ -96,7 +100,7 @@ $(OUT)/lists: cross/lists.c $(HEADERS) $(LIB) $(OUT)/library | $(OUT)
 
 $(OUT)/lists-wrong: cross/lists.c cross/wrong-stations.c $(HEADERS) $(LIB) $(OUT)/library | $(OUT)
 	$(CC) $(CPPFLAGS) $(CFLAGS) cross/lists.c cross/wrong-stations.c $(LIB) \
-	    -Wl,--wrap=dp_read,--wrap=dp_write,--wrap=dp_start,--wrap=dp_gap,--wrap=dp_window_read,--wrap=dp_window_write -o $@
+	    $(WRAPPED:%=-Wl,--wrap=%) -o $@
 
 check: check-example check-gsd check-header check-prototypes check-lists
 	@echo "check: all as expected"

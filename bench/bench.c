@@ -69,6 +69,16 @@ PLACE void last_octet_of_sync(uint8_t octet)
     CALL(dp_octet(MEMORY, octet, 0));
 }
 
+PLACE void last_octet_of_repeated_exchange(uint8_t octet)
+{
+    CALL(dp_octet(MEMORY, octet, 0));
+}
+
+PLACE void last_octet_of_repeated_set_prm(uint8_t octet)
+{
+    CALL(dp_octet(MEMORY, octet, 0));
+}
+
 /* ---- Calls that end the exchange ---- */
 
 PLACE void vat_judges_bad(void)
@@ -183,24 +193,38 @@ static void put_telegram(const uint8_t *t, size_t count, void (*last)(uint8_t))
     last(t[count - 1]);
 }
 
+/* A new request. */
+static void put_request(uint8_t *t, size_t count, void (*last)(uint8_t))
+{
+    count_request(t, count);
+    put_telegram(t, count, last);
+    request_sent();
+}
+
 static void fetch_reply(void)
 {
     while (CALL(dp_send(MEMORY)) != DP_NO_OCTET)
         continue;
 }
 
-/* A telegram and its reply, if it draws one. */
+/* A telegram and its reply, if it draws one: one that is no new request, or one that is. */
 static void other_telegram(const uint8_t *t, size_t count, void (*last)(uint8_t))
 {
     put_telegram(t, count, last);
     fetch_reply();
 }
 
+static void other_request(uint8_t *t, size_t count, void (*last)(uint8_t))
+{
+    put_request(t, count, last);
+    fetch_reply();
+}
+
 /* A request without data to a service point; SD2 or SD1, with which its reply begins: an SD1 is RS. */
 static void request_to_point(uint8_t dsap, void (*last)(uint8_t), uint8_t drawn)
 {
-    uint8_t t[] = {0x68, 0x05, 0x05, 0x68, 0x85, 0x82, 0x6D, dsap, 0x3E, (uint8_t)(0xB2 + dsap), 0x16};
-    put_telegram(t, sizeof t, last);
+    uint8_t t[] = {0x68, 0x05, 0x05, 0x68, 0x85, 0x82, 0x5D, dsap, 0x3E, 0x00, 0x16};
+    put_request(t, sizeof t, last);
     expect("the first octet of a point's reply", CALL(dp_send(MEMORY)), drawn);
     fetch_reply();
 }
@@ -248,11 +272,9 @@ static void put_off(void (*end)(void))
 static void put_off_to_end_of_reply(void)
 {
     uint8_t t[TELEGRAM];
-    fill_request(t, 1);
     start_up();
-    CALL(dp_gap(MEMORY));
-    for (unsigned i = 0; i < TELEGRAM; i++)
-        octet_of_other_telegram(t[i]);
+    fill_request(t, 1);
+    put_request(t, sizeof t, octet_of_other_telegram);
     CALL(dp_leave_master(MEMORY));
     for (unsigned i = 1; i < REPLY; i++)
         send_while_put_off();
@@ -264,16 +286,15 @@ static void put_off_to_end_of_reply(void)
    alone. */
 static void put_set_prm(void)
 {
-    static const uint8_t set_prm[] = {0x68, 0x0C, 0x0C, 0x68, 0x85, 0x82, 0x5D, 0x3D, 0x3E,
-                                      0xA8, 0xFF, 0xFF, 0x0B, 0x80, 0xB3, 0x00, 0xC3, 0x16};
-    other_telegram(set_prm, sizeof set_prm, octet_of_other_telegram);
+    uint8_t set_prm[] = {0x68, 0x0C, 0x0C, 0x68, 0x85, 0x82, 0x5D, 0x3D, 0x3E,
+                         0xA8, 0xFF, 0xFF, 0x0B, 0x80, 0xB3, 0x00, 0x00, 0x16};
+    other_request(set_prm, sizeof set_prm, octet_of_other_telegram);
 }
 
 static void put_chk_cfg(void)
 {
-    static const uint8_t chk_cfg[] = {0x68, 0x09, 0x09, 0x68, 0x85, 0x82, 0x5D, 0x3E,
-                                      0x3E, 0x1F, 0x1F, 0x2F, 0x2F, 0x7C, 0x16};
-    other_telegram(chk_cfg, sizeof chk_cfg, octet_of_other_telegram);
+    uint8_t chk_cfg[] = {0x68, 0x09, 0x09, 0x68, 0x85, 0x82, 0x5D, 0x3E, 0x3E, 0x1F, 0x1F, 0x2F, 0x2F, 0x00, 0x16};
+    other_request(chk_cfg, sizeof chk_cfg, octet_of_other_telegram);
 }
 
 /* From WAIT_PRM into the exchange. */
@@ -296,7 +317,7 @@ static void outputs_by_sync(void)
     other_telegram(sync, sizeof sync, octet_of_other_telegram);
     CALL(dp_take_outputs(MEMORY));
     CALL(dp_hand_over_inputs(MEMORY));
-    other_telegram(t, sizeof t, last_octet_in_sync);
+    other_request(t, sizeof t, last_octet_in_sync);
     expect("what is taken in sync", CALL(dp_take_outputs(MEMORY)), 0);
     other_telegram(sync, sizeof sync, last_octet_of_sync);
     expect("what is taken after the next sync", CALL(dp_take_outputs(MEMORY)), 1);
@@ -312,7 +333,7 @@ static void by_window(void)
     window_judges_parameters();
     put_chk_cfg();
     window_judges_configuration();
-    other_telegram(t, sizeof t, octet_of_other_telegram);
+    other_request(t, sizeof t, octet_of_other_telegram);
     window_reads_events();
     window_reads_events_in_motorola_order();
     window_acknowledges(DP_EVENT_BIT(DP_EVENT_OUTPUTS) >> 8);
@@ -331,6 +352,44 @@ static void by_window(void)
     window_judges_configuration_bad();
 }
 
+/* What shows that a telegram was a repeat. A library of another version may know none: it is counted all the same. */
+static void expect_of_repeat(const char *what, int64_t found, int64_t expected)
+{
+#ifndef OTHER_VERSION
+    expect(what, found, expected);
+#else
+    (void)what, (void)found, (void)expected;
+#endif
+}
+
+/* The last request again, as a master sends it that missed the reply. */
+static void repeated(uint8_t *t, size_t count, void (*last)(uint8_t), uint8_t drawn)
+{
+    put_telegram(t, count, last);
+    expect("the first octet of a repeat's reply", CALL(dp_send(MEMORY)), drawn);
+    fetch_reply();
+}
+
+/* The repeat of a Data_Exchange finds new inputs, which it leaves to the next one; that of a Set_Prm comes when the
+   parameters are judged. */
+static void repeats(void)
+{
+    uint8_t t[TELEGRAM];
+    uint8_t set_prm[] = {0x68, 0x0C, 0x0C, 0x68, 0x85, 0x82, 0x5D, 0x3D, 0x3E,
+                         0x88, 0xFF, 0xFF, 0x0B, 0x80, 0xB3, 0x00, 0x00, 0x16};
+    start_up();
+    fill_request(t, 1);
+    other_request(t, sizeof t, octet_of_other_telegram);
+    expect("the outputs taken", CALL(dp_take_outputs(MEMORY)), 1);
+    CALL(dp_hand_over_inputs(MEMORY));
+    repeated(t, sizeof t, last_octet_of_repeated_exchange, 0x68);
+    expect_of_repeat("what is taken behind a repeat", CALL(dp_take_outputs(MEMORY)), 0);
+    other_request(set_prm, sizeof set_prm, octet_of_other_telegram);
+    expect("parameters", CALL(dp_judge_parameters(MEMORY, DP_GOOD)), 0);
+    repeated(set_prm, sizeof set_prm, last_octet_of_repeated_set_prm, 0xE5);
+    expect_of_repeat("the event of parameters", CALL(dp_events(MEMORY)) & DP_EVENT_BIT(DP_EVENT_PARAMETERS), 0);
+}
+
 static void rare_calls(void)
 {
     for (int i = 0; i < 10; i++) {
@@ -346,6 +405,7 @@ static void rare_calls(void)
         outputs_by_sync(); /* in WAIT_PRM, where the Leave master that was put off ended */
         CALL(dp_leave_master(MEMORY));
         by_window();
+        repeats();
     }
 }
 

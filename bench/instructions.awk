@@ -170,6 +170,8 @@ END {
     place_row("dp_octet", "last_octet_to_63", "last, to 63, draws RS")
     place_row("dp_octet", "last_octet_in_sync", "last, Data_Exchange in sync")
     place_row("dp_octet", "last_octet_of_sync", "last, sync publishes outputs")
+    place_row("dp_octet", "last_octet_of_repeated_exchange", "last, repeated Data_Exchange")
+    place_row("dp_octet", "last_octet_of_repeated_set_prm", "last, repeated Set_Prm")
     place_row("dp_start", "station_starts", "")
     place_row("dp_judge_parameters", "vat_judges", "good")
     place_row("dp_judge_parameters", "vat_judges_bad", "bad")

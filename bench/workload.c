@@ -2,6 +2,12 @@
 
 enum { ADDRESS = 5, MASTER = 2, IDENT = 0x80B3, PARAMETER_LEN = 16, CONFIGURATION_LEN = 16 };
 
+/* A request that must be answered, with the frame count bit valid; and that bit. */
+enum { FC_REQUEST = 0x5D, FRAME_COUNT_BIT = 0x20 };
+
+/* Where DA and FC of an SD2 are. */
+enum { DA_AT = 4, FC_AT = 6 };
+
 uint8_t memory[DP_MEMORY_MIN];
 
 int64_t granted(const char *call, int64_t answer)
@@ -121,9 +127,25 @@ static void fill_telegram(uint8_t *t, uint8_t da, uint8_t sa, uint8_t fc, unsign
     t[HEADER + OUTPUTS + 1] = 0x16;
 }
 
+static uint8_t fc_of_next_request = FC_REQUEST;
+
+void count_request(uint8_t *t, size_t count)
+{
+    uint8_t sum = 0;
+    t[FC_AT] = fc_of_next_request;
+    for (size_t i = DA_AT; i < count - END; i++)
+        sum = (uint8_t)(sum + t[i]);
+    t[count - END] = sum;
+}
+
+void request_sent(void)
+{
+    fc_of_next_request ^= FRAME_COUNT_BIT;
+}
+
 void fill_request(uint8_t *t, unsigned cycle)
 {
-    fill_telegram(t, ADDRESS, MASTER, 0x5D, cycle);
+    fill_telegram(t, ADDRESS, MASTER, fc_of_next_request, cycle);
 }
 
 void receive_telegram(unsigned cycle)
@@ -138,6 +160,7 @@ void receive_telegram(unsigned cycle)
         inner_data_octet(t[i]);
     check_octet(t[TELEGRAM - 2]);
     last_octet(t[TELEGRAM - 1]);
+    request_sent();
 }
 
 /* The reply brings the inputs of the cycle before. */
@@ -191,12 +214,14 @@ PLACE void last_octet_of_chk_cfg(uint8_t octet)
     CALL(dp_octet(MEMORY, octet, 0));
 }
 
-PLACE void acknowledged_at_start_up(const uint8_t *t, size_t count, void (*last)(uint8_t))
+PLACE void acknowledged_at_start_up(uint8_t *t, size_t count, void (*last)(uint8_t))
 {
+    count_request(t, count);
     CALL(dp_gap(MEMORY));
     for (size_t i = 0; i + 1 < count; i++)
         octet_at_start_up(t[i]);
     last(t[count - 1]);
+    request_sent();
     expect("the reply at start-up", CALL(dp_send(MEMORY)), 0xE5);
 }
 
@@ -215,19 +240,18 @@ PLACE void vat_looks_at_events(void)
 
 void put_parameters(uint8_t factor_1, uint8_t factor_2)
 {
-    uint8_t set_prm[] = {0x68, 0x0C, 0x0C, 0x68, 0x85, 0x82, 0x5D, 0x3D, 0x3E,
-                         0x88, 0x00, 0x00, 0x0B, 0x80, 0xB3, 0x00, 0xA5, 0x16};
+    uint8_t set_prm[] = {0x68, 0x0C, 0x0C, 0x68, 0x85, 0x82, FC_REQUEST, 0x3D, 0x3E,
+                         0x88, 0x00, 0x00, 0x0B, 0x80, 0xB3, 0x00,       0x00, 0x16};
     set_prm[10] = factor_1;
     set_prm[11] = factor_2;
-    set_prm[16] = (uint8_t)(set_prm[16] + factor_1 + factor_2);
     acknowledged_at_start_up(set_prm, sizeof set_prm, last_octet_of_set_prm);
 }
 
 /* A watchdog of 255 x 255 ticks, Chk_Cfg: from a fresh memory into the exchange. */
 void start_up(void)
 {
-    static const uint8_t chk_cfg[] = {0x68, 0x09, 0x09, 0x68, 0x85, 0x82, 0x5D, 0x3E,
-                                      0x3E, 0x1F, 0x1F, 0x2F, 0x2F, 0x7C, 0x16};
+    uint8_t chk_cfg[] = {0x68, 0x09, 0x09, 0x68, 0x85, 0x82, FC_REQUEST, 0x3E,
+                         0x3E, 0x1F, 0x1F, 0x2F, 0x2F, 0x00, 0x16};
     station_starts();
     put_parameters(255, 255);
     acknowledged_at_start_up(chk_cfg, sizeof chk_cfg, last_octet_of_chk_cfg);

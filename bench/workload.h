@@ -10,6 +10,8 @@
 #include "dp.h"
 #include "refusals.h"
 
+#include <stddef.h>
+
 /* A place: never merged into its caller or with another place. */
 #define PLACE static __attribute__((noinline, noclone, no_icf))
 
@@ -41,7 +43,12 @@ void put_parameters(uint8_t factor_1, uint8_t factor_2);
 /* From any memory into the exchange, and inputs are handed over: cycle 1 may follow. */
 void begin_exchange(void);
 
-/* The telegram that brings the outputs of a cycle. */
+/* As a master does it: the frame count bit (FC bit 5, which counts by bit 4) changes with each new request, or the
+   station would take it for a repeat. A request has the bit of the next one until that is sent. */
+void count_request(uint8_t *t, size_t count);
+void request_sent(void);
+
+/* The telegram that brings the outputs of a cycle, as the next request. */
 void fill_request(uint8_t *t, unsigned cycle);
 
 /* A cycle: all of it, or the telegram alone. */

@@ -120,7 +120,8 @@ check-card: say-card
 
 # The calls of a library with their instructions, by a trace; $(1): the processor, $(2): the library, $(3): the result.
 define trace_calls
-	@$($(1)_CC) $(CPPFLAGS) $(CFLAGS) bench/bench.c bench/workload.c $(2) -o $(X)/$(1)/bench
+	@$($(1)_CC) $(CPPFLAGS) $(CFLAGS) $(if $(filter before,$(3)),-DOTHER_VERSION) \
+	    bench/bench.c bench/workload.c $(2) -o $(X)/$(1)/bench
 	@QEMU_SINGLESTEP=1 QEMU_LOG=exec,nochain QEMU_LOG_FILENAME=$(X)/$(1)/trace \
 	    $(LIMIT) $($(1)_RUN) $(X)/$(1)/bench $(TRACED_CYCLES) </dev/null >$(X)/$(1)/bench.out
 	@$(if $($(1)_CYCLES),$($(1)_CYCLES) $(X)/$(1)/bench >$(X)/$(1)/disassembly)

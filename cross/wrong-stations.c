@@ -1,16 +1,17 @@
 /*
  * Wrong stations, to try lists.c: the real one with the mistake that the environment's WRONG names.
- * cross/try-wrong-stations has what lists.c has to say of each. Linked with
- * -Wl,--wrap=dp_read,--wrap=dp_write,--wrap=dp_start,--wrap=dp_gap,--wrap=dp_window_read,--wrap=dp_window_write.
+ * cross/try-wrong-stations has what lists.c has to say of each. Linked with --wrap for each call of the Makefile's WRAPPED.
  */
 #include "dp.h"
 
+#include <stdbool.h>
 #include <stdlib.h>
 #include <string.h>
 
 typedef int64_t read_call(uint8_t *memory, uint64_t memory_len, uint32_t kind, uint32_t index);
 typedef int64_t write_call(uint8_t *memory, uint64_t memory_len, uint32_t kind, uint32_t index, uint8_t octet);
 typedef int64_t gap_call(uint8_t *memory, uint64_t memory_len);
+typedef int64_t octet_call(uint8_t *memory, uint64_t memory_len, uint8_t octet, uint8_t bad);
 typedef int64_t window_read_call(uint8_t *memory, uint64_t memory_len, uint32_t order, uint32_t address);
 typedef int64_t window_write_call(uint8_t *memory, uint64_t memory_len, uint32_t order, uint32_t address,
                                   uint8_t octet);
@@ -20,6 +21,7 @@ typedef int64_t start_call(uint8_t *memory, uint64_t memory_len, uint32_t addres
 read_call __real_dp_read, __wrap_dp_read;
 write_call __real_dp_write, __wrap_dp_write;
 gap_call __real_dp_gap, __wrap_dp_gap;
+octet_call __real_dp_octet, __wrap_dp_octet;
 start_call __real_dp_start, __wrap_dp_start;
 window_read_call __real_dp_window_read, __wrap_dp_window_read;
 window_write_call __real_dp_window_write, __wrap_dp_window_write;
@@ -51,8 +53,105 @@ int64_t __wrap_dp_write(uint8_t *memory, uint64_t memory_len, uint32_t kind, uin
     return answer;
 }
 
+/* ---- Repeats, by the state part's octets as docs/memory.md has them ---- */
+
+enum { OWNER = 0, FLAGS = 3, ADDRESS = 20, READING = 31, DESTINATION = 34, SOURCE = 35, CONTROL = 36 };
+enum { COUNTED = 54, COUNTED_MASTER = 55 };
+enum { READING_END = 10, READING_COMPLETE = 11, COUNTED_SLAVE_DIAG = 8, NOBODY = 127 };
+enum { FLAG_STAT_DIAG = 0x10, FLAG_DIAG = 0x40, FC_FCV = 0x10, FC_FCB = 0x20 };
+
+/* The last request whose frame count bit counts: octets 54 and 55. */
+struct chain {
+    uint8_t counted, master;
+};
+static const struct chain no_chain = {0, NOBODY};
+
+/* The chain that another master's request ended. */
+static struct chain ended_by_another = {0, NOBODY};
+
+/* Of the octets since the last gap, and of the last request that was no repeat. */
+static uint8_t sum, sum_of_request;
+
+static struct chain chain_of(const uint8_t *memory)
+{
+    struct chain c = {memory[COUNTED], memory[COUNTED_MASTER]};
+    return c;
+}
+
+static void put_chain(uint8_t *memory, struct chain c)
+{
+    memory[COUNTED] = c.counted;
+    memory[COUNTED_MASTER] = c.master;
+}
+
+/* A telegram that is here but for its last octet. */
+struct telegram {
+    uint8_t destination, master, fc;
+};
+
+static struct telegram telegram_of(const uint8_t *memory)
+{
+    struct telegram t = {memory[DESTINATION] & 0x7F, memory[SOURCE] & 0x7F, memory[CONTROL]};
+    return t;
+}
+
+static bool is_request(struct telegram t, const uint8_t *memory)
+{
+    bool acts = t.destination == memory[ADDRESS] && t.master != NOBODY && (t.fc & 0xC0) == 0x40;
+    return acts && (t.fc & 0x0F) != 4 && (t.fc & 0x0F) != 6;
+}
+
+static bool repeats(struct telegram t, struct chain c)
+{
+    bool bit = (t.fc & FC_FCB) != 0;
+    return (t.fc & FC_FCV) != 0 && t.master == c.master && bit == (c.counted & 1);
+}
+
+/* Before the last octet of a request: another chain than there is, for a wrong station to judge by. */
+static void mistake_repeat(uint8_t *memory, struct telegram t)
+{
+    if (is("data-tells-repeat") && repeats(t, chain_of(memory)) && sum != sum_of_request)
+        put_chain(memory, no_chain);
+    if (is("repeat-behind-another") && repeats(t, ended_by_another))
+        put_chain(memory, ended_by_another);
+}
+
+/* Behind it. c: the chain that it was judged by. */
+static void mistake_behind(uint8_t *memory, struct telegram t, struct chain c)
+{
+    bool clears = memory[OWNER] == t.master && (memory[FLAGS] & FLAG_STAT_DIAG) == 0;
+    bool diagnosis = c.counted >> 1 == COUNTED_SLAVE_DIAG;
+    if (is("repeat-clears-diag-flag") && repeats(t, c) && diagnosis && clears)
+        memory[FLAGS] &= (uint8_t)~FLAG_DIAG;
+    if (!repeats(t, c))
+        sum_of_request = sum;
+    if (c.master != NOBODY)
+        ended_by_another = c.master != t.master ? c : no_chain;
+}
+
+int64_t __wrap_dp_octet(uint8_t *memory, uint64_t memory_len, uint8_t octet, uint8_t bad)
+{
+    sum = (uint8_t)(sum + octet);
+    if (memory[READING] != READING_END)
+        return __real_dp_octet(memory, memory_len, octet, bad);
+    struct telegram t = telegram_of(memory);
+    bool request = is_request(t, memory);
+    if (request)
+        mistake_repeat(memory, t);
+    struct chain c = chain_of(memory);
+    int64_t answer = __real_dp_octet(memory, memory_len, octet, bad);
+    if (memory[READING] != READING_COMPLETE)
+        return answer;
+    if (request)
+        mistake_behind(memory, t, c);
+    else if (is("control-ends-chain") && (t.fc & 0x0F) == 6)
+        put_chain(memory, no_chain);
+    return answer;
+}
+
 int64_t __wrap_dp_gap(uint8_t *memory, uint64_t memory_len)
 {
+    sum = 0;
     return __real_dp_gap(memory, is("half-length") ? (uint32_t)memory_len : memory_len);
 }
 
@@ -62,6 +161,8 @@ int64_t __wrap_dp_start(uint8_t *memory, uint64_t memory_len, uint32_t address, 
 {
     int64_t answer = __real_dp_start(memory, memory_len, address, ident, output_len, input_len, parameter_len,
                                      configuration_len, diagnosis_len, get_cfg, get_cfg_len);
+    if (answer == 0)
+        ended_by_another = no_chain;
     if (is("slice-changes") && get_cfg_len > 0)
         get_cfg[0] ^= 1;
     if (is("behind-slice") && get_cfg_len <= DP_LENGTH_MAX)

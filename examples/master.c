@@ -1,7 +1,8 @@
 /*
  * A master that takes the card of card.c through a start-up, some exchanges of data, a diagnosis and a clear, falls
  * silent, and comes back to run the vat in step with others, by sync and freeze. Then it meets the older vat program of
- * older.c. It prints each telegram; the vat program prints what it sees. Nothing depends on time or chance.
+ * older.c, and at last misses a reply. It prints each telegram; the vat program prints what it sees. Nothing depends on
+ * time or chance.
  */
 #include "card.h"
 
@@ -10,7 +11,10 @@
 
 enum { MASTER = 2, EXTENSION = 0x80, SSAP = 62 };
 enum { SD1 = 0x10, SD2 = 0x68, ED = 0x16 };
-enum { FC_STATUS = 0x49, FC_REQUEST = 0x5D, FC_NO_ANSWER = 0x46 };
+enum { FC_STATUS = 0x49, FC_NO_ANSWER = 0x46 };
+
+/* Bit 4 of a request's FC says that bit 5, the frame count bit, counts. */
+enum { FC_REQUEST = 0x5D, FRAME_COUNT_BIT = 0x20 };
 enum { FC_DIAG_FLAG = 0x0A };
 
 /* Set_Prm's octet 0: the master takes the station, with a watchdog; and the commands that it allows itself. */
@@ -27,6 +31,15 @@ struct telegram {
     uint8_t octets[LONGEST];
     size_t count;
 };
+
+/* The FC of a new request. The frame count bit changes with each; left as it was, it tells the card that the master asks
+   once more for a reply that it missed. */
+static uint8_t next_request(void)
+{
+    static uint8_t fc = FC_REQUEST | FRAME_COUNT_BIT;
+    fc ^= FRAME_COUNT_BIT;
+    return fc;
+}
 
 static void print_octets(const char *direction, const uint8_t *octets, size_t count)
 {
@@ -118,7 +131,7 @@ static struct telegram ask_point(uint8_t da, uint8_t fc, uint8_t dsap, const uin
 
 static struct telegram slave_diag_telegram(void)
 {
-    return to_point(CARD_ADDRESS, FC_REQUEST, 60, NULL, 0);
+    return to_point(CARD_ADDRESS, next_request(), 60, NULL, 0);
 }
 
 static void slave_diag(void)
@@ -132,13 +145,13 @@ static void set_prm(uint8_t allowed, uint8_t limit)
     const uint8_t status = PRM_LOCK | PRM_WATCHDOG | allowed;
     const uint8_t data[] = {
         status, WATCHDOG_FACTOR_1, WATCHDOG_FACTOR_2, 0x0B, CARD_IDENT >> 8, CARD_IDENT & 0xFF, 0x01, limit};
-    ask_point(CARD_ADDRESS, FC_REQUEST, 61, data, sizeof data);
+    ask_point(CARD_ADDRESS, next_request(), 61, data, sizeof data);
 }
 
 static void chk_cfg(void)
 {
     const uint8_t data[] = {CARD_MODULES};
-    ask_point(CARD_ADDRESS, FC_REQUEST, 62, data, sizeof data);
+    ask_point(CARD_ADDRESS, next_request(), 62, data, sizeof data);
 }
 
 /* To all stations of all groups; nobody answers. */
@@ -151,7 +164,7 @@ static void global_control(uint8_t commands)
 static struct telegram exchange_telegram(uint8_t valves, uint8_t heating)
 {
     const uint8_t data[CARD_OUTPUTS] = {valves, heating};
-    return with_data(CARD_ADDRESS, MASTER, FC_REQUEST, data, sizeof data);
+    return with_data(CARD_ADDRESS, MASTER, next_request(), data, sizeof data);
 }
 
 /* Answers whether the card has a new diagnosis. */
@@ -354,6 +367,21 @@ static void older_diagnosis(void)
     slave_diag();
 }
 
+/* The vat program runs before the master asks once more, so that there are new inputs by then and no outputs to take. */
+static void missed_reply(void)
+{
+    struct telegram t = exchange_telegram(0x02, 0x10);
+    title("Data_Exchange: second valve open, heating 10. The master misses the reply.");
+    ask(t);
+    older_vat_cycle();
+    title("The same telegram again: the same inputs, with the FC of now. There are no outputs a second time.");
+    ask(t);
+    older_vat_cycle();
+    title("Data_Exchange: a new one, the frame count bit has changed. The card sends the newest inputs.");
+    data_exchange(0x02, 0x08);
+    older_vat_cycle();
+}
+
 int main(void)
 {
     card_power_up();
@@ -368,5 +396,6 @@ int main(void)
     older_start_up();
     older_exchange();
     older_diagnosis();
+    missed_reply();
     return 0;
 }

@@ -1,5 +1,5 @@
 //! The bench examples a to j of document 01, with the answers that stand there: address 5, ident 80B3, master 2, one
-//! output, one input, a gap before each telegram.
+//! output, one input, a gap before each telegram. By document 02, Req 04, case a ends the chain ahead of each further one.
 
 use crate::call;
 use crate::ledger::Station;
@@ -22,8 +22,10 @@ impl Bench {
         let mut bench = Bench::fresh();
         bench.expect(C, "E5");
         assert_eq!(bench.call("judgeprm 1"), 0);
+        bench.expect(A, "10 02 05 00 07 16");
         bench.expect(CHK_CFG, "E5");
         assert_eq!(bench.call("judgecfg 1"), 0);
+        bench.expect(A, "10 02 05 00 07 16");
         assert_eq!(bench.call("write 4 0 21"), 0);
         assert_eq!(bench.call("handover"), 0);
         bench

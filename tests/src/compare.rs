@@ -2,6 +2,7 @@
 
 use crate::call::{Call, StartValues};
 use crate::card::{Card, Memory, STATE};
+use crate::image::{chain_octets, CHAIN};
 use crate::ledger::Station;
 use crate::outcome::{Outcome, Tally};
 use crate::random::Random;
@@ -63,6 +64,7 @@ impl Pair {
             Ok(answer) => return Err(self.difference(call, expected, answered(answer))),
             Err(misdeed) => return Err(self.difference(call, expected, misdeed)),
         }
+        self.check_chain(call, expected)?;
         reached
             .into_iter()
             .for_each(|outcome| self.tally.add(outcome));
@@ -75,6 +77,20 @@ impl Pair {
 
     pub fn run(&mut self, calls: &[Call]) -> Result<(), Box<Difference>> {
         calls.iter().try_for_each(|call| self.step(call).map(drop))
+    }
+
+    /// The chain of retries shows in answers only when a request follows; in the memory it shows at once.
+    fn check_chain(&self, call: &Call, expected: i64) -> Result<(), Box<Difference>> {
+        let Some(ledger) = &self.station.ledger else {
+            return Ok(());
+        };
+        let chain = CHAIN.map(|(at, _)| self.card.state()[at]);
+        let right = chain_octets(ledger.chain);
+        if chain == right {
+            return Ok(());
+        }
+        let misdeed = format!("has the chain {chain:02X?} in its memory and not {right:02X?}");
+        Err(self.difference(call, expected, misdeed))
     }
 
     fn maybe_move(&mut self) {

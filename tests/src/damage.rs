@@ -7,9 +7,10 @@
 use crate::call::{Call, Order, StartValues};
 use crate::card::{call_library, first_change, is_possible, only_looks, Card, Memory, STATE};
 use crate::draft::{self, Draft};
-use crate::image::{is_state, FURTHER, LENGTHS};
+use crate::image::{is_state, CHAIN, FURTHER, LENGTHS};
 use crate::outcome::{Outcome, Tally};
 use crate::random::Random;
+use crate::telegram;
 
 /// The longest reply: SD2 with LE 249.
 const LONGEST_REPLY: usize = 249 + 6;
@@ -31,6 +32,13 @@ const DIAGNOSIS: [usize; 2] = [56, 57];
 /// The octets that know the four output buffers, each with the most it may be: the buffer that Read_Outputs leaves
 /// from, the roles, the marks; and the modes.
 const OUTPUTS: [(usize, u8); 4] = [(19, 3), (22, 23), (29, 7), (27, 15)];
+
+/// The master of the chains that are put into a memory.
+const CHAINED_MASTER: u8 = 2;
+
+/// Codes of octet 18.
+const DRAWN_NOTHING: u8 = 0;
+const DRAWN_STATUS: u8 = 2;
 
 /// How far apart two octets are that stand at the same place in neighbouring words of eight octets.
 const WORD: usize = 8;
@@ -239,6 +247,61 @@ impl Trial<'_> {
         Ok(())
     }
 
+    /// The chain's octets at their limits and one past them, in every combination; and what each code makes a repeat
+    /// draw.
+    pub fn try_chain(&mut self) -> Result<(), String> {
+        let [(counted, _), (master, _)] = CHAIN;
+        for code in [0, 1, 2, 8, 16, 17, 18, 19, 0x7F, 0x80, 0xFF] {
+            for address in [0, 1, 126, 127, 128, 0xFF] {
+                self.try_octets(&[(counted, code), (master, address)])?;
+            }
+        }
+        for code in 0..=17 {
+            self.repeat_by_code(code)
+                .map_err(|misdeed| format!("with the code {code} in octet {counted} {misdeed}"))?;
+        }
+        Ok(())
+    }
+
+    /// A request of the chain's master with the code's FCB is a repeat, with the other FCB it is not. A new one with
+    /// function 9 draws the status and with function 0 nothing.
+    fn repeat_by_code(&mut self, code: u8) -> Result<(), String> {
+        let again = code >> 1;
+        let (function, new) = match again {
+            DRAWN_STATUS => (0x40, DRAWN_NOTHING),
+            _ => (draft::STATUS, DRAWN_STATUS),
+        };
+        for (bit, drawn) in [(code & 1, again), (!code & 1, new)] {
+            let control = function | draft::FCV | bit << 5;
+            let reply = self.drawn_in_chain(code, control)?;
+            if !is_drawn(drawn, &reply) {
+                return Err(format!("draws {reply:02X?} by the FC {control:02X}"));
+            }
+        }
+        Ok(())
+    }
+
+    fn drawn_in_chain(&mut self, code: u8, control: u8) -> Result<Vec<u8>, String> {
+        let [(counted, _), (master, _)] = CHAIN;
+        let mut memory = self.card.memory.clone();
+        memory.contents_mut()[counted] = code;
+        memory.contents_mut()[master] = CHAINED_MASTER;
+        let request = telegram::sd1(self.values.address as u8, CHAINED_MASTER, control);
+        let octets = request.into_iter();
+        let octets = octets.map(|octet| Call::Octet { octet, bad: false });
+        for call in std::iter::once(Call::Gap).chain(octets) {
+            checked_on_state(&mut memory, &call)?;
+        }
+        let mut reply = Vec::new();
+        while let Ok(octet) = u8::try_from(checked_on_state(&mut memory, &Call::Send)?) {
+            reply.push(octet);
+            if reply.len() > LONGEST_REPLY {
+                return Err("draws a reply that does not end".into());
+            }
+        }
+        Ok(reply)
+    }
+
     /// Two of the octets that are not used, at the same place in two words: neither their sum nor their difference
     /// may hide them from a check that takes several at once.
     pub fn try_unused(&mut self) -> Result<(), String> {
@@ -394,6 +457,10 @@ impl Trial<'_> {
             4 => Draft::global_control(station, master, self.random.octet(), 0),
             _ => Draft::to_point(station, master, draft::READ_OUTPUTS, Vec::new()),
         };
+        let draft = match self.random.below(3) {
+            0 => draft,
+            bit => draft.counted(bit == 1),
+        };
         let octets = draft.octets().into_iter();
         let octets = octets.map(|octet| Call::Octet { octet, bad: false });
         std::iter::once(Call::Gap).chain(octets).collect()
@@ -466,6 +533,26 @@ impl Trial<'_> {
         }
         self.tally.add(Outcome::LengthOther);
         Ok(())
+    }
+}
+
+/// Whether a reply is of the service that a code of octet 18 stands for.
+fn is_drawn(code: u8, reply: &[u8]) -> bool {
+    let of_point = |point| matches!(reply, [0x68, _, _, 0x68, 0x80..=0xFF, 0x80..=0xFF, 0x08, 0x3E, dsap, ..] if *dsap == point);
+    match code {
+        DRAWN_NOTHING => reply.is_empty(),
+        1 => reply == [0xE5],
+        DRAWN_STATUS => matches!(reply, [0x10, _, _, 0x00, _, 0x16]),
+        3 => matches!(reply, [0x10, _, _, 0x03, _, 0x16]),
+        4 => matches!(
+            reply,
+            [0x68, _, _, 0x68, 0..=0x7F, 0..=0x7F, 0x08 | 0x0A, ..]
+        ),
+        5 => of_point(draft::READ_INPUTS),
+        6 => of_point(draft::READ_OUTPUTS),
+        7 => of_point(draft::GET_CFG),
+        8 => of_point(draft::SLAVE_DIAG),
+        _ => false,
     }
 }
 

@@ -11,10 +11,14 @@ pub const READ_OUTPUTS: u8 = 57;
 pub const READ_INPUTS: u8 = 56;
 pub const MASTER_POINT: u8 = 62;
 
-/// A request that must be answered, high priority: function 13.
-pub const REQUEST: u8 = 0x5D;
+/// Bits 4 and 5 of FC: the frame count bit valid, and the frame count bit.
+pub const FCV: u8 = 0x10;
+pub const FCB: u8 = 0x20;
+
+/// A request that must be answered, high priority: function 13. FCV is clear, so that it is never a repeat.
+pub const REQUEST: u8 = 0x4D;
 /// The same with low priority: function 12.
-pub const LOW_REQUEST: u8 = 0x5C;
+pub const LOW_REQUEST: u8 = 0x4C;
 pub const STATUS: u8 = 0x49;
 /// Data without acknowledgement, as Global_Control comes.
 pub const UNACKNOWLEDGED: u8 = 0x46;
@@ -81,6 +85,18 @@ impl Draft {
             control: STATUS,
             points: None,
             data: Vec::new(),
+        }
+    }
+
+    /// The same with FCV set and this FCB.
+    pub fn counted(&self, bit: bool) -> Draft {
+        let count = match bit {
+            true => FCV | FCB,
+            false => FCV,
+        };
+        Draft {
+            control: self.control & !FCB | count,
+            ..self.clone()
         }
     }
 

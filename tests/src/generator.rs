@@ -4,7 +4,7 @@
 
 use crate::call::{Call, Order, StartValues};
 use crate::draft::{self, Draft};
-use crate::ledger::{Ledger, Phase, Station, DIAGNOSIS_HEAD};
+use crate::ledger::{Drawn, Ledger, Phase, Station, DIAGNOSIS_HEAD};
 use crate::random::Random;
 use crate::telegram::{self, Form, EXTENSION};
 
@@ -34,6 +34,10 @@ struct Habits {
     interruptions: usize,
     /// How many of 100 telegrams are damaged on the way.
     damage: usize,
+    /// How many of 100 requests have FCV set.
+    counted: usize,
+    /// How many of 100 telegrams come a second time, as if their reply had not been heard.
+    again: usize,
     /// How many of 100 stretches are those of an older vat program, which uses the window alone.
     older: usize,
     masters: Vec<u8>,
@@ -44,6 +48,8 @@ impl Habits {
         Habits {
             interruptions: random.pick(&[0, 5, 20, 60, 150]),
             damage: random.pick(&[0, 5, 15]),
+            counted: random.pick(&[0, 50, 90, 100]),
+            again: random.pick(&[0, 5, 15, 30]),
             older: random.pick(&[0, 0, 25, 50, 100]),
             masters: vec![
                 random.pick(&[0, 1, 2]),
@@ -346,7 +352,7 @@ impl Generator {
         if self.random.chance(15) {
             self.change_vat_program();
         }
-        let weights = [34, 9, 7, 16, 6, 6, 3, 19];
+        let weights = [34, 9, 7, 16, 6, 6, 3, 25];
         match self.random.weighted(&weights) {
             0 => self.sensible_telegram(),
             1 => self.spoiled_telegram(),
@@ -360,10 +366,9 @@ impl Generator {
     }
 
     fn scenario(&mut self) {
-        match self
-            .random
-            .weighted(&[10, 14, 22, 10, 10, 8, 10, 10, 6, 1, 6, 12, 10, 10, 8, 10])
-        {
+        match self.random.weighted(&[
+            10, 14, 22, 10, 10, 8, 10, 10, 6, 1, 6, 12, 10, 10, 8, 10, 60, 4,
+        ]) {
             0 => self.reach_exchange(),
             1 => self.delayed_diagnosis(),
             2 => self.clear_on_a_busy_line(),
@@ -379,7 +384,9 @@ impl Generator {
             12 => self.inputs_frozen(),
             13 => self.modes_that_end(),
             14 => self.writes_without_effect(),
-            _ => self.points_asked_in_turn(),
+            15 => self.points_asked_in_turn(),
+            16 => self.retries(),
+            _ => self.retry_of_an_early_request(),
         }
     }
 
@@ -391,6 +398,11 @@ impl Generator {
             self.put(&draft.octets());
         }
         self.hear_reply();
+        if self.random.chance(self.habits.again) {
+            let again = self.changed_where_a_repeat_may(&draft);
+            self.put(&again.octets());
+            self.hear_reply();
+        }
         if self.random.chance(5) {
             self.status_without_a_gap();
         }
@@ -476,8 +488,9 @@ impl Generator {
         }
     }
 
-    /// The same without interruptions, where a scenario needs the telegram to arrive.
+    /// A new telegram without interruptions, where a scenario needs it to arrive.
     fn put_quietly(&mut self, draft: &Draft) {
+        let draft = self.as_new(draft);
         self.call(Call::Gap);
         self.put_part(&draft.octets());
     }
@@ -535,6 +548,11 @@ impl Generator {
     fn settle(&mut self) {
         self.call(Call::Gap);
         self.hear_quietly();
+    }
+
+    fn put_spoiled_new(&mut self, draft: &Draft) {
+        let draft = self.as_new(draft);
+        self.put_spoiled(&draft.octets());
     }
 
     fn put_spoiled(&mut self, octets: &[u8]) {
@@ -624,14 +642,40 @@ impl Generator {
         draft
     }
 
-    /// Bits 5 and 4 are ignored, and 12 goes for 13, 4 for 6.
+    /// 12 goes for 13, and 4 for 6. Bits 5 and 4 count in a request alone.
     fn vary_control(&mut self, draft: &mut Draft) {
-        draft.control ^= self.random.pick(&[0, 0, 0x10, 0x20, 0x30]);
         draft.control = match (draft.control & 0x0F, self.random.chance(30)) {
             (13, true) => draft.control & 0xF0 | 12,
             (6, true) => draft.control & 0xF0 | 4,
             _ => draft.control,
         };
+        *draft = match is_request(draft) {
+            true => self.as_new(draft),
+            false => Draft {
+                control: draft.control ^ self.random.pick(&[0, 0, 0x10, 0x20, 0x30]),
+                ..draft.clone()
+            },
+        };
+    }
+
+    /// The draft as a new request of its master, mostly with FCV set: then the FCB is not the one that would make it a
+    /// repeat.
+    fn as_new(&mut self, draft: &Draft) -> Draft {
+        let bit = self.random.chance(50);
+        if !is_request(draft) {
+            return draft.clone();
+        }
+        if !self.random.chance(self.habits.counted) {
+            let control = draft.counted(bit).control & !draft::FCV;
+            return Draft {
+                control,
+                ..draft.clone()
+            };
+        }
+        match self.ledger().chain {
+            Some(chain) if chain.master == draft.source => draft.counted(!chain.frame_count),
+            _ => draft.counted(bit),
+        }
     }
 
     fn without_data(&mut self, point: u8) -> Draft {
@@ -837,10 +881,7 @@ impl Generator {
         for _ in 0..self.random.between(1, 2) {
             self.make_odd(&mut draft);
         }
-        // SD2 has at least one data octet.
-        if draft.form == Form::Sd2 && draft.points.is_none() && draft.data.is_empty() {
-            draft.data.push(0);
-        }
+        fill_sd2(&mut draft);
         draft
     }
 
@@ -864,6 +905,18 @@ impl Generator {
             }
         }
     }
+}
+
+/// SD2 has at least one data octet.
+fn fill_sd2(draft: &mut Draft) {
+    if draft.form == Form::Sd2 && draft.points.is_none() && draft.data.is_empty() {
+        draft.data.push(0);
+    }
+}
+
+/// A master asks again only for a reply, which functions 4 and 6 do not have.
+fn is_request(draft: &Draft) -> bool {
+    !matches!(draft.control & 0x0F, 4 | 6)
 }
 
 /// Calls of the vat program.
@@ -1374,7 +1427,7 @@ impl Generator {
             3 => self.good_exchange(),
             _ => self.sensible_draft(),
         };
-        let octets = draft.octets();
+        let octets = self.as_new(&draft).octets();
         let part = self.random.between(1, octets.len() - 1);
         self.call(Call::Gap);
         self.put_part(&octets[..part]);
@@ -1496,7 +1549,7 @@ impl Generator {
             let watchdog = self.any_watchdog();
             let draft = self.good_set_prm(watchdog);
             match self.random.chance(25) {
-                true => self.put_spoiled(&draft.octets()),
+                true => self.put_spoiled_new(&draft),
                 false => self.put_quietly(&draft),
             }
             self.hear_quietly();
@@ -1517,7 +1570,7 @@ impl Generator {
         for _ in 0..self.random.between(2, 4) {
             let draft = self.good_chk_cfg();
             match self.random.chance(25) {
-                true => self.put_spoiled(&draft.octets()),
+                true => self.put_spoiled_new(&draft),
                 false => self.put_quietly(&draft),
             }
             self.hear_quietly();
@@ -1686,7 +1739,7 @@ impl Generator {
                 draft.form = Form::Sd3;
             }
             match self.random.chance(20) {
-                true => self.put_spoiled(&draft.octets()),
+                true => self.put_spoiled_new(&draft),
                 false => self.put_quietly(&draft),
             }
             self.hear_reply();
@@ -1825,5 +1878,251 @@ impl Generator {
             self.put_quietly(&draft);
             self.hear_reply();
         }
+    }
+}
+
+/// Retries: requests that come again, with everything between that ends the chain or leaves it as it is.
+impl Generator {
+    fn retries(&mut self) {
+        self.state_for_retries();
+        let request = self.counted_request();
+        self.put_whole(&request);
+        for _ in 0..self.random.between(1, 3) {
+            self.hear_some();
+            if self.random.chance(60) {
+                self.change_what_is_drawn();
+            }
+            for _ in 0..self.random.below(3) {
+                self.between_repeats(&request);
+            }
+            let again = self.changed_where_a_repeat_may(&request);
+            self.put_again(&again);
+            if self.random.chance(25) {
+                let diagnosis = self.some_diagnosis();
+                self.call(diagnosis);
+            }
+        }
+        self.hear_quietly();
+        self.call(Call::Events);
+        self.look_for_outputs();
+    }
+
+    /// RS for the phase, drawn again when the phase would no longer have it.
+    fn retry_of_an_early_request(&mut self) {
+        let watchdog = self.any_watchdog();
+        self.configure(watchdog);
+        let early = match self.random.below(3) {
+            0 => self.good_exchange(),
+            1 => self.without_data(draft::READ_INPUTS),
+            _ => self.without_data(draft::READ_OUTPUTS),
+        };
+        let request = self.counted_as_new(&early);
+        self.put_whole(&request);
+        self.hear_quietly();
+        self.judge_configuration_good();
+        self.put_again(&request);
+        self.hear_quietly();
+        self.call(Call::Take);
+    }
+
+    /// Mostly DATA_EXCH, with outputs published before or in sync.
+    fn state_for_retries(&mut self) {
+        let watchdog = self.short_watchdog();
+        match self.random.below(8) {
+            0 => return self.parametrise(watchdog),
+            1 => return self.configure(watchdog),
+            2 => return self.settle(),
+            3 => self.reach_exchange_with(watchdog),
+            _ => self.be_in_exchange(),
+        }
+        match self.random.below(4) {
+            0 | 1 => self.exchange_quietly(),
+            2 => {
+                let sync = self.owners_command(draft::SYNC);
+                self.put_quietly(&sync);
+            }
+            _ => {}
+        }
+    }
+
+    /// One request for each thing that can be drawn, with FCV set.
+    fn counted_request(&mut self) -> Draft {
+        let master = self.owner_or_any();
+        let status = Draft::status(self.address(), master);
+        let draft = match self.random.below(16) {
+            0 => status,
+            1 => Draft {
+                control: self.random.pick(&[0x40, 0x41, 0x4F]),
+                ..status
+            },
+            2 => Draft {
+                control: self.random.pick(&[0x43, 0x45]),
+                ..status
+            },
+            3 => self.request_to_some_point(),
+            4 => self.good_set_prm(Some((2, 2))),
+            5 => self.set_prm(),
+            6 => self.good_chk_cfg(),
+            7 => self.without_data(draft::READ_INPUTS),
+            8 => self.without_data(draft::READ_OUTPUTS),
+            9 => self.without_data(draft::GET_CFG),
+            10 => self.diagnosis_request(),
+            11 => Draft {
+                source: self.other_master(),
+                ..status
+            },
+            _ => self.good_exchange(),
+        };
+        self.counted_as_new(&draft)
+    }
+
+    fn counted_as_new(&mut self, draft: &Draft) -> Draft {
+        let bit = self.random.chance(50);
+        match self.ledger().chain {
+            Some(chain) if chain.master == draft.source => draft.counted(!chain.frame_count),
+            _ => draft.counted(bit),
+        }
+    }
+
+    fn put_whole(&mut self, draft: &Draft) {
+        self.call(Call::Gap);
+        self.put_part(&draft.octets());
+    }
+
+    /// Mostly whole; now and then a clear is asked for while the repeat is on the line.
+    fn put_again(&mut self, draft: &Draft) {
+        let octets = draft.octets();
+        let part = self.random.between(1, octets.len() - 1);
+        self.call(Call::Gap);
+        self.put_part(&octets[..part]);
+        if self.random.chance(15) {
+            self.call(Call::Leave);
+        }
+        self.put_part(&octets[part..]);
+    }
+
+    fn hear_some(&mut self) {
+        match self.random.below(3) {
+            0 => self.hear_a_part(),
+            _ => self.hear_quietly(),
+        }
+    }
+
+    /// The same master and FCB; all else may be another. Half of the repeats are the request as it was.
+    fn changed_where_a_repeat_may(&mut self, request: &Draft) -> Draft {
+        let mut draft = request.clone();
+        match self.random.below(18) {
+            0..=2 => draft.data = self.random.octets(draft.data.len()),
+            3 => draft.data.push(self.random.octet()),
+            4 => draft.points = Some((self.random.octet(), draft::MASTER_POINT)),
+            5 => draft.points = draft.points.map(|(dsap, ssap)| (dsap, ssap ^ 1)),
+            6 => draft.points = None,
+            7 => draft.form = self.random.pick(&[Form::Sd1, Form::Sd2, Form::Sd3]),
+            8 => draft.control = draft.control & 0xF0 | self.random.pick(&[3, 9, 12, 13, 0]),
+            9 => draft = self.other_request_for_a_repeat(request),
+            _ => {}
+        }
+        fill_sd2(&mut draft);
+        draft
+    }
+
+    /// Another service's request with the addresses and the bits of this one.
+    fn other_request_for_a_repeat(&mut self, request: &Draft) -> Draft {
+        let other = match self.random.below(5) {
+            0 => self.good_exchange(),
+            1 => self.good_set_prm(None),
+            2 => self.good_chk_cfg(),
+            3 => self.without_data(draft::SLAVE_DIAG),
+            _ => self.without_data(draft::READ_INPUTS),
+        };
+        Draft {
+            source: request.source,
+            control: request.control,
+            ..other
+        }
+    }
+
+    fn between_repeats(&mut self, request: &Draft) {
+        match self.random.below(10) {
+            0..=2 => self.call(Call::Tick),
+            3 => self.command_between_repeats(),
+            4 | 5 => self.telegram_that_leaves_the_chain(request),
+            6 => self.request_that_ends_the_chain(request),
+            7 => self.ask_for_a_clear(),
+            _ => self.user_work(),
+        }
+    }
+
+    /// Something that the service of the request would find, or that would make it draw RS.
+    fn change_what_is_drawn(&mut self) {
+        let drawn = self.ledger().chain.map(|chain| chain.drawn);
+        match drawn {
+            _ if self.random.chance(20) => self.call(Call::Leave),
+            Some(Drawn::E5) => self.judge_parameters_good(),
+            Some(Drawn::Exchange) if self.random.chance(40) => self.call(Call::Take),
+            Some(Drawn::Exchange | Drawn::ReadInputs) => self.command_between_repeats(),
+            Some(Drawn::ReadOutputs) => self.call(Call::Take),
+            Some(Drawn::SlaveDiag) => {
+                let diagnosis = self.some_diagnosis();
+                self.call(diagnosis);
+            }
+            _ => self.call(Call::Tick),
+        }
+    }
+
+    /// New inputs and sync, freeze or both.
+    fn command_between_repeats(&mut self) {
+        self.some_new_inputs();
+        let control = match self.random.below(4) {
+            0 => draft::SYNC,
+            1 => draft::FREEZE,
+            2 => draft::UNFREEZE,
+            _ => self.combined_command(),
+        };
+        let mut command = self.owners_command(control);
+        if self.random.chance(20) {
+            command.source = self.other_master();
+        }
+        self.put_whole(&command);
+    }
+
+    /// No request, or one that does not act, by any master and with any FCB.
+    fn telegram_that_leaves_the_chain(&mut self, request: &Draft) {
+        let master = match self.random.chance(50) {
+            true => request.source,
+            false => self.other_master(),
+        };
+        let bit = self.random.chance(50);
+        let mut draft = Draft::status(self.address(), master).counted(bit);
+        match self.random.below(6) {
+            0 => draft.control = draft.control & 0xF0 | self.random.pick(&[4, 6]),
+            1 => draft.control ^= self.random.pick(&[0x80, 0x40]),
+            2 => draft.destination = self.random.pick(&[127, self.address() ^ 1]),
+            3 => draft.source = 127,
+            4 => draft.form = Form::Sd4,
+            _ => return self.put_spoiled(&draft.octets()),
+        }
+        self.put_whole(&draft);
+    }
+
+    /// FCV clear, or another master.
+    fn request_that_ends_the_chain(&mut self, request: &Draft) {
+        let bit = self.random.chance(50);
+        let status = Draft::status(self.address(), request.source);
+        let draft = match self.random.below(3) {
+            0 => Draft {
+                control: status.counted(bit).control & !draft::FCV,
+                ..status
+            },
+            1 => Draft {
+                source: self.other_master(),
+                ..status
+            },
+            _ => Draft {
+                source: self.other_master(),
+                ..status.counted(bit)
+            },
+        };
+        self.put_whole(&draft);
     }
 }

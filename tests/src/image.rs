@@ -2,6 +2,8 @@
 //! other image with 5, and no image that is one.
 
 use crate::card::STATE;
+use crate::ledger::Drawn;
+use crate::retries::Chain;
 use std::ops::Range;
 
 /// The phase of reading and the stage of sending from which on data octets are counted.
@@ -18,8 +20,12 @@ const LEAST: [u8; 6] = [1, 1, 7, 1, 6, 1];
 /// How many buffers there are of each length.
 const BUFFERS: [usize; 6] = [4, 3, 3, 3, 2, 1];
 
-/// Octets that are not used: behind the lengths, behind the counts, and all that follow.
-const UNUSED: [usize; 4] = [54, 55, 62, 63];
+/// The last request whose frame count bit counts: twice what it drew, as in octet 18, with the bit below it; and its
+/// master, 127 where there is none. With the most that each may be.
+pub const CHAIN: [(usize, u8); 2] = [(54, 17), (55, 127)];
+
+/// Octets that are not used: behind the counts, and all that follow.
+const UNUSED: [usize; 2] = [62, 63];
 pub const FURTHER: Range<usize> = 64..STATE;
 
 /// Whether the image is a state's whose roles, lengths and counts keep the rules, with buffers that end in the memory.
@@ -34,7 +40,27 @@ pub fn is_state(image: &[u8], memory_length: usize) -> bool {
         && none_or(6, image[57], image[52])
         && set_counts(7, image[58], image[59], image[50])
         && set_counts(1, image[60], image[61], image[51])
+        && CHAIN.into_iter().all(|(at, most)| image[at] <= most)
         && UNUSED.into_iter().chain(FURTHER).all(|at| image[at] == 0)
+}
+
+/// What the chain's octets are.
+pub fn chain_octets(chain: Option<Chain>) -> [u8; 2] {
+    let Some(chain) = chain else {
+        return [0, 127];
+    };
+    let drawn = match chain.drawn {
+        Drawn::Nothing => 0,
+        Drawn::E5 => 1,
+        Drawn::Status => 2,
+        Drawn::Rs => 3,
+        Drawn::Exchange => 4,
+        Drawn::ReadInputs => 5,
+        Drawn::ReadOutputs => 6,
+        Drawn::GetCfg => 7,
+        Drawn::SlaveDiag => 8,
+    };
+    [2 * drawn + u8::from(chain.frame_count), chain.master]
 }
 
 fn lengths(image: &[u8]) -> bool {
@@ -71,10 +97,11 @@ fn set_counts(least: u8, shown: u8, waiting: u8, length: u8) -> bool {
 mod tests {
     use super::*;
 
-    /// Roles, codes and marks 0, the least lengths, diagnosis count 6.
+    /// Roles, codes and marks 0, the least lengths, diagnosis count 6, no request to be repeated.
     fn fresh() -> Vec<u8> {
         let mut image = vec![0; STATE];
         image[LENGTHS..LENGTHS + LEAST.len()].copy_from_slice(&LEAST);
+        image[55] = 127;
         image[56] = 6;
         image
     }
@@ -93,6 +120,16 @@ mod tests {
         for (at, most) in (16..32).zip(CODES) {
             assert!(is_state_with(&[(at, most)]), "octet {at}");
             assert!(!is_state_with(&[(at, most + 1)]), "octet {at}");
+        }
+    }
+
+    #[test]
+    fn the_chain_goes_up_to_its_limits() {
+        for (at, most) in CHAIN {
+            assert!(is_state_with(&[(at, 0)]), "octet {at}");
+            assert!(is_state_with(&[(at, most)]), "octet {at}");
+            assert!(!is_state_with(&[(at, most + 1)]), "octet {at}");
+            assert!(!is_state_with(&[(at, 0xFF)]), "octet {at}");
         }
     }
 

@@ -1,5 +1,5 @@
 //! A second implementation of the station: the ledger of document 01 (section "The ledger") with Req 01 of document 02,
-//! on lists. The window of Req 02 is in window.rs. Req 03 changes no answer.
+//! on lists. The window of Req 02 is in window.rs, the retries of Req 04 are in retries.rs. Req 03 changes no answer.
 //!
 //! It is fed the arguments of the calls alone and has no memory, no buffers and no roles. A telegram's octets are
 //! gathered and acted on whole at the last one; a reply is fixed whole when it is drawn. Where a document can be read in
@@ -9,6 +9,7 @@
 
 use crate::call::{Call, StartValues};
 use crate::outcome::Outcome;
+use crate::retries::{Chain, Traces};
 use crate::telegram::{self, Extended, Form, Place, Telegram};
 use std::collections::VecDeque;
 use std::mem::swap;
@@ -56,7 +57,7 @@ const COMMAND_UNFREEZE: u8 = 0x04;
 const COMMAND_CLEAR: u8 = 0x02;
 
 const FLAG_EXT_DIAG: u32 = 1;
-const FLAG_STAT_DIAG: u32 = 2;
+pub const FLAG_STAT_DIAG: u32 = 2;
 const FLAG_OVERFLOW: u32 = 4;
 
 #[derive(Clone, Copy, PartialEq, Eq, Debug)]
@@ -140,19 +141,26 @@ pub enum Reading {
     Begun(Vec<u8>),
 }
 
+/// What a request drew.
 #[derive(Clone, Copy, PartialEq, Eq, Debug)]
 pub enum Drawn {
-    SlaveDiag,
+    Nothing,
+    E5,
+    Status,
+    Rs,
+    /// The inputs, by Data_Exchange.
+    Exchange,
+    ReadInputs,
     ReadOutputs,
-    Inputs,
-    Other,
+    GetCfg,
+    SlaveDiag,
 }
 
 #[derive(Clone)]
 pub struct Reply {
     pub left: VecDeque<u8>,
     pub length: usize,
-    pub drawn_by: Drawn,
+    pub drawn: Drawn,
 }
 
 /// The ledger's state. The fields are open to the generator, which steers by them.
@@ -179,7 +187,9 @@ pub struct Ledger {
     pub clear_noted: bool,
     pub reading: Reading,
     pub reply: Reply,
+    pub chain: Option<Chain>,
     last_owner: Option<u8>,
+    pub traces: Traces,
     notes: Vec<Outcome>,
 }
 
@@ -286,7 +296,8 @@ fn length_refusal(values: &StartValues) -> Option<Refusal> {
 /// Start, and the calls by their names.
 impl Ledger {
     /// Document 01, "The station and its memory": WAIT_PRM without publishing, no owner, nothing new or shown,
-    /// diagnosis count 6, no flags, no events; octets are ignored until a gap. No mode is on or allowed.
+    /// diagnosis count 6, no flags, no events; octets are ignored until a gap. No mode is on or allowed, and there is
+    /// no request that could be repeated.
     fn start(values: &StartValues) -> Result<Ledger, Refusal> {
         if let Some(refusal) = start_refusal(values) {
             return Err(refusal);
@@ -331,9 +342,11 @@ impl Ledger {
             reply: Reply {
                 left: VecDeque::new(),
                 length: 0,
-                drawn_by: Drawn::Other,
+                drawn: Drawn::Nothing,
             },
+            chain: None,
             last_owner: None,
+            traces: Traces::default(),
             notes: Vec::new(),
             values: values.clone(),
         })
@@ -416,6 +429,7 @@ impl Ledger {
         self.reading = Reading::Begun(vec![octet]);
         if self.reply_is_unfinished() {
             self.note(Outcome::BeginDropsReply);
+            self.trace(Outcome::RepeatAfterDroppedReply);
             self.note_if(self.clear_noted, Outcome::NotedOverBeginning);
             self.note_if(
                 self.diagnosis.delayed.is_some(),
@@ -576,23 +590,28 @@ impl Ledger {
     fn serve(&mut self, telegram: &Telegram) {
         // SD4 is without effect: it does not act and refills nothing.
         if telegram.form == Form::Sd4 || !self.may_act(telegram) {
-            return;
+            return self.trace(Outcome::RepeatAfterNotActing);
         }
         if telegram.destination & 0x7F == EVERYBODY {
-            self.serve_everybody(telegram);
-            return;
+            return self.serve_everybody(telegram);
         }
         let refilled = self.refill(telegram);
-        let function = telegram.control & 0x0F;
-        match function {
-            9 => self.status(telegram),
-            3 | 5 => self.acknowledge_telegram(telegram),
+        match telegram.control & 0x0F {
             4 | 6 => self.serve_unacknowledged(telegram),
-            12 | 13 => self.serve_request(telegram),
-            _ => self.note(Outcome::FunctionUnanswered),
+            _ => self.serve_or_repeat(telegram),
         }
         if refilled {
             self.note_refilled();
+        }
+    }
+
+    /// A request that is no repeat: every function but 4 and 6.
+    pub fn serve_request(&mut self, telegram: &Telegram) {
+        match telegram.control & 0x0F {
+            9 => self.status(telegram),
+            3 | 5 => self.acknowledge_telegram(telegram),
+            12 | 13 => self.send_and_request(telegram),
+            _ => self.note(Outcome::FunctionUnanswered),
         }
     }
 
@@ -617,7 +636,7 @@ impl Ledger {
         self.values.address as u8
     }
 
-    fn is_owner(&self, telegram: &Telegram) -> bool {
+    pub fn is_owner(&self, telegram: &Telegram) -> bool {
         self.owner == Some(source(telegram))
     }
 
@@ -627,7 +646,10 @@ impl Ledger {
             (4 | 6, Some(extended)) if is_global_control(&extended) => {
                 self.global_control(telegram, &extended)
             }
-            _ => self.note(Outcome::Act127Other),
+            _ => {
+                self.trace(Outcome::RepeatAfterNotActing);
+                self.note(Outcome::Act127Other)
+            }
         }
     }
 
@@ -636,7 +658,10 @@ impl Ledger {
             Some(extended) if is_global_control(&extended) => {
                 self.global_control(telegram, &extended)
             }
-            _ => self.note(Outcome::FunctionUnanswered),
+            _ => {
+                self.trace_unacknowledged(telegram, Outcome::RepeatAfterUnacknowledged);
+                self.note(Outcome::FunctionUnanswered)
+            }
         }
     }
 
@@ -667,7 +692,7 @@ impl Ledger {
     fn status(&mut self, telegram: &Telegram) {
         if telegram.form == Form::Sd1 {
             self.note(Outcome::StatusReply);
-            self.reply_short(telegram, CONTROL_STATUS);
+            self.reply_status(telegram);
         } else {
             self.note(Outcome::StatusOtherForm);
         }
@@ -683,7 +708,7 @@ impl Ledger {
         self.reply_rs(telegram);
     }
 
-    fn serve_request(&mut self, telegram: &Telegram) {
+    fn send_and_request(&mut self, telegram: &Telegram) {
         let Some(extended) = telegram.extended() else {
             return self.data_exchange(telegram);
         };
@@ -747,7 +772,7 @@ fn point_asked(dsap: u8, function: u8) -> (Outcome, Outcome) {
     }
 }
 
-fn source(telegram: &Telegram) -> u8 {
+pub fn source(telegram: &Telegram) -> u8 {
     telegram.source & 0x7F
 }
 
@@ -757,37 +782,72 @@ fn is_global_control(extended: &Extended) -> bool {
 
 /// Replies, each fixed whole.
 impl Ledger {
-    fn reply(&mut self, octets: Vec<u8>, drawn_by: Drawn) {
+    fn reply(&mut self, octets: Vec<u8>, drawn: Drawn) {
         self.reply = Reply {
             length: octets.len(),
             left: octets.into(),
-            drawn_by,
+            drawn,
         };
     }
 
-    fn reply_e5(&mut self) {
-        self.reply(vec![SHORT_ACKNOWLEDGEMENT], Drawn::Other);
+    pub fn reply_e5(&mut self) {
+        self.reply(vec![SHORT_ACKNOWLEDGEMENT], Drawn::E5);
     }
 
     /// 10 SA own FC FCS 16, SA without bit 7.
-    fn reply_short(&mut self, telegram: &Telegram, control: u8) {
+    fn reply_short(&mut self, telegram: &Telegram, control: u8, drawn: Drawn) {
         let octets = telegram::sd1(source(telegram), self.address(), control);
-        self.reply(octets, Drawn::Other);
+        self.reply(octets, drawn);
     }
 
-    fn reply_rs(&mut self, telegram: &Telegram) {
-        self.reply_short(telegram, CONTROL_RS);
+    pub fn reply_status(&mut self, telegram: &Telegram) {
+        self.reply_short(telegram, CONTROL_STATUS, Drawn::Status);
+    }
+
+    pub fn reply_rs(&mut self, telegram: &Telegram) {
+        self.reply_short(telegram, CONTROL_RS, Drawn::Rs);
+    }
+
+    /// The inputs that the controller sends now.
+    pub fn reply_exchange(&mut self, telegram: &Telegram) {
+        let control = match self.diag_flag {
+            true => CONTROL_DATA_DIAGNOSIS,
+            false => CONTROL_DATA,
+        };
+        let (master, own) = (source(telegram), self.address());
+        let octets = telegram::sd2(master, own, control, &self.inputs.sent);
+        self.reply(octets, Drawn::Exchange);
+    }
+
+    pub fn reply_inputs(&mut self, telegram: &Telegram) {
+        let data = self.inputs.sent.clone();
+        self.reply_from_point(telegram, POINT_READ_INPUTS, &data, Drawn::ReadInputs);
+    }
+
+    pub fn reply_outputs(&mut self, telegram: &Telegram) {
+        let data = self.outputs.held.clone();
+        self.reply_from_point(telegram, POINT_READ_OUTPUTS, &data, Drawn::ReadOutputs);
+    }
+
+    pub fn reply_configuration(&mut self, telegram: &Telegram) {
+        let data = self.values.get_cfg.clone();
+        self.reply_from_point(telegram, POINT_GET_CFG, &data, Drawn::GetCfg);
+    }
+
+    pub fn reply_diagnosis(&mut self, telegram: &Telegram) {
+        let data = self.diagnosis_octets();
+        self.reply_from_point(telegram, POINT_SLAVE_DIAG, &data, Drawn::SlaveDiag);
     }
 
     /// SD2, FC 08, bit 7 in both addresses, data 3E, DSAP, then the data.
-    fn reply_from_point(&mut self, telegram: &Telegram, point: u8, data: &[u8], drawn_by: Drawn) {
+    fn reply_from_point(&mut self, telegram: &Telegram, point: u8, data: &[u8], drawn: Drawn) {
         let octets = telegram::sd2(
             source(telegram) | telegram::EXTENSION,
             self.address() | telegram::EXTENSION,
             CONTROL_DATA,
             &[&[SSAP_OF_MASTERS, point], data].concat(),
         );
-        self.reply(octets, drawn_by);
+        self.reply(octets, drawn);
     }
 }
 
@@ -984,7 +1044,7 @@ impl Ledger {
         if !self.freeze.on {
             self.bring_new_inputs();
         }
-        self.reply_inputs(telegram);
+        self.reply_exchange(telegram);
     }
 
     fn note_inputs_sent(&mut self) {
@@ -1020,30 +1080,16 @@ impl Ledger {
 
     fn bring_new_inputs(&mut self) {
         if self.inputs.next_is_new {
+            self.trace_inputs_brought();
             swap(&mut self.inputs.sent, &mut self.inputs.next);
             self.inputs.next_is_new = false;
         }
     }
 
-    fn reply_inputs(&mut self, telegram: &Telegram) {
-        let control = match self.diag_flag {
-            true => CONTROL_DATA_DIAGNOSIS,
-            false => CONTROL_DATA,
-        };
-        let octets = telegram::sd2(
-            source(telegram),
-            self.address(),
-            control,
-            &self.inputs.sent.clone(),
-        );
-        self.reply(octets, Drawn::Inputs);
-    }
-
     fn slave_diag(&mut self, telegram: &Telegram) {
-        let data = self.diagnosis_octets();
         let owner = self.is_owner(telegram);
         self.note_slave_diag(owner);
-        self.reply_from_point(telegram, POINT_SLAVE_DIAG, &data, Drawn::SlaveDiag);
+        self.reply_diagnosis(telegram);
         if owner && !self.flag(FLAG_STAT_DIAG) {
             self.diag_flag = false;
         }
@@ -1080,7 +1126,7 @@ impl Ledger {
         self.note_if(only_allowed(self.freeze), Outcome::DiagFreezeOnlyAllowed);
     }
 
-    fn flag(&self, flag: u32) -> bool {
+    pub fn flag(&self, flag: u32) -> bool {
         self.diagnosis.flags & flag != 0
     }
 
@@ -1106,10 +1152,10 @@ impl Ledger {
     }
 
     fn get_cfg(&mut self, telegram: &Telegram) {
-        let data = self.values.get_cfg.clone();
+        let longest = self.values.get_cfg.len() == 244;
         self.note(Outcome::GetCfg);
-        self.note_if(data.len() == 244, Outcome::GetCfg244);
-        self.reply_from_point(telegram, POINT_GET_CFG, &data, Drawn::Other);
+        self.note_if(longest, Outcome::GetCfg244);
+        self.reply_configuration(telegram);
     }
 
     fn read_inputs(&mut self, telegram: &Telegram) {
@@ -1120,8 +1166,7 @@ impl Ledger {
         let frozen_new = self.freeze.on && self.inputs.next_is_new;
         self.note(Outcome::ReadInputs);
         self.note_if(frozen_new, Outcome::ReadInputsFrozen);
-        let data = self.inputs.sent.clone();
-        self.reply_from_point(telegram, POINT_READ_INPUTS, &data, Drawn::Inputs);
+        self.reply_inputs(telegram);
     }
 
     fn read_outputs(&mut self, telegram: &Telegram) {
@@ -1131,8 +1176,7 @@ impl Ledger {
         }
         self.note(Outcome::ReadOutputs);
         self.note_if(self.holds_back(), Outcome::ReadOutputsHeldBack);
-        let data = self.outputs.held.clone();
-        self.reply_from_point(telegram, POINT_READ_OUTPUTS, &data, Drawn::ReadOutputs);
+        self.reply_outputs(telegram);
     }
 }
 
@@ -1141,6 +1185,7 @@ impl Ledger {
     /// The commands act whenever the telegram passes the group test, whether octet 0 is new or not. Octet 0 is compared
     /// and stored whole, with the bits of a pair that is not allowed.
     fn global_control(&mut self, telegram: &Telegram, extended: &Extended) {
+        self.trace_unacknowledged(telegram, Outcome::RepeatAfterGlobalControl);
         let [control, addressed] = extended.data else {
             return self.note(Outcome::GcCount);
         };
@@ -1302,7 +1347,7 @@ fn commanded(control: u8, begin: u8, end: u8) -> Option<Command> {
 
 /// Publishing, modes, phases and clears.
 impl Ledger {
-    fn holds_back(&self) -> bool {
+    pub fn holds_back(&self) -> bool {
         self.outputs.held_back.is_some()
     }
 
@@ -1340,6 +1385,7 @@ impl Ledger {
             Phase::DataExch => Outcome::WaitPrmFromExchange,
         });
         self.note_if(self.clear_noted, Outcome::NotedOverWaitPrm);
+        self.trace(Outcome::RepeatAfterWaitPrm);
         self.note_if(self.parameters.shown.is_some(), Outcome::PrmDropped);
         self.note_if(self.configuration.shown.is_some(), Outcome::CfgDropped);
         self.note_modes_end(Outcome::SyncEndsWaitPrm, Outcome::FreezeEndsWaitPrm);
@@ -1397,6 +1443,7 @@ impl Ledger {
         if watchdog.left == 0 {
             self.watchdog_expired();
         } else {
+            self.trace(Outcome::RepeatAfterTick);
             self.note(Outcome::TickCounts);
         }
         0
@@ -1437,7 +1484,7 @@ impl Ledger {
             (false, true) => Outcome::LeaveUnderReply,
             (false, false) => Outcome::LeaveIdle,
         });
-        let read_outputs = self.reply_is_unfinished() && self.reply.drawn_by == Drawn::ReadOutputs;
+        let read_outputs = self.reply_is_unfinished() && self.reply.drawn == Drawn::ReadOutputs;
         self.note_if(read_outputs, Outcome::ReadOutputsLeave);
         self.note_if(self.clear_noted, Outcome::LeaveNotedAlready);
         self.clear();
@@ -1536,7 +1583,7 @@ impl Ledger {
 
     fn note_bad_judgement(&mut self) {
         let under_reply = self.reply_is_unfinished();
-        let under_diag = under_reply && self.reply.drawn_by == Drawn::SlaveDiag;
+        let under_diag = under_reply && self.reply.drawn == Drawn::SlaveDiag;
         self.note_if(self.telegram_is_begun(), Outcome::JudgeBadInTelegram);
         self.note_if(under_reply, Outcome::JudgeBadUnderReply);
         self.note_if(under_diag, Outcome::JudgeBadUnderDiag);
@@ -1584,11 +1631,12 @@ impl Ledger {
             News::FromMaster => 1,
             News::ZerosByStation => 2,
         };
-        let under_reply = self.reply_is_unfinished() && self.reply.drawn_by == Drawn::ReadOutputs;
+        let under_reply = self.reply_is_unfinished() && self.reply.drawn == Drawn::ReadOutputs;
         self.note([Outcome::Take1, Outcome::Take2][answer as usize - 1]);
         self.note_if(self.holds_back(), Outcome::TakeNewHeldBack);
         self.note_if(under_reply, Outcome::ReadOutputsTake);
         self.note_if(self.telegram_is_begun(), Outcome::TakeInTelegram);
+        self.trace_taken();
         swap(&mut self.outputs.held, &mut self.outputs.next);
         self.outputs.news = News::Nothing;
         answer
@@ -1660,7 +1708,8 @@ impl Ledger {
     }
 
     fn hand_over_inputs(&mut self) -> i64 {
-        let under_reply = self.reply_is_unfinished() && self.reply.drawn_by == Drawn::Inputs;
+        let with_inputs = matches!(self.reply.drawn, Drawn::Exchange | Drawn::ReadInputs);
+        let under_reply = self.reply_is_unfinished() && with_inputs;
         self.note(Outcome::HandOver);
         self.note_if(self.inputs.next_is_new, Outcome::HandOverAgain);
         self.note_if(self.freeze.on, Outcome::HandOverFrozen);
@@ -1681,8 +1730,9 @@ impl Ledger {
             return Err((9, Outcome::Refuse9));
         }
         self.note_if(count == self.values.diagnosis, Outcome::DiagnosisFull);
-        if self.reply_is_unfinished() && self.reply.drawn_by == Drawn::SlaveDiag {
+        if self.reply_is_unfinished() && self.reply.drawn == Drawn::SlaveDiag {
             self.note(Outcome::DiagnosisDelayed);
+            self.note_if(self.traces.reply_is_repeat, Outcome::DelayedByRepeat);
             self.diagnosis.delayed = Some((count, flags));
         } else {
             let other_reply = self.reply_is_unfinished();
@@ -1698,6 +1748,7 @@ impl Ledger {
         self.diagnosis.count = count;
         self.diagnosis.flags = flags;
         self.diag_flag = true;
+        self.trace_new_diagnosis();
         self.set_event(EVENT_DIAGNOSIS);
     }
 

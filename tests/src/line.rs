@@ -5,8 +5,8 @@ use crate::call::{self, Call};
 use crate::draft::{self, Draft};
 use crate::ledger::Station;
 
-const STATION: u8 = 5;
-const MASTER: u8 = 2;
+pub const STATION: u8 = 5;
+pub const MASTER: u8 = 2;
 const IDENT: u16 = 0x80B3;
 
 #[derive(Clone)]
@@ -46,7 +46,8 @@ impl Line {
         self.station.answer(call).0
     }
 
-    fn send(&mut self, draft: &Draft) {
+    /// A telegram whose reply is not heard yet.
+    pub fn send(&mut self, draft: &Draft) {
         self.call("gap");
         for octet in draft.octets() {
             self.answer(&Call::Octet { octet, bad: false });
@@ -68,12 +69,11 @@ impl Line {
     }
 
     pub fn request(&mut self, point: u8, data: Vec<u8>) -> Vec<u8> {
-        self.put(&Draft::to_point(STATION, MASTER, point, data))
+        self.put(&to_point(point, data))
     }
 
     pub fn set_prm(&mut self, allowed: u8) {
-        let data = draft::good_parameters(IDENT, None, 0, allowed);
-        assert_eq!(self.request(draft::SET_PRM, data), [0xE5]);
+        assert_eq!(self.put(&set_prm(allowed)), [0xE5]);
     }
 
     pub fn chk_cfg(&mut self) {
@@ -81,13 +81,12 @@ impl Line {
     }
 
     pub fn control(&mut self, control: u8) {
-        let draft = Draft::global_control(127, MASTER, control, 0);
-        assert!(self.put(&draft).is_empty());
+        assert!(self.put(&global_control(control)).is_empty());
     }
 
     /// The whole reply to a Data_Exchange, whatever it is.
     pub fn send_output(&mut self, output: u8) -> Vec<u8> {
-        self.put(&Draft::exchange(STATION, MASTER, vec![output]))
+        self.put(&exchange(output))
     }
 
     /// Sends an output and answers the input that comes back.
@@ -115,8 +114,7 @@ impl Line {
 
     /// A Slave_Diag whose reply is not heard yet.
     pub fn ask_for_diagnosis(&mut self) {
-        let point = draft::SLAVE_DIAG;
-        self.send(&Draft::to_point(STATION, MASTER, point, Vec::new()));
+        self.send(&to_point(draft::SLAVE_DIAG, Vec::new()));
     }
 
     /// Octets 0 and 1 of the diagnosis.
@@ -124,4 +122,21 @@ impl Line {
         let reply = self.request(draft::SLAVE_DIAG, Vec::new());
         (reply[9], reply[10])
     }
+}
+
+pub fn to_point(point: u8, data: Vec<u8>) -> Draft {
+    Draft::to_point(STATION, MASTER, point, data)
+}
+
+pub fn set_prm(allowed: u8) -> Draft {
+    let data = draft::good_parameters(IDENT, None, 0, allowed);
+    to_point(draft::SET_PRM, data)
+}
+
+pub fn exchange(output: u8) -> Draft {
+    Draft::exchange(STATION, MASTER, vec![output])
+}
+
+pub fn global_control(control: u8) -> Draft {
+    Draft::global_control(127, MASTER, control, 0)
 }

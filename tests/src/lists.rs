@@ -104,6 +104,7 @@ fn damage(
         trial.try_every_length()?;
         trial.try_counts()?;
         trial.try_outputs()?;
+        trial.try_chain()?;
         trial.try_unused()?;
         trial.try_lengths()?;
     }

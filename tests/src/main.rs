@@ -1,4 +1,4 @@
-//! Compares the C library of the station with a second implementation of document 01 and of Req 01 to 03 of document 02.
+//! Compares the C library of the station with a second implementation of document 01 and of Req 01 to 04 of document 02.
 //! See tests/README.md.
 
 #[cfg(test)]
@@ -20,6 +20,9 @@ mod lists;
 mod modes;
 mod outcome;
 mod random;
+#[cfg(test)]
+mod repeats;
+mod retries;
 mod systematic;
 mod telegram;
 mod vectors;

@@ -1,7 +1,8 @@
 //! What need not be left to chance. From a handful of reached states every telegram of a small collection is tried with
 //! each octet changed to each value, with each other call at each place inside it and inside its reply, and the
 //! octets that decide what a telegram is are run through all their values with a check sum that is right. Every address of
-//! the window is read and written in both orders.
+//! the window is read and written in both orders. Each kind of request follows each other one with every choice of master
+//! and of the bits that tell a repeat; elsewhere FCV is clear, so that a telegram shows its own rule.
 
 use crate::call::{Call, Order, StartValues};
 use crate::compare::{Difference, Pair};
@@ -164,7 +165,8 @@ fn exchange(data: &[u8]) -> Vec<u8> {
 fn telegrams() -> Vec<(&'static str, Vec<u8>)> {
     let unlock = [&[0xC0], &good_parameters(None)[1..]].concat();
     let clear = |station| Draft::global_control(station, MASTER, draft::CLEAR, 0x01).octets();
-    let sd3 = |control, data: &[u8]| telegram::sd3(STATION, MASTER, control, data);
+    let by_sd3 = telegram::sd3(STATION, MASTER, draft::REQUEST, &[1; 8]);
+    let counted = Draft::exchange(STATION, MASTER, vec![0x7C, 0x7D]).counted(false);
     vec![
         ("status", Draft::status(STATION, MASTER).octets()),
         (
@@ -182,7 +184,8 @@ fn telegrams() -> Vec<(&'static str, Vec<u8>)> {
         ("Chk_Cfg", request(draft::CHK_CFG, &[0x21, 0x12])),
         ("Data_Exchange", exchange(&[0x7A, 0x7B])),
         ("Data_Exchange with one octet", exchange(&[0x7A])),
-        ("Data_Exchange by SD3", sd3(0x5D, &[1; 8])),
+        ("Data_Exchange by SD3", by_sd3),
+        ("Data_Exchange with FCV set", counted.octets()),
         (
             "Data_Exchange by SD1",
             telegram::sd1(STATION, MASTER, draft::REQUEST),
@@ -346,7 +349,26 @@ fn ways() -> Vec<(&'static str, Vec<Call>)> {
             synchronised,
         ),
         ("frozen with new inputs", frozen),
+        (
+            "a repeat may follow",
+            way_to_a_chain(exchanging(Some((1, 3)))),
+        ),
     ]
+}
+
+/// A Slave_Diag with FCV set was heard in part, and there are newer outputs, inputs and diagnosis than its own.
+fn way_to_a_chain(exchanging: Vec<Call>) -> Vec<Call> {
+    let slave_diag = Draft::to_point(STATION, MASTER, draft::SLAVE_DIAG, vec![]);
+    [
+        exchanging,
+        telegram_calls(&exchange(&[0x11, 0x12])),
+        sends(3),
+        new_inputs(0x31),
+        telegram_calls(&slave_diag.counted(false).octets()),
+        sends(4),
+        vec![Call::NewDiagnosis { count: 8, flags: 1 }],
+    ]
+    .concat()
 }
 
 fn new_inputs(octet: u8) -> Vec<Call> {
@@ -480,13 +502,18 @@ fn tasks<'a>(bases: &'a [Base], modes: &'a [Base]) -> Vec<Task<'a>> {
 /// A test with its name in reports.
 type Named = (&'static str, fn(&mut Walker) -> Compared);
 
-const FROM_EVERY_STATE: [Named; 6] = [
+const FROM_EVERY_STATE: [Named; 8] = [
     ("every telegram between ticks", every_telegram_between_ticks),
     ("every FC", every_control),
     ("every point", every_point),
     ("every count of data", every_count),
     ("every octet 0 of Set_Prm", every_first_parameter),
     ("every Global_Control", every_global_control),
+    (
+        "every request behind every other",
+        every_request_behind_every_other,
+    ),
+    ("every request again", every_request_again),
 ];
 
 const FROM_MODES: [Named; 1] = [("every Global_Control", every_global_control)];
@@ -770,6 +797,161 @@ fn every_permission(walker: &mut Walker) -> Compared {
     Ok(())
 }
 
+/// Of each thing that can be drawn at least one request, with FCV clear.
+fn requests() -> Vec<Draft> {
+    let to_point = |point, data: &[u8]| Draft::to_point(STATION, MASTER, point, data.to_vec());
+    let status = Draft::status(STATION, MASTER);
+    vec![
+        Draft {
+            control: FUNCTION_WITHOUT_ANSWER,
+            ..status.clone()
+        },
+        status,
+        to_point(draft::GLOBAL_CONTROL, &[]),
+        to_point(draft::SET_PRM, &good_parameters(Some((1, 3)))),
+        to_point(draft::SET_PRM, &[0x80]),
+        to_point(draft::CHK_CFG, &[0x21]),
+        Draft::exchange(STATION, MASTER, vec![0x71, 0x72]),
+        Draft::exchange(STATION, MASTER, vec![0x71]),
+        to_point(draft::SLAVE_DIAG, &[]),
+        to_point(draft::GET_CFG, &[]),
+        to_point(draft::READ_INPUTS, &[]),
+        to_point(draft::READ_OUTPUTS, &[]),
+    ]
+}
+
+const FUNCTION_WITHOUT_ANSWER: u8 = 0x40;
+
+/// Telegrams that are no requests or do not act: they leave the chain as it is, whatever their bits 4 and 5 are.
+fn no_requests() -> Vec<Draft> {
+    let status = Draft::status(STATION, MASTER);
+    let by_control = |control| Draft {
+        control,
+        ..status.clone()
+    };
+    vec![
+        by_control(0x44),
+        by_control(0x46),
+        by_control(0xC9),
+        by_control(0x09),
+        Draft::global_control(STATION, MASTER, draft::CLEAR, 0),
+        Draft::global_control(127, MASTER, draft::SYNC, 0),
+        Draft::status(127, MASTER),
+        Draft::status(STATION + 1, MASTER),
+    ]
+}
+
+/// The draft from both masters and from 127, which is none, with every choice of FCV and FCB.
+fn with_every_count(draft: &Draft) -> Vec<Draft> {
+    let mut drafts = Vec::new();
+    for source in [MASTER, OTHER_MASTER, 127] {
+        for bits in [0, draft::FCB, draft::FCV, draft::FCV | draft::FCB] {
+            drafts.push(Draft {
+                source,
+                control: draft.control | bits,
+                ..draft.clone()
+            });
+        }
+    }
+    drafts
+}
+
+/// Two telegrams, and a third that tells which chain they left: a status that is no repeat draws the status.
+fn every_request_behind_every_other(walker: &mut Walker) -> Compared {
+    let followers = [requests(), no_requests()].concat();
+    let followers: Vec<Draft> = followers.iter().flat_map(with_every_count).collect();
+    let status = Draft::status(STATION, MASTER);
+    let probes: Vec<Draft> = with_every_count(&status)
+        .into_iter()
+        .filter(|probe| probe.control & draft::FCV != 0 && probe.source != 127)
+        .collect();
+    for first in requests() {
+        let first = telegram_calls(&first.counted(false).octets());
+        for second in &followers {
+            let calls = [first.clone(), heard(&telegram_calls(&second.octets()))].concat();
+            for probe in &probes {
+                let probe = heard(&telegram_calls(&probe.octets()));
+                walker.variant(&[calls.clone(), probe].concat())?;
+            }
+        }
+    }
+    Ok(())
+}
+
+/// The calls, and behind them enough sends for every reply here but a long diagnosis.
+fn heard(calls: &[Call]) -> Vec<Call> {
+    [calls, &sends(LONGEST_HEARD)].concat()
+}
+
+const LONGEST_HEARD: usize = 20;
+
+/// What can come between a request and its repeat: it changes what the service finds, or ends the phase, or the owner.
+fn between_repeats() -> Vec<Vec<Call>> {
+    let command = |octet| telegram_calls(&control(octet, 0));
+    vec![
+        vec![],
+        vec![Call::Tick],
+        vec![Call::Tick, Call::Tick],
+        vec![Call::Leave],
+        vec![Call::Leave, Call::Tick],
+        vec![Call::Take],
+        new_inputs(0x35),
+        [new_inputs(0x36), command(draft::FREEZE)].concat(),
+        [new_inputs(0x37), command(draft::SYNC | draft::UNFREEZE)].concat(),
+        command(draft::CLEAR),
+        vec![Call::NewDiagnosis { count: 7, flags: 1 }],
+        vec![Call::NewDiagnosis { count: 9, flags: 2 }],
+        vec![Call::JudgeParameters(1), Call::JudgeConfiguration(1)],
+        vec![Call::JudgeParameters(0)],
+        vec![Call::JudgeConfiguration(0)],
+    ]
+}
+
+/// As it was and with other data, its reply heard or not, with one or two other things between; and then once more, as
+/// a repeat of the repeat.
+fn every_request_again(walker: &mut Walker) -> Compared {
+    for request in requests() {
+        for (source, bit, sent) in [
+            (MASTER, false, 0),
+            (MASTER, true, LONGEST_HEARD),
+            (OTHER_MASTER, true, LONGEST_HEARD),
+        ] {
+            let request = Draft {
+                source,
+                ..request.counted(bit)
+            };
+            let once = telegram_calls(&request.octets());
+            let other_data = Draft {
+                data: request.data.iter().map(|octet| octet ^ 0x21).collect(),
+                ..request
+            };
+            let begun = [once.clone(), sends(sent)].concat();
+            let again = [once, heard(&telegram_calls(&other_data.octets()))];
+            for again in again {
+                repeat_behind_all(walker, &begun, &again)?;
+            }
+        }
+    }
+    Ok(())
+}
+
+/// A tick behind it shows whether the watchdog was refilled, and a Data_Exchange Diag_Flag.
+fn repeat_behind_all(walker: &mut Walker, begun: &[Call], again: &[Call]) -> Compared {
+    let between = between_repeats();
+    let look = [
+        vec![Call::Tick, Call::Events],
+        heard(&telegram_calls(&exchange(&[0x73, 0x74]))),
+    ]
+    .concat();
+    for first in &between {
+        walker.variant(&[begun, first, again, again, &look].concat())?;
+        for second in &between {
+            walker.variant(&[begun, first, second, again, &look].concat())?;
+        }
+    }
+    Ok(())
+}
+
 fn every_lengths(walker: &mut Walker) -> Compared {
     for first in 0..=255 {
         for second in 0..=255 {
@@ -829,6 +1011,33 @@ mod tests {
         let events = [1, 3, 8, 10, 11, 12, 13];
         let word: i64 = events.into_iter().map(|number| 1 << number).sum();
         assert_eq!(reached(way).answer(&Call::Events).0, word);
+    }
+
+    /// Nothing, E5, status, RS and the five services, in the exchange.
+    #[test]
+    fn the_requests_draw_everything_that_can_be_drawn() {
+        let (_, way) = &ways()[5];
+        let drawn = |request: &Draft| {
+            let calls = telegram_calls(&request.counted(true).octets());
+            let ledger = reached(&[&way[..], &calls].concat()).ledger;
+            let chain = ledger.and_then(|ledger| ledger.chain);
+            format!("{:?}", chain.expect("FCV is set").drawn)
+        };
+        let kinds: std::collections::BTreeSet<String> = requests().iter().map(drawn).collect();
+        assert_eq!(kinds.len(), 9, "{kinds:?}");
+    }
+
+    #[test]
+    fn what_is_no_request_leaves_the_chain() {
+        let (_, way) = &ways()[5];
+        let request = requests()[0].counted(true);
+        let begun = [&way[..], &telegram_calls(&request.octets())].concat();
+        for draft in no_requests().iter().flat_map(with_every_count) {
+            let station = reached(&[&begun[..], &telegram_calls(&draft.octets())].concat());
+            let chain = station.ledger.and_then(|ledger| ledger.chain);
+            let chain = chain.expect("nothing ended it");
+            assert_eq!((chain.master, chain.frame_count), (MASTER, true));
+        }
     }
 
     /// Of the two masters that ask at every point one is the owner wherever there is one.

@@ -1,0 +1,313 @@
+//! Retries: document 02, Req 04. Two bits of a request's FC are there for them. Bit 4, the frame count bit valid (FCV),
+//! says that bit 5, the frame count bit (FCB), counts. A master changes the FCB with each new request and leaves it as
+//! it was where it missed the reply and asks again.
+
+use crate::ledger::{source, Drawn, Ledger, News, Phase, FLAG_STAT_DIAG};
+use crate::outcome::Outcome;
+use crate::telegram::{Form, Telegram};
+
+const FRAME_COUNT_VALID: u8 = 0x10;
+const FRAME_COUNT: u8 = 0x20;
+
+/// What a repeat is told by and what it draws: the last request with FCV set, as long as no request of another master
+/// and none with FCV clear follows it. "Nothing else ends it": neither a phase nor a tick nor a dropped reply.
+#[derive(Clone, Copy)]
+pub struct Chain {
+    pub master: u8,
+    pub frame_count: bool,
+    pub drawn: Drawn,
+}
+
+impl Chain {
+    /// SA's low 7 bits and the two bits of FC decide alone. The other octets are not looked at, so that a repeat may be
+    /// of another kind, to another point or with other data.
+    fn is_repeated_by(&self, telegram: &Telegram) -> bool {
+        has_frame_count(telegram)
+            && source(telegram) == self.master
+            && frame_count(telegram) == self.frame_count
+    }
+}
+
+fn has_frame_count(telegram: &Telegram) -> bool {
+    telegram.control & FRAME_COUNT_VALID != 0
+}
+
+fn frame_count(telegram: &Telegram) -> bool {
+    telegram.control & FRAME_COUNT != 0
+}
+
+/// The rule.
+impl Ledger {
+    /// For requests alone: every acting telegram but those with function 4 or 6, which leave the chain as it is.
+    pub fn serve_or_repeat(&mut self, telegram: &Telegram) {
+        match self.chain {
+            Some(chain) if chain.is_repeated_by(telegram) => {
+                self.note_repeat(telegram, chain.drawn);
+                self.draw_again(telegram, chain.drawn);
+                self.traces.reply_is_repeat = true;
+            }
+            _ => {
+                self.note_new_request(telegram);
+                self.serve_request(telegram);
+                self.count(telegram);
+                self.traces.reply_is_repeat = false;
+            }
+        }
+    }
+
+    /// "A repeat changes nothing": the reply is formed from what stands now, with no question of phase or owner, and
+    /// neither are inputs brought nor is Diag_Flag cleared. The owner's watchdog was refilled before, as by every acting
+    /// telegram.
+    fn draw_again(&mut self, telegram: &Telegram, drawn: Drawn) {
+        match drawn {
+            Drawn::Nothing => {}
+            Drawn::E5 => self.reply_e5(),
+            Drawn::Status => self.reply_status(telegram),
+            Drawn::Rs => self.reply_rs(telegram),
+            Drawn::Exchange => self.reply_exchange(telegram),
+            Drawn::ReadInputs => self.reply_inputs(telegram),
+            Drawn::ReadOutputs => self.reply_outputs(telegram),
+            Drawn::GetCfg => self.reply_configuration(telegram),
+            Drawn::SlaveDiag => self.reply_diagnosis(telegram),
+        }
+    }
+
+    /// The beginning of the telegram dropped any earlier reply, so that one that is unfinished now is this request's.
+    fn count(&mut self, telegram: &Telegram) {
+        let drawn = match self.reply_is_unfinished() {
+            true => self.reply.drawn,
+            false => Drawn::Nothing,
+        };
+        self.chain = has_frame_count(telegram).then_some(Chain {
+            master: source(telegram),
+            frame_count: frame_count(telegram),
+            drawn,
+        });
+    }
+}
+
+/// What the table of outcomes is told by. No rule looks at it.
+#[derive(Clone, Default)]
+pub struct Traces {
+    /// The request that began the chain, and the phase that it met.
+    request: Option<(Telegram, Phase)>,
+    /// What came since that leaves the chain as it is: reached if a repeat follows.
+    since: Vec<Outcome>,
+    /// Master and FCB of the last chain that ended: what is reached if they come again now, which is no repeat.
+    ended: Option<(u8, bool, Outcome)>,
+    pub reply_is_repeat: bool,
+}
+
+/// What the chain has to outlive.
+impl Ledger {
+    pub fn trace(&mut self, outcome: Outcome) {
+        if self.chain.is_some() && !self.traces.since.contains(&outcome) {
+            self.traces.since.push(outcome);
+        }
+    }
+
+    pub fn trace_if(&mut self, traced: bool, outcome: Outcome) {
+        if traced {
+            self.trace(outcome);
+        }
+    }
+
+    fn chain_is_of(&self, drawn: Drawn) -> bool {
+        self.chain.is_some_and(|chain| chain.drawn == drawn)
+    }
+
+    pub fn trace_unacknowledged(&mut self, telegram: &Telegram, outcome: Outcome) {
+        let master = source(telegram);
+        let others = self.chain.is_some_and(|chain| chain.master != master);
+        self.trace(outcome);
+        self.trace_if(others, Outcome::RepeatAfterOthersUnacknowledged);
+    }
+
+    pub fn trace_taken(&mut self) {
+        let of_outputs = self.chain_is_of(Drawn::ReadOutputs);
+        self.trace_if(of_outputs, Outcome::RepeatReadOutputsTaken);
+    }
+
+    pub fn trace_inputs_brought(&mut self) {
+        let of_exchange = self.chain_is_of(Drawn::Exchange);
+        let of_inputs = self.chain_is_of(Drawn::ReadInputs);
+        self.trace_if(of_exchange, Outcome::RepeatExchangeBrought);
+        self.trace_if(of_inputs, Outcome::RepeatReadInputsBrought);
+    }
+
+    pub fn trace_new_diagnosis(&mut self) {
+        let of_diagnosis = self.chain_is_of(Drawn::SlaveDiag);
+        self.trace_if(of_diagnosis, Outcome::RepeatDiagNewer);
+    }
+}
+
+/// What the table of outcomes is told of a repeat, before it draws.
+impl Ledger {
+    fn note_repeat(&mut self, telegram: &Telegram, drawn: Drawn) {
+        self.note(match drawn {
+            Drawn::Nothing => Outcome::RepeatNothing,
+            Drawn::E5 => Outcome::RepeatE5,
+            Drawn::Status => Outcome::RepeatStatus,
+            Drawn::Rs => Outcome::RepeatRs,
+            Drawn::Exchange => Outcome::RepeatExchange,
+            Drawn::ReadInputs => Outcome::RepeatReadInputs,
+            Drawn::ReadOutputs => Outcome::RepeatReadOutputs,
+            Drawn::GetCfg => Outcome::RepeatGetCfg,
+            Drawn::SlaveDiag => Outcome::RepeatDiag,
+        });
+        self.note_octets_that_differ(telegram);
+        self.note_watchdog(telegram);
+        self.note_service_again(telegram, drawn);
+        if self.clear_noted {
+            self.note(match drawn {
+                Drawn::Nothing => Outcome::RepeatLetsClearGo,
+                _ => Outcome::RepeatKeepsClearNoted,
+            });
+        }
+        let since = std::mem::take(&mut self.traces.since);
+        since.into_iter().for_each(|outcome| self.note(outcome));
+        self.trace(Outcome::RepeatOfRepeat);
+    }
+
+    fn note_octets_that_differ(&mut self, telegram: &Telegram) {
+        let Some((earlier, _)) = self.traces.request.clone() else {
+            return;
+        };
+        let functions = [&earlier, telegram].map(|of| of.control & 0x0F);
+        self.note_if(earlier.form != telegram.form, Outcome::RepeatOtherForm);
+        self.note_if(functions[0] != functions[1], Outcome::RepeatOtherFunction);
+        match (earlier.extended(), telegram.extended()) {
+            (Some(before), Some(now)) => {
+                self.note_if(before.dsap != now.dsap, Outcome::RepeatOtherDsap);
+                self.note_if(before.ssap != now.ssap, Outcome::RepeatOtherSsap);
+                self.note_if(before.data != now.data, Outcome::RepeatOtherData);
+            }
+            (None, None) => {
+                let other_data = earlier.data != telegram.data;
+                self.note_if(other_data, Outcome::RepeatOtherData);
+            }
+            (None, Some(_)) => self.note(Outcome::RepeatExtended),
+            (Some(_), None) => self.note(Outcome::RepeatNotExtended),
+        }
+    }
+
+    /// Told only where ticks were counted, so that a refill can be seen.
+    fn note_watchdog(&mut self, telegram: &Telegram) {
+        let counted = self.traces.since.contains(&Outcome::RepeatAfterTick);
+        if counted && self.watchdog.is_some() {
+            self.note(match self.is_owner(telegram) {
+                true => Outcome::RepeatRefills,
+                false => Outcome::RepeatRefillsNot,
+            });
+        }
+    }
+
+    fn note_service_again(&mut self, telegram: &Telegram, drawn: Drawn) {
+        let outside = self.phase != Phase::DataExch;
+        let owner = self.is_owner(telegram);
+        match drawn {
+            Drawn::E5 => self.note_acknowledged_again(telegram, owner),
+            Drawn::Rs => self.note_rs_again(),
+            Drawn::Exchange if outside => self.note(Outcome::RepeatExchangeOutside),
+            Drawn::Exchange => self.note_exchange_again(telegram),
+            Drawn::ReadInputs => self.note_if(outside, Outcome::RepeatReadInputsOutside),
+            Drawn::ReadOutputs => self.note_if(outside, Outcome::RepeatReadOutputsOutside),
+            Drawn::SlaveDiag => {
+                let would_clear = owner && self.diag_flag && !self.flag(FLAG_STAT_DIAG);
+                self.note_if(would_clear, Outcome::RepeatDiagKeepsFlag);
+            }
+            Drawn::Nothing | Drawn::Status | Drawn::GetCfg => {}
+        }
+    }
+
+    fn note_acknowledged_again(&mut self, telegram: &Telegram, owner: bool) {
+        let sets = [&self.parameters.shown, &self.configuration.shown];
+        let open = sets.map(Option::is_some).contains(&true);
+        let other_data = telegram
+            .extended()
+            .is_some_and(|now| sets.iter().all(|set| set.as_deref() != Some(now.data)));
+        self.note_if(!owner, Outcome::RepeatE5NotOwner);
+        self.note_if(open && other_data, Outcome::RepeatE5SetStays);
+        self.note_if(!open, Outcome::RepeatE5Judged);
+    }
+
+    fn note_rs_again(&mut self) {
+        let earlier = self.traces.request.as_ref();
+        let was_outside = earlier.is_some_and(|(_, phase)| *phase != Phase::DataExch);
+        let now_inside = self.phase == Phase::DataExch;
+        self.note_if(was_outside && now_inside, Outcome::RepeatRsInExchange);
+    }
+
+    /// Where a new Data_Exchange would bring inputs, publish or hold back.
+    fn note_exchange_again(&mut self, telegram: &Telegram) {
+        let inputs_wait = self.inputs.next_is_new && !self.freeze.on;
+        let not_taken = self.outputs.news == News::FromMaster;
+        self.note(match self.diag_flag {
+            true => Outcome::RepeatExchangeDiagFlag,
+            false => Outcome::RepeatExchangePlain,
+        });
+        self.note_if(inputs_wait, Outcome::RepeatExchangeNewInputs);
+        self.note(match (self.sync.on, self.holds_back(), not_taken) {
+            (true, true, _) => Outcome::RepeatExchangeHeldBack,
+            (true, false, _) => Outcome::RepeatExchangePublished,
+            (false, _, true) => Outcome::RepeatExchangeNotTaken,
+            (false, _, false) => Outcome::RepeatExchangeTaken,
+        });
+        let could_be_accepted = telegram.extended().is_none()
+            && telegram.form != Form::Sd1
+            && telegram.data.len() == self.values.outputs as usize;
+        if could_be_accepted {
+            self.note_other_outputs(telegram);
+        }
+    }
+
+    fn note_other_outputs(&mut self, telegram: &Telegram) {
+        match &self.outputs.held_back {
+            Some(outputs) if *outputs != telegram.data => {
+                self.note(Outcome::RepeatHeldBackOtherOutputs)
+            }
+            None if self.outputs.next != telegram.data && self.outputs.held != telegram.data => {
+                self.note(Outcome::RepeatOtherOutputs)
+            }
+            _ => {}
+        }
+    }
+}
+
+/// What the table of outcomes is told of a request that is no repeat, before it is served.
+impl Ledger {
+    fn note_new_request(&mut self, telegram: &Telegram) {
+        let (master, bit) = (source(telegram), frame_count(telegram));
+        self.note_after_an_end(telegram);
+        match (self.chain, has_frame_count(telegram)) {
+            (Some(chain), true) if chain.master == master => self.note(Outcome::CountToggled),
+            (Some(chain), true) => {
+                self.note_if(chain.frame_count == bit, Outcome::CountOtherMasterSameBit);
+                self.end_chain(Outcome::AgainAfterOthersCounted);
+            }
+            (Some(chain), false) if chain.master == master => {
+                self.note_if(chain.frame_count == bit, Outcome::CountNotValidSameBit);
+                self.end_chain(Outcome::AgainAfterNotValid);
+            }
+            (Some(_), false) => self.end_chain(Outcome::AgainAfterOthersNotValid),
+            (None, true) => self.note(Outcome::CountBegins),
+            (None, false) => self.note(Outcome::CountNotValid),
+        }
+        self.traces.since.clear();
+        self.traces.request = Some((telegram.clone(), self.phase));
+    }
+
+    fn note_after_an_end(&mut self, telegram: &Telegram) {
+        if let Some((master, bit, outcome)) = self.traces.ended {
+            let same = source(telegram) == master && frame_count(telegram) == bit;
+            self.note_if(same && has_frame_count(telegram), outcome);
+        }
+    }
+
+    /// Remembered until the next end: only a request that would have been a repeat is told.
+    fn end_chain(&mut self, outcome: Outcome) {
+        self.traces.ended = self
+            .chain
+            .map(|chain| (chain.master, chain.frame_count, outcome));
+    }
+}
