@@ -3,6 +3,7 @@ use Prim.Native.Nat.{ℕ}
 use lib.Count.{trailingZeros}
 use Rattle.telegram.proofs.Computing.{computing as reading}
 use Rattle.rules.specs.Phases.{waitPrm, waitCfg, dataExch}
+use Rattle.state.specs.Number.{drawnNumbered}
 use Rattle.rules.specs.Requests.{refilled, serviceOf}
 use Rattle.rules.specs.Services.{parametrized, setPrm, chkCfg, dataExchange, slaveDiag, globalControl}
 use Rattle.rules.specs.Diagnosis.{headerOf, diagnosed, delaying}
@@ -13,5 +14,5 @@ use Rattle.ledger.specs.Bus.{answered, heard, paused, afterSend, elapsed
 use Rattle.ledger.specs.User.{takeOutputs, readOctet, writeOctet, handOver, newDiagnosis, judgeParameters, judgeConfiguration, acknowledgeEvents, leaveMaster}
 
 unfoldable pub computing : ℕ
-unfolding heard paused afterSend elapsed answered afterReply settle takeOutputs readOctet writeOctet handOver newDiagnosis judgeParameters judgeConfiguration acknowledgeEvents leaveMaster headerOf diagnosed delaying ticked waitPrm waitCfg dataExch refilled serviceOf parametrized setPrm chkCfg dataExchange slaveDiag globalControl judgedParameters judgedConfiguration reading trailingZeros
+unfolding heard paused afterSend elapsed answered afterReply settle takeOutputs readOctet writeOctet handOver newDiagnosis judgeParameters judgeConfiguration acknowledgeEvents leaveMaster headerOf diagnosed delaying ticked waitPrm waitCfg dataExch refilled serviceOf parametrized setPrm chkCfg dataExchange slaveDiag globalControl judgedParameters judgedConfiguration reading trailingZeros drawnNumbered
 computing = 0

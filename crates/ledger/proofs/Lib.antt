@@ -23,3 +23,4 @@ mod Computing
 pub mod Bench
 mod Cases
 mod ModeCases
+mod RetryCases

@@ -219,7 +219,13 @@ fn repeat(mem: &mut [u8], i: Incoming, r: Request)
     let control = refilled(setup, load::control(&mem[..]), r);
     let chain = control.chain;
     let outputs = load::outputs(&mem[..]);
-    let reply = draw(chain.drawn(), setup, control, outputs.set.held(), master_of(r));
+    let reply = draw(
+        chain.drawn(),
+        setup,
+        control,
+        outputs.set.held(),
+        master_of(r),
+    );
     save_incoming(i, mem);
     save_ticks(control.watchdog.remaining, mem);
     save_reply(reply, mem);
