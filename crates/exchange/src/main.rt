@@ -25,7 +25,7 @@ fn set_up(memory: &mut [u8]) {
     let prm = b"\x68\x0C\x0C\x68\x85\x82\x5D\x3D\x3E\x88\x01\x0A\x0B\x80\xB3\x00\xB0\x16";
     take_turn(memory, prm, 0);
     calls::judge_parameters(memory, 1);
-    let cfg = b"\x68\x06\x06\x68\x85\x82\x5D\x3E\x3E\x31\x11\x16";
+    let cfg = b"\x68\x06\x06\x68\x85\x82\x7D\x3E\x3E\x31\x31\x16";
     take_turn(memory, cfg, 0);
     calls::judge_configuration(memory, 1);
 }
@@ -54,10 +54,10 @@ fn print_seen(memory: &mut [u8]) {
     }
 }
 
-// Two Data_Exchange telegrams with count Ticks after each, on both memories.
+// Two Data_Exchange telegrams with count Ticks after each, on both memories. The frame count bit alternates, so that none is a repeat.
 fn exchange(count: usize) {
     let first = b"\x68\x04\x04\x68\x05\x02\x5D\x7A\xDE\x16";
-    let second = b"\x68\x04\x04\x68\x05\x02\x5D\x7B\xDF\x16";
+    let second = b"\x68\x04\x04\x68\x05\x02\x7D\x7B\xFF\x16";
     let mut packed = [0u8; 1536];
     set_up(&mut packed);
     take_turn(&mut packed, first, count);

@@ -4,6 +4,7 @@ use buffers::events::Events;
 use buffers::quad::Quad;
 use buffers::triple::Triple;
 use libc::STDOUT_FILENO;
+use state::chain::Chain;
 use state::control::Control;
 use state::control::Diagnosis;
 use state::control::Flags;
@@ -63,6 +64,7 @@ fn most_control() -> Control {
             sync_allowed: true,
             freeze_allowed: true,
         },
+        chain: Chain::new(Chain::NO_MASTER, true, Drawn::Diagnosis),
     }
 }
 
@@ -205,7 +207,7 @@ fn changed(at: usize, octet: u8) {
 }
 
 // The last code of each, and one past it: the place of the reply, the roles of the outputs, the input set, the modes, the marks of
-// the outputs.
+// the outputs, what the chain's request drew and its master.
 fn codes() {
     changed(19, 3);
     changed(19, 4);
@@ -217,12 +219,14 @@ fn codes() {
     changed(27, 16);
     changed(29, 7);
     changed(29, 8);
+    changed(54, 17);
+    changed(54, 18);
+    changed(55, 127);
+    changed(55, 128);
 }
 
 // The octets that are not used, and one behind the state.
 fn unused() {
-    changed(54, 1);
-    changed(55, 1);
     changed(62, 1);
     changed(63, 1);
     changed(64, 1);
