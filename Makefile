@@ -20,7 +20,7 @@ LISTS ?= tests/vectors
 OUT := target/c
 
 # The base, document 01, is 1.0; with request n of document 02 it becomes 1.n.
-VERSION := 1.3
+VERSION := 1.4
 PREFIX ?= /usr/local
 
 CC := gcc

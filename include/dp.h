@@ -26,6 +26,11 @@
  * the newest that were handed over. The master's clear publishes zeros at once and empties what is held back. Both
  * modes end when the exchange of data does, and what is then held back is never published.
  *
+ * Retries. A master that missed a reply sends its request again, with the same frame count bit (FC bit 5, which counts
+ * where bit 4 is set). The station then draws the reply again, formed anew where it has data, and changes nothing but
+ * the owner's watchdog: parameters, configuration and outputs come to the vat program once, with one event. A request
+ * of another master, or one with FC bit 4 clear, ends that; Global_Control does not.
+ *
  * The window. A vat program that was written for the chip (SPC3) reads and writes registers by their addresses.
  * dp_window_read and dp_window_write give it those from 000H to 015H, in the order of an Intel or of a Motorola
  * processor. Behind a cell that does something stands one of the other calls (enum dp_cell), and a program may use
