@@ -40,7 +40,7 @@ use Rattle.steps.specs.User.{absent, kindAt, takeOutputs, readOctet, writeOctet
 use Rattle.steps.specs.Step.{step}
 use Rattle.agreement.proofs.Steady.{Allows, ReplySteady, Related}
 use Rattle.state.proofs.Choice.{by-test, or-second, or-either}
-use Rattle.rules.proofs.Served.{Publishes, Quiet, clear-quiet, clear-noted-quiet, ticked-quiet, parameters-quiet, configuration-quiet, isOutputs, mayRead}
+use Rattle.rules.proofs.Served.{Publishes, Quiet, clear-quiet, clear-noted-quiet, ticked-quiet, parameters-quiet, configuration-quiet, isOutputs, mayDrawOutputs}
 use Rattle.agreement.proofs.OutcomeCarried.{Spared}
 use Rattle.agreement.proofs.SettleAgrees.{idle-spared, after-reply-keeps}
 use Rattle.agreement.proofs.UserCallsAgree.{parameters-spared, configuration-spared}
@@ -59,7 +59,7 @@ quiet-allows {g} {c} {o} r q f w h = ⊎-elim inside linked (or-either (inExchan
     after = isOutputs (drawnIn (o .control .chain))
 
     -- DATA_EXCH stays
-    inside : inExchange c ≡ true → mayRead (o .control) ≡ true
+    inside : inExchange c ≡ true → mayDrawOutputs (o .control) ≡ true
     inside e = go (inExchange (o .control)) refl
       where
         go : (t : Bool) → inExchange (o .control) ≡ t → t || after ≡ true
@@ -67,7 +67,7 @@ quiet-allows {g} {c} {o} r q f w h = ⊎-elim inside linked (or-either (inExchan
         go false l = absurd (subst (Publishes (⊥ × (0 ≡ g .«output_len»)) ⊥ (Spared r)) (q .leaves e l) (q .outputs-come) w h)
 
     -- and so does the chain
-    linked : isOutputs (drawnIn (c .chain)) ≡ true → mayRead (o .control) ≡ true
+    linked : isOutputs (drawnIn (c .chain)) ≡ true → mayDrawOutputs (o .control) ≡ true
     linked e =
         or-second (inExchange (o .control)) after
         (⊎-elim (λ s. ap (λ (x : Chain). isOutputs (drawnIn x)) s ∙ e) (λ x. absurd (x .0)) (q .chain-comes))

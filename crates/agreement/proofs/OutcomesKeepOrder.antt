@@ -16,7 +16,7 @@ use Rattle.rules.specs.declared.outcome.SetDeed.{SetDeed}
 use Rattle.rules.specs.declared.outcome.SetDeed.the-variants as set-deed
 use Rattle.rules.specs.declared.outcome.Outcome.{Outcome}
 use Rattle.rules.specs.Phases.{waitPrm}
-use Rattle.rules.proofs.Alike.{Alike, may-read-same}
+use Rattle.rules.proofs.Alike.{Alike, may-draw-same}
 use Rattle.rules.proofs.Headed.{To}
 use Rattle.rules.proofs.Served.{Receives, Judges, Served}
 use Rattle.ledger.specs.Lists.{some, Sets, noSets}
@@ -34,8 +34,8 @@ module _ {g : Setup} {p q : Sets} where
   -- another control part
   pub kept : {c d : Control} → Alike c d → InOrder g c p q → InOrder g d p q
   kept s h = record {
-    parameters-closed = λ e. h .parameters-closed (sym (may-read-same s) ∙ e);
-    configuration-closed = λ e. h .configuration-closed (sym (may-read-same s) ∙ e);
+    parameters-closed = λ e. h .parameters-closed (sym (may-draw-same s) ∙ e);
+    configuration-closed = λ e. h .configuration-closed (sym (may-draw-same s) ∙ e);
     unjudged = λ e. s .good-same ∙ h .unjudged e;
     parameters-fit = h .parameters-fit;
     configuration-fit = h .configuration-fit;
@@ -78,8 +78,8 @@ stays-unjudged set-deed.Drop x ds w f e = no-true e
 -- what comes of a telegram
 pub served-order : {g : Setup} {c : Control} {withheld : Bool} {p q : Sets} {r : Request} {o : Outcome} (ds : List ℕ) → r .count ≡ length ds → InOrder g c p q → Served g c withheld r o → Orders g p q ds o
 served-order {g} {c} {withheld} {p} {q} {r} {o} ds counted h v = record {
-  parameters-closed = λ e. let w = v .in-exchange e in ap (λ (d : SetDeed). onSets d p ds .shown) (w .1) ∙ h .parameters-closed (w .0);
-  configuration-closed = λ e. let w = v .in-exchange e in ap (λ (d : SetDeed). onSets d q ds .shown) (w .2) ∙ h .configuration-closed (w .0);
+  parameters-closed = λ e. let w = v .reads-before e in ap (λ (d : SetDeed). onSets d p ds .shown) (w .1) ∙ h .parameters-closed (w .0);
+  configuration-closed = λ e. let w = v .reads-before e in ap (λ (d : SetDeed). onSets d q ds .shown) (w .2) ∙ h .configuration-closed (w .0);
   unjudged = stays-unjudged (o .parameters) p ds (v .judges) (h .unjudged);
   parameters-fit = sets-fit (To r 61) 7 (g .«parameter_len») (o .parameters) p ds (rw (sym counted) (v .lawful .parameters-come)) (h .parameters-fit);
   configuration-fit = sets-fit (To r 62) 1 (g .«configuration_len») (o .configuration) q ds (rw (sym counted) (v .lawful .configuration-come)) (h .configuration-fit);

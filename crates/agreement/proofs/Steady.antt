@@ -12,7 +12,7 @@ use Rattle.state.specs.declared.state.Drawn.the-variants as drawn
 use Rattle.state.specs.declared.state.Reply.{Reply}
 use Rattle.state.specs.declared.state.State.{State}
 use Rattle.rules.specs.Diagnosis.{delayed}
-use Rattle.rules.proofs.MayRead.{mayRead}
+use Rattle.rules.proofs.MayDrawOutputs.{mayDrawOutputs}
 use Rattle.ledger.specs.Lists.{some, Sets}
 use Rattle.ledger.specs.Ledger.{Ledger, begun, busy, diagnosisLeaves}
 use Rattle.agreement.proofs.Relation.{Agrees}
@@ -30,8 +30,8 @@ CountIn s n = (6 ≤ n) × (n ≤ s .«diagnosis_len»)
 pub record InOrder (g : Setup) (c : Control) (p q : Sets) : Type 0 where
   -- where the held outputs may be drawn, in DATA_EXCH or by a repeat, no set is open: only a request opens one, and it replaces or ends the
   -- chain
-  pub parameters-closed : mayRead c ≡ true → p .shown ≡ []
-  pub configuration-closed : mayRead c ≡ true → q .shown ≡ []
+  pub parameters-closed : mayDrawOutputs c ≡ true → p .shown ≡ []
+  pub configuration-closed : mayDrawOutputs c ≡ true → q .shown ≡ []
   -- while a parameter set is open none is judged good
   pub unjudged : some (p .shown) ≡ true → c .flags .«parameters_good» ≡ false
   pub parameters-fit : SetsFit (g .«parameter_len») p
@@ -51,7 +51,7 @@ pub record Steady (l : Ledger) : Type 0 where
 
 -- with this control part the reply may be unfinished: one of the held outputs only where they may be drawn
 abbrev pub Allows : Control → Reply → Type 0
-Allows c r = r .drawn ≡ drawn.Outputs → left (r .sender) ≡ true → mayRead c ≡ true
+Allows c r = r .drawn ≡ drawn.Outputs → left (r .sender) ≡ true → mayDrawOutputs c ≡ true
 
 abbrev pub ReplySteady : State → Type 0
 ReplySteady s = Allows (s .control) (s .reply)

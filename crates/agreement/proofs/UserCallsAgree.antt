@@ -40,7 +40,7 @@ use Rattle.steps.specs.Step.{step}
 use Rattle.agreement.proofs.Relation.{SetsAgree, Agrees, Matches}
 use Rattle.agreement.proofs.Steady.{Related}
 use Rattle.agreement.proofs.SameLine.{busy-agrees, leaves-agrees, open-agrees}
-use Rattle.rules.proofs.MayRead.{mayRead}
+use Rattle.rules.proofs.MayDrawOutputs.{mayDrawOutputs}
 use Rattle.rules.proofs.Served.{clear-quiet, parameters-quiet, configuration-quiet}
 use Rattle.agreement.proofs.OutcomeCarried.{Spared, quiet-agrees}
 use Rattle.agreement.proofs.OnePartChanges.{roles-changed, control-changed, diagnosis-changed}
@@ -142,10 +142,10 @@ module _ {s : State} {m : List ℕ} {l : Ledger} (a : Agrees s m l) where
 
 module _ {s : State} {m : List ℕ} {l : Ledger} (r : Related s m l) where
   -- a set is open only where the held outputs may not be drawn, so that no reply of them is unfinished
-  open-spared : (x : station-sets.Sets) (y : lists.Sets) (base : ℕ → ℕ) → SetsAgree base m x y → (mayRead (l .control) ≡ true → y .shown ≡ [])
+  open-spared : (x : station-sets.Sets) (y : lists.Sets) (base : ℕ → ℕ) → SetsAgree base m x y → (mayDrawOutputs (l .control) ≡ true → y .shown ≡ [])
       → isOpen x ≡ true → Spared (s .reply)
   open-spared x y base h closed e w k =
-      no-true (sym (ap some (closed (sym (ap mayRead (r .agrees .control)) ∙ r .reply-steady w k))) ∙ sym (open-agrees h) ∙ e)
+      no-true (sym (ap some (closed (sym (ap mayDrawOutputs (r .agrees .control)) ∙ r .reply-steady w k))) ∙ sym (open-agrees h) ∙ e)
 
   pub parameters-spared : isOpen (s .parameters) ≡ true → Spared (s .reply)
   parameters-spared =

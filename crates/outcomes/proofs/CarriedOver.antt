@@ -13,7 +13,7 @@ use Rattle.state.specs.declared.state.Sets.{Sets}
 use Rattle.state.specs.declared.state.State.{State}
 use Rattle.state.specs.Layout.{stateLength, outputRow}
 use Rattle.state.specs.Memory.{kept, Holds, Changes}
-use Rattle.state.specs.With.{withControlBesideChain, withOutputs, withInputs, withParameters, withConfiguration}
+use Rattle.state.specs.With.{withControlButChain, withOutputs, withInputs, withParameters, withConfiguration}
 use Rattle.state.proofs.Damage.{fronted}
 use Rattle.state.proofs.Places.{inside}
 use Rattle.state.proofs.Written.{again, onto}
@@ -52,7 +52,7 @@ module _ (m : List ℕ) (s : State) (o : Outcome) (count : ℕ) (h : Holds m s) 
       → ((t : State) → t .parameters ≡ parameters → n₂ ≡ kept t n₂ → n₃ ≡ kept (withParameters t (onSets (o .parameters) parameters count)) n₂)
       → ((t : State) → t .configuration ≡ configuration → n₃ ≡ kept t n₃
       → n₄ ≡ kept (withConfiguration t (onSets (o .configuration) configuration count)) n₃)
-      → Changes n₄ n₅ (λ t. withControlBesideChain t (o .control)) → n₅ ≡ packedAfter (carried s m (onChain o (s .control .chain)) count)
+      → Changes n₄ n₅ (λ t. withControlButChain t (o .control)) → n₅ ≡ packedAfter (carried s m (onChain o (s .control .chain)) count)
   unfolding carried
   carried-over outputs inputs parameters configuration eo ei ep ec n₀ n₁ n₂ n₃ n₄ n₅ e p₁ p₂ p₃ p₄ p₅ =
       let s₁ : State = withOutputs s (onOutputs (o .outputs) outputs) in
@@ -64,7 +64,7 @@ module _ (m : List ℕ) (s : State) (o : Outcome) (count : ℕ) (h : Holds m s) 
       let e₂ : n₂ ≡ kept s₂ n₀ = onto n₀ n₁ n₂ s₁ s₂ e₁ (p₂ s₁ (sym ei) (again n₀ n₁ s₁ e₁)) in
       let e₃ : n₃ ≡ kept s₃ n₀ = onto n₀ n₂ n₃ s₂ s₃ e₂ (p₃ s₂ (sym ep) (again n₀ n₂ s₂ e₂)) in
       let e₄ : n₄ ≡ kept s₄ n₀ = onto n₀ n₃ n₄ s₃ s₄ e₃ (p₄ s₃ (sym ec) (again n₀ n₃ s₃ e₃)) in
-      let e₅ : n₅ ≡ kept (withControlBesideChain s₄ (o .control)) n₀ = onto n₀ n₄ n₅ s₄ _ e₄ (p₅ s₄ (again n₀ n₄ s₄ e₄)) in
+      let e₅ : n₅ ≡ kept (withControlButChain s₄ (o .control)) n₀ = onto n₀ n₄ n₅ s₄ _ e₄ (p₅ s₄ (again n₀ n₄ s₄ e₄)) in
       e₅
       ∙ (λ i.
       kept

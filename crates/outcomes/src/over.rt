@@ -104,7 +104,7 @@ fn put_configuration(deed: SetDeed, sets: Sets, count: u8, mem: &mut [u8])
     }
 }
 
-// An outcome carried out: the buffers first, where the deed asks for it, then each part of the state. The chain, which telegrams alone
+// An outcome carried out: the buffers first, where the deed asks for it, then each part of the state. The chain, which requests alone
 // change, is left as it is.
 pub fn carry_over(mem: &mut [u8], o: Outcome, count: u8)
     requires { ⌜ Holds (now mem) (unpacked (now mem)) ⌝ }

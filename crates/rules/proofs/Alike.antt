@@ -9,7 +9,7 @@ use Rattle.state.proofs.Choice.{by-test}
 use Rattle.rules.specs.declared.request.Request.{Request}
 use Rattle.rules.specs.Control.{owns, exchanging, inExchange, withWatchdog}
 use Rattle.rules.specs.Requests.{masterOf, acts, toStation, refilled}
-use Rattle.rules.proofs.MayRead.{isOutputs, mayRead}
+use Rattle.rules.proofs.MayDrawOutputs.{isOutputs, mayDrawOutputs}
 
 pub record Alike (c d : Control) : Type 0 where
   pub phase-same : d .phase ≡ c .phase
@@ -25,8 +25,8 @@ pub exchange-same : {c d : Control} → Alike c d → inExchange d ≡ inExchang
 exchange-same s = ap exchanging (s .phase-same)
 
 -- the held outputs may be drawn with both, or with neither
-pub may-read-same : {c d : Control} → Alike c d → mayRead d ≡ mayRead c
-may-read-same s = λ i. exchanging (s .phase-same i) || isOutputs (drawnIn (s .chain-same i))
+pub may-draw-same : {c d : Control} → Alike c d → mayDrawOutputs d ≡ mayDrawOutputs c
+may-draw-same s = λ i. exchanging (s .phase-same i) || isOutputs (drawnIn (s .chain-same i))
 
 -- the watchdog refilled
 pub refilled-alike : (g : Setup) (c : Control) (r : Request) → Alike c (refilled g c r)

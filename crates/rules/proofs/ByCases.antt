@@ -40,7 +40,7 @@ use Rattle.rules.specs.Retries.{isRepeat, onChain, chainAfter, repeated}
 use Rattle.rules.specs.Services.{otherOwns, otherIdent, wantsWatchdog, badFactors, goodPrm, setPrm, goodCfg, chkCfg, exchanges, dataExchange, slaveDiag, controls, storing, globalControl, serve, outcomeBy}
 use Rattle.rules.specs.Line.{clearOn, clearNoted, counts, withRemaining, ticked}
 use Rattle.rules.specs.User.{changingSets, judgedParameters, judgedConfiguration}
-use Rattle.rules.proofs.MayRead.{isOutputs}
+use Rattle.rules.proofs.MayDrawOutputs.{isOutputs}
 use Rattle.rules.proofs.Headed.{Plain, To, Headed}
 use Rattle.rules.proofs.Alike.{Alike, alike, refilled-alike}
 

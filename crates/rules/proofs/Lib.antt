@@ -1,5 +1,5 @@
 pub mod Points
-pub mod MayRead
+pub mod MayDrawOutputs
 pub mod Alike
 pub mod Headed
 pub mod ByCases

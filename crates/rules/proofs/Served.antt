@@ -36,10 +36,10 @@ use Rattle.rules.specs.Services.{parametrized, goodPrm, goodCfg, serve, 
 use Rattle.rules.specs.Line.{clearOn, clearNoted, ticked}
 use Rattle.rules.specs.User.{changingSets, judgedParameters, judgedConfiguration}
 use Rattle.rules.proofs.Headed.{Plain, To, headed}
-pub use Rattle.rules.proofs.MayRead.{isOutputs, mayRead}
+pub use Rattle.rules.proofs.MayDrawOutputs.{isOutputs, mayDrawOutputs}
 pub use Rattle.rules.proofs.ByCases.{Publishes}
 use Rattle.rules.proofs.ByCases.{Akin, moving, clear-cases, noted-cases, ticked-cases, parameters-cases, configuration-cases, serve-cases}
-use Rattle.rules.proofs.Alike.{Alike, exchange-same, may-read-same, refilled-alike}
+use Rattle.rules.proofs.Alike.{Alike, exchange-same, may-draw-same, refilled-alike}
 use Rattle.rules.proofs.Unasked.{Silent, unasked-silent}
 
 -- ---- every outcome
@@ -164,21 +164,21 @@ Judges set-deed.Drop before after = Unit
 pub record ServedBy (reads : Control → Bool) (g : Setup) (c : Control) (withheld : Bool) (r : Request) (o : Outcome) : Type 0 where
   pub lawful : Lawful g c (r .count) (Plain r) (withheld ≡ true) Unit Unit (To r) o
   -- where they may be drawn after it they might before, and it changes no set
-  pub in-exchange : reads (o .control) ≡ true → (reads c ≡ true) × (o .parameters ≡ set-deed.Keep) × (o .configuration ≡ set-deed.Keep)
+  pub reads-before : reads (o .control) ≡ true → (reads c ≡ true) × (o .parameters ≡ set-deed.Keep) × (o .configuration ≡ set-deed.Keep)
   -- and only there it draws them
   pub draws-within : isOutputs (o .drawn) ≡ true → reads (o .control) ≡ true
   pub judges : Judges (o .parameters) (c .flags .«parameters_good») (o .control .flags .«parameters_good»)
 
 -- every telegram, repeats among them
 abbrev pub Served : Setup → Control → Bool → Request → Outcome → Type 0
-Served = ServedBy mayRead
+Served = ServedBy mayDrawOutputs
 
 -- a service, which draws them in DATA_EXCH alone
-abbrev Once : Setup → Control → Bool → Request → Outcome → Type 0
-Once = ServedBy inExchange
+abbrev ServedAnew : Setup → Control → Bool → Request → Outcome → Type 0
+ServedAnew = ServedBy inExchange
 
 -- the control part before may be one that is alike
-served-from : {g : Setup} {c d : Control} {withheld : Bool} {r : Request} {o : Outcome} → Alike c d → Once g d withheld r o → Once g c withheld r o
+served-from : {g : Setup} {c d : Control} {withheld : Bool} {r : Request} {o : Outcome} → Alike c d → ServedAnew g d withheld r o → ServedAnew g c withheld r o
 served-from s v = record {
   lawful = record {
     counts-stay = v .lawful .counts-stay ∙ s .diagnosis-same;
@@ -189,23 +189,23 @@ served-from s v = record {
     leaves = λ e. v .lawful .leaves (exchange-same s ∙ e);
     chain-comes = ⊎-elim (λ e. inl (e ∙ s .chain-same)) (λ x. inr x) (v .lawful .chain-comes);
   };
-  in-exchange = λ e. let w = v .in-exchange e in (sym (exchange-same s) ∙ w .0, w .1, w .2);
+  reads-before = λ e. let w = v .reads-before e in (sym (exchange-same s) ∙ w .0, w .1, w .2);
   draws-within = v .draws-within;
   judges = rw (sym (s .good-same)) (v .judges);
 }
 
 module _ (g : Setup) (c : Control) (withheld : Bool) (r : Request) where
   -- nothing but a reply
-  replies : (k : Control) (d : Drawn) → Akin c k → (isOutputs d ≡ true → inExchange k ≡ true) → Once g c withheld r (drawing k d)
+  replies : (k : Control) (d : Drawn) → Akin c k → (isOutputs d ≡ true → inExchange k ≡ true) → ServedAnew g c withheld r (drawing k d)
   replies k d s f =
       let a = s .alike-is in
-      record { lawful = draws a; in-exchange = λ e. (sym (exchange-same a) ∙ e, refl, refl); draws-within = f; judges = a .good-same }
+      record { lawful = draws a; reads-before = λ e. (sym (exchange-same a) ∙ e, refl, refl); draws-within = f; judges = a .good-same }
 
   -- WAIT_PRM
-  resets : (k : Control) (d : Drawn) → k .diagnosis ≡ c .diagnosis → k .chain ≡ c .chain → isOutputs d ≡ false → Once g c withheld r (enteringWaitPrm k d)
+  resets : (k : Control) (d : Drawn) → k .diagnosis ≡ c .diagnosis → k .chain ≡ c .chain → isOutputs d ≡ false → ServedAnew g c withheld r (enteringWaitPrm k d)
   unfolding waitPrm
   resets k d e h f =
-      record { lawful = enters k e h tt; in-exchange = λ x. no-true x; draws-within = λ x. no-true (sym f ∙ x); judges = tt }
+      record { lawful = enters k e h tt; reads-before = λ x. no-true x; draws-within = λ x. no-true (sym f ∙ x); judges = tt }
 
   -- zeros are published if DATA_EXCH is left
   zeros-come : (Given Held : Type 0) (t : Bool) → Publishes Given Held Unit (cond t outputs-deed.Zeros outputs-deed.Keep)
@@ -216,7 +216,7 @@ module _ (g : Setup) (c : Control) (withheld : Bool) (r : Request) where
   zeros-leave e = ap (λ (t : Bool). cond t outputs-deed.Zeros outputs-deed.Keep) e
 
   -- a good Set_Prm
-  prm-served : (opened : Bool) (p : Prm) → To r 61 → Within 7 (r .count) (g .«parameter_len») → Once g c withheld r (goodPrm c opened (masterOf r) p)
+  prm-served : (opened : Bool) (p : Prm) → To r 61 → Within 7 (r .count) (g .«parameter_len») → ServedAnew g c withheld r (goodPrm c opened (masterOf r) p)
   unfolding parametrized waitCfg
   prm-served opened p h w = record {
     lawful = record {
@@ -228,7 +228,7 @@ module _ (g : Setup) (c : Control) (withheld : Bool) (r : Request) where
       leaves = λ e _. zeros-leave e;
       chain-comes = inl refl;
     };
-    in-exchange = λ e. no-true e;
+    reads-before = λ e. no-true e;
     draws-within = λ e. no-true e;
     judges = refl;
   }
@@ -241,7 +241,7 @@ module _ (g : Setup) (c : Control) (withheld : Bool) (r : Request) where
       (inExchange c) (left c) c (λ _. (refl, refl, refl)) (λ _. (refl, refl, refl))
 
   -- a good Chk_Cfg
-  cfg-served : (opened : Bool) → To r 62 → Within 1 (r .count) (g .«configuration_len») → Once g c withheld r (goodCfg c opened)
+  cfg-served : (opened : Bool) → To r 62 → Within 1 (r .count) (g .«configuration_len») → ServedAnew g c withheld r (goodCfg c opened)
   unfolding waitCfg
   cfg-served opened h w = record {
     lawful = record {
@@ -253,14 +253,14 @@ module _ (g : Setup) (c : Control) (withheld : Bool) (r : Request) where
       leaves = λ e _. zeros-leave e;
       chain-comes = inl (waitCfg-same .2);
     };
-    in-exchange = λ e. no-true e;
+    reads-before = λ e. no-true e;
     draws-within = λ e. no-true e;
     judges = waitCfg-same .0;
   }
 
   -- something done to the outputs and the inputs: the phase and the sets stay
   moves-served : (k : Control) (m : Modes) (u : OutputsDeed) (v : InputsDeed) (x : Drawn) → Akin c k → isOutputs x ≡ false
-      → Publishes (Plain r × (r .count ≡ g .«output_len»)) (withheld ≡ true) Unit u → Once g c withheld r (moving k m u v x)
+      → Publishes (Plain r × (r .count ≡ g .«output_len»)) (withheld ≡ true) Unit u → ServedAnew g c withheld r (moving k m u v x)
   moves-served k m u v x s f p =
       let a = s .alike-is in
       record {
@@ -273,7 +273,7 @@ module _ (g : Setup) (c : Control) (withheld : Bool) (r : Request) where
           leaves = λ e h. no-true (sym h ∙ exchange-same a ∙ e);
           chain-comes = inl (a .chain-same);
         };
-        in-exchange = λ e. (sym (exchange-same a) ∙ e, refl, refl);
+        reads-before = λ e. (sym (exchange-same a) ∙ e, refl, refl);
         draws-within = λ e. no-true (sym f ∙ e);
         judges = a .good-same;
       }
@@ -283,10 +283,10 @@ module _ (g : Setup) (c : Control) (withheld : Bool) (r : Request) where
       brought inputs-deed.Bring = tt
 
 -- each service
-serve-served : (g : Setup) (c : Control) (b : Occupied) (r : Request) (octets : Data) → Once g c (b .outputs) r (serve (serviceOf g r) g c b r octets)
+serve-served : (g : Setup) (c : Control) (b : Occupied) (r : Request) (octets : Data) → ServedAnew g c (b .outputs) r (serve (serviceOf g r) g c b r octets)
 serve-served g c b r octets =
     let w = b .outputs in
-    serve-cases (Once g c w r) c (replies g c w r) (resets g c w r) g r b (prm-served g c w r (b .parameters)) (cfg-served g c w r (b .configuration))
+    serve-cases (ServedAnew g c w r) c (replies g c w r) (resets g c w r) g r b (prm-served g c w r (b .parameters)) (cfg-served g c w r (b .configuration))
     (λ k m u v x s f p _ _. moves-served g c w r k m u v x s f p) (serviceOf g r) octets (headed r g)
 
 -- and it leaves the chain as it is
@@ -297,14 +297,14 @@ serve-chain g c b r octets =
     (λ _ _. waitCfg-same g c (b .outputs) r .2) (λ _ _ _ _ _ s _ _ _ _. s .alike-is .chain-same) (serviceOf g r) octets (headed r g)
 
 -- the chain then
-module _ {g : Setup} {c : Control} {withheld : Bool} {r : Request} {o : Outcome} (v : Once g c withheld r o) (same : o .control .chain ≡ c .chain)
+module _ {g : Setup} {c : Control} {withheld : Bool} {r : Request} {o : Outcome} (v : ServedAnew g c withheld r o) (same : o .control .chain ≡ c .chain)
     (unasked : isRequest g r ≡ false → Silent o) where
   abbrev Stays : Type 0
-  Stays = (mayRead c ≡ true) × (o .parameters ≡ set-deed.Keep) × (o .configuration ≡ set-deed.Keep)
+  Stays = (mayDrawOutputs c ≡ true) × (o .parameters ≡ set-deed.Keep) × (o .configuration ≡ set-deed.Keep)
 
   -- in DATA_EXCH
   within : inExchange (o .control) ≡ true → Stays
-  within e = let w = v .in-exchange e in (or-first (inExchange c) (isOutputs (drawnIn (c .chain))) (w .0), w .1, w .2)
+  within e = let w = v .reads-before e in (or-first (inExchange c) (isOutputs (drawnIn (c .chain))) (w .0), w .1, w .2)
 
   -- a repeat may draw the held outputs if the request drew them
   by-request : (t : Bool) → isOutputs (drawnIn (cond t (chainOf (masterOf r) (fcbOf r) (o .drawn)) noChain)) ≡ true → Stays
@@ -334,7 +334,7 @@ module _ {g : Setup} {c : Control} {withheld : Bool} {r : Request} {o : Outcome}
       chain-comes =
           either (λ (h : Chain). (h ≡ c .chain) ⊎ (Unit × ChainIn h)) (isRequest g r) (inr (tt, chain-in (fcvOf r))) (inl same);
     };
-    in-exchange = λ e. ⊎-elim within by-chain (or-either (inExchange (o .control)) _ e);
+    reads-before = λ e. ⊎-elim within by-chain (or-either (inExchange (o .control)) _ e);
     draws-within = λ e. or-first (inExchange (o .control)) _ (v .draws-within e);
     judges = v .judges;
   }
@@ -345,7 +345,7 @@ repeated-served g c withheld r =
     let a = refilled-alike g c r in
     record {
       lawful = draws a;
-      in-exchange = λ e. (sym (may-read-same a) ∙ e, refl, refl);
+      reads-before = λ e. (sym (may-draw-same a) ∙ e, refl, refl);
       draws-within = λ e. or-second (inExchange (refilled g c r)) _ (ap (λ (h : Chain). isOutputs (drawnIn h)) (a .chain-same) ∙ e);
       judges = a .good-same;
     }

@@ -1,4 +1,5 @@
--- Retries (document 02, Req 04): which telegrams are requests, which of them repeat the request before, and what a repeat does.
+-- Retries (document 02, Req 04): which telegrams are requests, which of them repeat the request before, and what a repeat does. The type
+-- Request is any telegram's header; the word request in the comments here is the document's.
 use mathlib.Core.Bool.{Bool, cond, not, _&&_}
 use lib.Dec.{eqb}
 use Rattle.state.specs.declared.setup.Setup.{Setup}

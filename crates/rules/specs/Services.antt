@@ -205,7 +205,12 @@ serve GetCfg s c b r octets = drawing c drawn.Configuration
 serve ReadInputs s c b r octets = readInputs c
 serve ReadOutputs s c b r octets = readOutputs c
 
--- what comes of a telegram: a repeat draws again what the earlier request drew; any other refills the watchdog, and its service is served
+-- what comes of the service that a telegram asks for: it refills the watchdog, and the service is served
+abbrev pub servedBy : Setup → Control → Occupied → Request → Data → Outcome
+servedBy s c b r octets = serve (serviceOf s r) s (refilled s c r) b r octets
+
+-- what comes of a telegram: a repeat draws again what the earlier request drew; of any other the service is served, and a request goes into
+-- the chain
 abbrev pub outcomeBy : Setup → Control → Occupied → Request → Data → Outcome
 outcomeBy s c b r octets =
-    cond (isRepeat s c r) (repeated s c r) (chained s r (serve (serviceOf s r) s (refilled s c r) b r octets))
+    cond (isRepeat s c r) (repeated s c r) (chained s r (servedBy s c b r octets))

@@ -1,12 +1,12 @@
 -- Short lengths: the test of their word, and that they are lengths; and where the buffers of short and of any lengths end at most.
-use Prim.Native.Nat.{ℕ, zero, suc, _≤_}
+use Prim.Native.Nat.{ℕ, _≤_}
 use native.Mathlib.Omega.{arith}
 use mathlib.Core.Path.{_≡_, refl, sym, ap, _∙_}
-use mathlib.Core.Bool.{Bool, true, _&&_, and-false}
+use mathlib.Core.Bool.{Bool, true, _&&_}
 use mathlib.Core.List.{List, [], _∷_, _++_}
-use lib.Dec.{leb, eqb}
+use lib.Dec.{leb}
 use lib.ListN.{length, getD, take, drop, replicate}
-use borrow.Author.Tests.{le-leb, lt-leb, ne-eqb}
+use borrow.Author.Tests.{le-leb}
 use Rattle.octets.specs.Part.{part}
 use Rattle.ranges.specs.Octets.{atMost}
 use Rattle.state.specs.declared.setup.Setup.{Setup}

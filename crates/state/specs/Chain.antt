@@ -1,4 +1,4 @@
--- The chain of a master's requests (document 02, Req 04): the last one, which a repeat is told by.
+-- The chain of a master's requests (document 02, Req 04): the last one, with which the next is compared.
 use Prim.Native.Nat.{ℕ, _+_, _*_, _/_}
 use mathlib.Core.Bool.{Bool, false}
 use Rattle.state.specs.declared.chain.Chain.{Chain}

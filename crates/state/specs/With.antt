@@ -100,8 +100,8 @@ withStanding s c =
     (c .modes) (s .control .chain))
 
 -- with the control part but for the chain
-abbrev pub withControlBesideChain : State → Control → State
-withControlBesideChain s c =
+abbrev pub withControlButChain : State → Control → State
+withControlButChain s c =
     withControl s
     (controlOf (c .phase) (c .owner) (c .group) (c .stored) (c .watchdog) (c .flags) (c .events) (c .noted) (c .diagnosis) (c .modes) (s .control .chain))
 
@@ -119,7 +119,7 @@ withTicks s n =
     (controlOf (c .phase) (c .owner) (c .group) (c .stored) (record { reload = c .watchdog .reload; remaining = n }) (c .flags) (c .events) (c .noted)
     (c .diagnosis) (c .modes) (c .chain))
 
--- with the last request that a repeat is told by
+-- with another chain
 abbrev pub withChain : State → Chain → State
 withChain s x =
     let c = s .control in

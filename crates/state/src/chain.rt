@@ -1,5 +1,5 @@
-// The chain of a master's requests: the last one, which a repeat is told by. What it drew and its frame count bit are one octet, so that
-// the calls that leave the chain alone move two octets and decode nothing.
+// The chain of a master's requests: the last one, with which the next is compared. What it drew and its frame count bit are one octet, so
+// that loading the control part decodes nothing of it.
 use crate::image::bit;
 use crate::number::drawn_number;
 use crate::number::drawn_numbered;

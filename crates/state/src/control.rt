@@ -55,7 +55,7 @@ pub struct Control {
     pub noted: bool,
     pub diagnosis: Diagnosis,
     pub modes: Modes,
-    // the last request that a repeat is told by
+    // the last request, with which the next is compared
     pub chain: Chain,
 }
 

@@ -127,7 +127,7 @@ pub fn noted(mem: &[u8]) -> bool
     mem[3] / 4 % 2 == 1
 }
 
-// The last request that a repeat is told by.
+// The last request, with which the next is compared.
 pub fn chain(mem: &[u8]) -> Chain
     requires { ⌜ stateLength ≤ length (now mem) ⌝ }
     ensures { λ r. ⌜ r ≡ unpacked (now (mem .entry)) .control .chain ⌝ }

@@ -25,7 +25,7 @@ ghost use Prim.Native.Nat.{_≤_};
 ghost use lib.ListN.{length};
 ghost use Rattle.state.specs.Layout.{stateLength};
 ghost use Rattle.state.specs.Memory.{Changes};
-ghost use Rattle.state.specs.With.{withControlBesideChain, withStanding, withEventWord, withTicks, withChain, withOutputs, withInputs, withParameters, withConfiguration, withSwapped, withIncoming, withData, withSender, withOutline, withReply};
+ghost use Rattle.state.specs.With.{withControlButChain, withStanding, withEventWord, withTicks, withChain, withOutputs, withInputs, withParameters, withConfiguration, withSwapped, withIncoming, withData, withSender, withOutline, withReply};
 
 // The telegram that is coming: octets 30 to 41.
 pub fn save_incoming(i: Incoming, mem: &mut [u8])
@@ -118,7 +118,7 @@ pub fn save_ticks(ticks: u16, mem: &mut [u8])
     mem[43] = high(ticks);
 }
 
-// The last request that a repeat is told by: octets 54 and 55.
+// The last request, with which the next is compared: octets 54 and 55.
 pub fn save_chain(chain: Chain, mem: &mut [u8])
     requires { ⌜ stateLength ≤ length (now mem) ⌝ }
     ensures { λ _. ⌜ Changes (now (mem .entry)) (now (mem .exit)) (λ s. withChain s chain) ⌝ }
@@ -148,10 +148,10 @@ fn save_standing(control: Control, mem: &mut [u8])
     mem[57] = control.diagnosis.delayed_count;
 }
 
-// The control part but for the chain, which telegrams alone change: octets 0 to 5, 21, 26, 27, 42 to 45, 56 and 57.
+// The control part but for the chain, which requests alone change: octets 0 to 5, 21, 26, 27, 42 to 45, 56 and 57.
 pub fn save_control(control: Control, mem: &mut [u8])
     requires { ⌜ stateLength ≤ length (now mem) ⌝ }
-    ensures { λ _. ⌜ Changes (now (mem .entry)) (now (mem .exit)) (λ s. withControlBesideChain s control) ⌝ }
+    ensures { λ _. ⌜ Changes (now (mem .entry)) (now (mem .exit)) (λ s. withControlButChain s control) ⌝ }
 {
     save_standing(control, mem);
     save_events(control.events, mem);

@@ -24,7 +24,7 @@ use Rattle.state.specs.declared.state.Reply.{Reply}
 use Rattle.state.specs.declared.state.State.{State}
 use Rattle.state.specs.Chain.{drawnIn}
 use Rattle.state.specs.Memory.{kept, Changes}
-use Rattle.state.specs.With.{withControl, withControlBesideChain, withOutputs, withInputs, withIncoming, withReply, withEventWord, withTicks, withChain}
+use Rattle.state.specs.With.{withControl, withControlButChain, withOutputs, withInputs, withIncoming, withReply, withEventWord, withTicks, withChain}
 use Rattle.state.proofs.Choice.{either, and-left, and-right}
 use Rattle.state.proofs.Written.{again, onto, then}
 use Rattle.rules.specs.declared.outcome.OutputsDeed.{OutputsDeed}
@@ -51,7 +51,7 @@ use Rattle.steps.specs.Stepped.{packedAfter}
 use Rattle.steps.specs.Outcome.{occupied, onOutputs, onInputs, onState, onMemory, carried}
 use Rattle.steps.specs.Reading.{dataIn, outcomeOf, answered}
 use Rattle.steps.specs.Replies.{replyFor}
-use Rattle.station.specs.Completing.{served, isAgain, isDataExchange, isGoodExchange}
+use Rattle.station.specs.Completing.{served, isRepeatIn, isDataExchange, isGoodExchange}
 
 -- the service of a telegram that acts
 pub acting-service : (g : Setup) (r : Request) → acts g r ≡ true → functionService r ≡ serviceOf g r
@@ -62,11 +62,11 @@ acting-service g r e = λ j. cond (sym e j) (functionService r) Nothing
 
 module _ (s : State) (m : List ℕ) (r : Request) where
   -- a repeat draws what the earlier request drew
-  drawn-again : isAgain s r ≡ true → outcomeOf s m r ≡ drawing (refilled (s .setup) (s .control) r) (drawnIn (s .control .chain))
+  drawn-again : isRepeatIn s r ≡ true → outcomeOf s m r ≡ drawing (refilled (s .setup) (s .control) r) (drawnIn (s .control .chain))
   unfolding outcomeOf
   drawn-again e = λ j. cond (e j) (repeated (s .setup) (s .control) r) (chained (s .setup) r (served s m r))
 
-  module _ (e : isAgain s r ≡ false) where
+  module _ (e : isRepeatIn s r ≡ false) where
     -- of any other the service is served, and the chain goes on
     pub served-once : outcomeOf s m r ≡ onChain (served s m r) (chainAfter (s .setup) (s .control .chain) r (served s m r .drawn))
     unfolding outcomeOf
@@ -98,7 +98,7 @@ is-data-exchange ReadInputs e = no-true e
 is-data-exchange ReadOutputs e = no-true e
 
 -- such a telegram has the outcome of a good Data_Exchange
-exchange-is-good : (s : State) (m : List ℕ) (r : Request) → isGoodExchange s r ≡ true → isAgain s r ≡ false
+exchange-is-good : (s : State) (m : List ℕ) (r : Request) → isGoodExchange s r ≡ true → isRepeatIn s r ≡ false
     → outcomeOf s m r ≡ onChain (goodExchange (refilled (s .setup) (s .control) r)) (chainBy r drawn.Exchange)
 exchange-is-good s m r e new =
     let g = s .setup in
@@ -133,7 +133,7 @@ only-ticks s r e =
 -- ---- what comes of Slave_Diag
 
 -- the diagnosis is drawn, and nothing but the control part changes
-diagnosis-drawn : (s : State) (m : List ℕ) (r : Request) → serviceOf (s .setup) r ≡ SlaveDiag → isAgain s r ≡ false
+diagnosis-drawn : (s : State) (m : List ℕ) (r : Request) → serviceOf (s .setup) r ≡ SlaveDiag → isRepeatIn s r ≡ false
     → outcomeOf s m r ≡ onChain (drawing (slaveDiag (refilled (s .setup) (s .control) r) r .control) drawn.Diagnosis) (chainBy r drawn.Diagnosis)
 unfolding slaveDiag
 diagnosis-drawn s m r e new =
@@ -230,7 +230,7 @@ module _ (m : List ℕ) (s : State) (i : Incoming) (r : Request) (setup : Setup)
       (answered (withIncoming s i) m (onChain o (cond (sym acting j && not (wantsNone r)) (chainBy r (o .drawn)) (s .control .chain))) r))
 
   -- a good Data_Exchange: the telegram, the events, the ticks that remain, the chain, both sets and the reply
-  pub exchanged-over : m ≡ kept s m → isGoodExchange s r ≡ true → isAgain s r ≡ false → (c control : Control) (deed : OutputsDeed) (way : InputsDeed) (inputs brings : Triple)
+  pub exchanged-over : m ≡ kept s m → isGoodExchange s r ≡ true → isRepeatIn s r ≡ false → (c control : Control) (deed : OutputsDeed) (way : InputsDeed) (inputs brings : Triple)
       (events : Events) (h : Chain) (x : Reply) → c ≡ s .control → control ≡ refilled setup c r → deed ≡ exchangeOutputs (control .modes)
       → outputs ≡ onOutputs deed was → way ≡ exchangeInputs (control .modes) → inputs ≡ s .inputs → brings ≡ onInputs way inputs
       → events ≡ announced deed (control .events) → h ≡ chainBy r drawn.Exchange → Draws drawn.Exchange setup control held master x
@@ -271,10 +271,10 @@ module _ (m : List ℕ) (s : State) (i : Incoming) (r : Request) (setup : Setup)
       ∙ ap (λ (o : Outcome). packedAfter (answered (withIncoming s i) m o r)) (sym (exchange-is-good s m r good new))
 
   -- Slave_Diag: the telegram, the control part, the chain and the reply
-  pub diagnosed-over : m ≡ kept s m → serviceOf (s .setup) r ≡ SlaveDiag → isAgain s r ≡ false → (c control : Control) (o : Outcome) (h : Chain) (x : Reply)
+  pub diagnosed-over : m ≡ kept s m → serviceOf (s .setup) r ≡ SlaveDiag → isRepeatIn s r ≡ false → (c control : Control) (o : Outcome) (h : Chain) (x : Reply)
       → c ≡ s .control → control ≡ refilled setup c r → o ≡ slaveDiag control r → h ≡ chainBy r drawn.Diagnosis → outputs ≡ was
       → Draws drawn.Diagnosis setup (o .control) held master x → (n₁ n₂ n₃ n₄ : List ℕ) → Changes m n₁ (λ t. withIncoming t i)
-      → Changes n₁ n₂ (λ t. withControlBesideChain t (o .control)) → Changes n₂ n₃ (λ t. withChain t h) → Changes n₃ n₄ (λ t. withReply t x)
+      → Changes n₁ n₂ (λ t. withControlButChain t (o .control)) → Changes n₂ n₃ (λ t. withChain t h) → Changes n₃ n₄ (λ t. withReply t x)
       → n₄ ≡ packedAfter (answered (withIncoming s i) m (outcomeOf s m r) r)
   unfolding carried answered
   diagnosed-over front asks new c control o h x ec er eo eh same draws n₁ n₂ n₃ n₄ p₁ p₂ p₃ p₄ =
@@ -289,7 +289,7 @@ module _ (m : List ℕ) (s : State) (i : Incoming) (r : Request) (setup : Setup)
       ∙ ap (λ (y : Outcome). packedAfter (answered (withIncoming s i) m y r)) (sym (diagnosis-drawn s m r asks new))
 
   -- a repeat: the telegram, the ticks that remain and the reply
-  pub repeated-over : m ≡ kept s m → isAgain s r ≡ true → (c control : Control) (d : Drawn) (x : Reply) → c ≡ s .control → control ≡ refilled setup c r
+  pub repeated-over : m ≡ kept s m → isRepeatIn s r ≡ true → (c control : Control) (d : Drawn) (x : Reply) → c ≡ s .control → control ≡ refilled setup c r
       → d ≡ drawnIn (control .chain) → outputs ≡ was → Draws d setup control held master x → (n₁ n₂ n₃ : List ℕ) → Changes m n₁ (λ t. withIncoming t i)
       → Changes n₁ n₂ (λ t. withTicks t (control .watchdog .remaining)) → Changes n₂ n₃ (λ t. withReply t x)
       → n₃ ≡ packedAfter (answered (withIncoming s i) m (outcomeOf s m r) r)

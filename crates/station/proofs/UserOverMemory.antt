@@ -15,7 +15,7 @@ use Rattle.state.specs.declared.state.State.{State}
 use Rattle.state.specs.Answer.{Meets}
 use Rattle.state.specs.Memory.{kept}
 use Rattle.state.specs.Well.{within}
-use Rattle.state.specs.With.{withControl, withControlBesideChain, withOutputs}
+use Rattle.state.specs.With.{withControl, withControlButChain, withOutputs}
 use Rattle.rules.specs.declared.outcome.Outcome.{Outcome}
 use Rattle.rules.specs.Control.{withChain}
 use Rattle.rules.specs.Diagnosis.{delayed, diagnosed, delaying}
@@ -75,12 +75,12 @@ module _ (s : State) (m : List ℕ) where
           rw (in-range, sym (tested ∙ ap delayed same) ∙ none, sym leaving ∙ e)
 
       -- it waits while a Slave_Diag reply is unfinished
-      pub delays-diagnosis : leaves ≡ true → {new : Control} {n : List ℕ} → new ≡ delaying control count flags → n ≡ kept (withControlBesideChain s new) m
+      pub delays-diagnosis : leaves ≡ true → {new : Control} {n : List ℕ} → new ≡ delaying control count flags → n ≡ kept (withControlButChain s new) m
           → Meets (packed m (newDiagnosis s m count flags)) (Value 0) n
       unfolding delaying
       delays-diagnosis e f g =
           rw (given e)
-          (record { answers = refl; leaves = g ∙ (λ i. kept (withControlBesideChain s ((f ∙ (λ j. delaying (same j) count flags)) i)) m) })
+          (record { answers = refl; leaves = g ∙ (λ i. kept (withControlButChain s ((f ∙ (λ j. delaying (same j) count flags)) i)) m) })
 
       -- else it takes effect
       pub changes-diagnosis : leaves ≡ false → {new : Control} {n : List ℕ} → new ≡ diagnosed control count flags → n ≡ kept (diagnosisChanged s (withChain new (s .control .chain))) m

@@ -11,9 +11,9 @@ use Rattle.rules.specs.declared.request.Request.{Request}
 use Rattle.rules.specs.declared.request.Service.{Service}
 use Rattle.rules.specs.declared.request.Service.the-variants.{Nothing, Status, Reject, GlobalControl, DataExchange, SetPrm, ChkCfg, SlaveDiag, GetCfg, ReadInputs, ReadOutputs}
 use Rattle.rules.specs.declared.outcome.Outcome.{Outcome}
-use Rattle.rules.specs.Requests.{refilled, serviceOf}
+use Rattle.rules.specs.Requests.{serviceOf}
 use Rattle.rules.specs.Retries.{isRepeat, onChain, chainAfter}
-use Rattle.rules.specs.Services.{exchanges, serve}
+use Rattle.rules.specs.Services.{exchanges, servedBy}
 use Rattle.steps.specs.Stepped.{packedAfter}
 use Rattle.steps.specs.Outcome.{occupied}
 use Rattle.steps.specs.Reading.{dataIn, outcomeOf, answered}
@@ -24,17 +24,17 @@ completedBy m i r = packedAfter (answered (withIncoming (unpacked m) i) m (outco
 
 -- what comes of the service that a telegram asks for, whatever was asked before
 abbrev pub served : State → List ℕ → Request → Outcome
-served s m r = serve (serviceOf (s .setup) r) (s .setup) (refilled (s .setup) (s .control) r) (occupied s) r (dataIn s m)
+served s m r = servedBy (s .setup) (s .control) (occupied s) r (dataIn s m)
 
--- the memory after an outcome was carried out and its reply drawn, where the telegram acts and is no repeat: the chain goes on by r
+-- the memory after an outcome was carried out and its reply drawn, where the telegram acts and is no repeat: with the chain after it
 abbrev pub answeredBy : List ℕ → Incoming → Request → Outcome → List ℕ
 answeredBy m i r o =
     let s = unpacked m in
     packedAfter (answered (withIncoming s i) m (onChain o (chainAfter (s .setup) (s .control .chain) r (o .drawn))) r)
 
 -- it is a repeat
-abbrev pub isAgain : State → Request → Bool
-isAgain s r = isRepeat (s .setup) (s .control) r
+abbrev pub isRepeatIn : State → Request → Bool
+isRepeatIn s r = isRepeat (s .setup) (s .control) r
 
 -- the service is Data_Exchange
 abbrev pub isDataExchange : Service → Bool

@@ -1,6 +1,6 @@
 // The last octet of a telegram over the memory that holds the state, where nothing waits for the end of the line's business. A good
 // Data_Exchange, which nearly every telegram to the station is, a telegram that does not act, which is nearly every other one on the
-// line, Slave_Diag, which a master sends more often than the rest, and a repeat, which changes next to nothing, have ways of their own.
+// line, Slave_Diag, which a master sends more often than the rest, and a repeat, which changes the watchdog alone, have ways of their own.
 use crate::reading::prm_at;
 use crate::reading::request_by;
 use crate::replies::draw;
@@ -61,7 +61,7 @@ ghost use Rattle.rules.specs.Requests.{wantsNone, acts, serviceOf};
 ghost use Rattle.rules.specs.Retries.{chainBy};
 ghost use Rattle.steps.specs.Replies.{replyFor};
 ghost use Rattle.steps.specs.Reading.{requestBy, prmIn};
-ghost use Rattle.station.specs.Completing.{completedBy, served, answeredBy, isAgain, isDataExchange, isGoodExchange};
+ghost use Rattle.station.specs.Completing.{completedBy, served, answeredBy, isRepeatIn, isDataExchange, isGoodExchange};
 
 // The octets of Set_Prm in the parameters' fill buffer.
 fn prm_in(mem: &[u8]) -> Prm
@@ -95,7 +95,7 @@ fn served_in(mem: &[u8], r: Request, service: Service) -> Outcome
     serve(service, setup, control, occupied, r, octets)
 }
 
-// A later request is compared with this one, if it is a request.
+// If the telegram is a request, the next one is compared with it.
 fn keep_request(mem: &mut [u8], r: Request, drawn: Drawn)
     requires { ⌜ stateLength ≤ length (now mem) ⌝ }
     ensures { λ _. ⌜ Changes (now (mem .entry)) (now (mem .exit)) (λ s. withChain s (cond (not (wantsNone r)) (chainBy r drawn) (s .control .chain))) ⌝ }
@@ -171,7 +171,7 @@ fn exchange_reply(setup: Setup, control: Control, held: u8, master: u8) -> Reply
 
 // A good Data_Exchange: its data is published, or held back in sync.
 fn exchange(mem: &mut [u8], i: Incoming, r: Request)
-    requires { ⌜ (Holds (now mem) (unpacked (now mem))) × (isGoodExchange (unpacked (now mem)) r ≡ true) × (isAgain (unpacked (now mem)) r ≡ false) ⌝ }
+    requires { ⌜ (Holds (now mem) (unpacked (now mem))) × (isGoodExchange (unpacked (now mem)) r ≡ true) × (isRepeatIn (unpacked (now mem)) r ≡ false) ⌝ }
     ensures { λ _. ⌜ now (mem .exit) ≡ completedBy (now (mem .entry)) i r ⌝ }
 {
     let setup = load::setup(&mem[..]);
@@ -191,7 +191,7 @@ fn exchange(mem: &mut [u8], i: Incoming, r: Request)
 
 // Slave_Diag: of the station's own parts it changes the control part alone.
 fn diagnose(mem: &mut [u8], i: Incoming, r: Request)
-    requires { ⌜ (Holds (now mem) (unpacked (now mem))) × (serviceOf (unpacked (now mem) .setup) r ≡ SlaveDiag) × (isAgain (unpacked (now mem)) r ≡ false) ⌝ }
+    requires { ⌜ (Holds (now mem) (unpacked (now mem))) × (serviceOf (unpacked (now mem) .setup) r ≡ SlaveDiag) × (isRepeatIn (unpacked (now mem)) r ≡ false) ⌝ }
     ensures { λ _. ⌜ now (mem .exit) ≡ completedBy (now (mem .entry)) i r ⌝ }
 {
     let setup = load::setup(&mem[..]);
@@ -212,7 +212,7 @@ fn diagnose(mem: &mut [u8], i: Incoming, r: Request)
 
 // A repeat draws the reply again: of the station's own parts it changes the owner's watchdog alone.
 fn repeat(mem: &mut [u8], i: Incoming, r: Request)
-    requires { ⌜ (Holds (now mem) (unpacked (now mem))) × (isAgain (unpacked (now mem)) r ≡ true) ⌝ }
+    requires { ⌜ (Holds (now mem) (unpacked (now mem))) × (isRepeatIn (unpacked (now mem)) r ≡ true) ⌝ }
     ensures { λ _. ⌜ now (mem .exit) ≡ completedBy (now (mem .entry)) i r ⌝ }
 {
     let setup = load::setup(&mem[..]);
@@ -233,7 +233,7 @@ fn repeat(mem: &mut [u8], i: Incoming, r: Request)
 
 // A telegram that acts and is no repeat, by the service that it asks for.
 fn apply(mem: &mut [u8], i: Incoming, r: Request, service: Service)
-    requires { ⌜ (Holds (now mem) (unpacked (now mem))) × (service ≡ serviceOf (unpacked (now mem) .setup) r) × (acts (unpacked (now mem) .setup) r ≡ true) × (isAgain (unpacked (now mem)) r ≡ false) ⌝ }
+    requires { ⌜ (Holds (now mem) (unpacked (now mem))) × (service ≡ serviceOf (unpacked (now mem) .setup) r) × (acts (unpacked (now mem) .setup) r ≡ true) × (isRepeatIn (unpacked (now mem)) r ≡ false) ⌝ }
     ensures { λ _. ⌜ now (mem .exit) ≡ completedBy (now (mem .entry)) i r ⌝ }
 {
     if is_good_exchange(&mem[..], r, service) {

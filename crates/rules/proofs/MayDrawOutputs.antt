@@ -19,5 +19,5 @@ isOutputs Configuration = false
 isOutputs Diagnosis = false
 
 -- they may be, with this control part
-abbrev pub mayRead : Control → Bool
-mayRead c = inExchange c || isOutputs (drawnIn (c .chain))
+abbrev pub mayDrawOutputs : Control → Bool
+mayDrawOutputs c = inExchange c || isOutputs (drawnIn (c .chain))
