@@ -3,7 +3,7 @@
 use Prim.Native.Nat.{ℕ}
 use native.Mathlib.Omega.{arith}
 use mathlib.Core.Path.{_≡_, refl, sym, _∙_}
-use mathlib.Core.Bool.{Bool, true, false, not, _||_}
+use mathlib.Core.Bool.{Bool, true, false, _||_}
 use mathlib.Core.Logic.{_⊎_, inl, inr}
 use lib.Dec.{eqb}
 use borrow.Author.Tests.{eqb-true, ne-eqb, not-false}
@@ -20,7 +20,7 @@ use Rattle.rules.specs.declared.request.Service.the-variants.{Nothing, S
 use Rattle.rules.specs.declared.outcome.SetDeed.the-variants as set-deed
 use Rattle.rules.specs.declared.outcome.Outcome.{Outcome}
 use Rattle.rules.specs.Requests.{functionOf, wantsAcknowledgement, wantsNone, globalForm, acts, functionService, serviceOf}
-use Rattle.rules.specs.Retries.{isRequest}
+use Rattle.rules.specs.Retries.{asks, isRequest}
 use Rattle.rules.specs.Services.{controls, globalControl, serve}
 
 -- nothing, or Global_Control
@@ -63,7 +63,7 @@ module _ (g : Setup) (r : Request) where
   service-unasked : isRequest g r ≡ false → Unasked (serviceOf g r)
   unfolding serviceOf
   service-unasked e =
-      by-test Unasked (acts g r) _ _ (λ h. function-unasked (not-false (wantsNone r) (and-second (acts g r) (not (wantsNone r)) e h))) (λ _. tt)
+      by-test Unasked (acts g r) _ _ (λ h. function-unasked (not-false (wantsNone r) (and-second (acts g r) (asks r) e h))) (λ _. tt)
 
 -- so what asks for anything else is one
 pub request-asked : (g : Setup) (r : Request) → (Unasked (serviceOf g r) → ⊥) → isRequest g r ≡ true

@@ -13,9 +13,13 @@ use Rattle.rules.specs.Control.{bit, withChain}
 use Rattle.rules.specs.Phases.{drawing}
 use Rattle.rules.specs.Requests.{masterOf, wantsNone, acts, refilled}
 
+-- it asks for something: functions 4 and 6 do not
+abbrev pub asks : Request → Bool
+asks r = not (wantsNone r)
+
 -- every telegram that acts, but "Telegrams with function 4 or 6, so every Global_Control, are no requests here"
 abbrev pub isRequest : Setup → Request → Bool
-isRequest s r = acts s r && not (wantsNone r)
+isRequest s r = acts s r && asks r
 
 -- "FC bit 4 says that bit 5 counts" (frame count bit valid)
 abbrev pub fcvOf : Request → Bool
@@ -31,7 +35,7 @@ same a b = cond a b (not b)
 
 -- a request "with bit 4 set, the same SA (low 7 bits) and the same bit 5" as the last one
 abbrev pub repeats : Chain → Request → Bool
-repeats h r = not (wantsNone r) && fcvOf r && eqb (masterOf r) (h .master) && same (fcbOf r) (fcbIn h)
+repeats h r = asks r && fcvOf r && eqb (masterOf r) (h .master) && same (fcbOf r) (fcbIn h)
 
 -- the telegram acts, and is one
 abbrev pub isRepeat : Setup → Control → Request → Bool

@@ -9,14 +9,12 @@ use state::chain::Chain;
 use state::control::Control;
 use state::setup::Setup;
 use state::state::Drawn;
-ghost use mathlib.Core.Bool.{not};
 ghost use mathlib.Core.Path.{_≡_};
-ghost use Rattle.rules.specs.Requests.{wantsNone};
-ghost use Rattle.rules.specs.Retries.{same, repeats, chainBy, chained, repeated};
+ghost use Rattle.rules.specs.Retries.{asks, same, repeats, chainBy, chained, repeated};
 
-// Not functions 4 and 6, which are sent without a reply.
-pub fn wants_reply(r: Request) -> bool
-    ensures { λ b. ⌜ b ≡ not (wantsNone r) ⌝ }
+// It asks for something: functions 4 and 6 do not.
+pub fn asks(r: Request) -> bool
+    ensures { λ b. ⌜ b ≡ asks r ⌝ }
 {
     let function = r.fc % 16;
     !((function == 4) | (function == 6))
@@ -40,7 +38,7 @@ pub fn repeats(chain: Chain, r: Request) -> bool
     if master != chain.master {
         return false;
     }
-    wants_reply(r) & (r.fc / 16 % 2 == 1)
+    asks(r) & (r.fc / 16 % 2 == 1)
 }
 
 // What a later request is compared with after one that is no repeat: itself, or nothing where bit 4 is clear.
@@ -57,7 +55,7 @@ pub fn chain_by(r: Request, drawn: Drawn) -> Chain
 pub fn chained(setup: Setup, r: Request, mut o: Outcome) -> Outcome
     ensures { λ x. ⌜ x ≡ chained setup r o ⌝ }
 {
-    if acts(setup, r) & wants_reply(r) {
+    if acts(setup, r) & asks(r) {
         let drawn = o.drawn;
         let chain = chain_by(r, drawn);
         let mut control = o.control;

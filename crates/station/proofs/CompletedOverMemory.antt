@@ -40,8 +40,8 @@ use Rattle.rules.specs.Diagnosis.{headerOf}
 use Rattle.rules.specs.Modes.{exchangeOutputs, exchangeInputs, announced}
 use Rattle.rules.specs.Phases.{drawing}
 use Rattle.rules.specs.Replies.{exchangeFc}
-use Rattle.rules.specs.Requests.{masterOf, wantsNone, acts, toStation, refilled, functionService, serviceOf}
-use Rattle.rules.specs.Retries.{isRequest, chainBy, chainAfter, onChain, chained, repeated}
+use Rattle.rules.specs.Requests.{masterOf, acts, toStation, refilled, functionService, serviceOf}
+use Rattle.rules.specs.Retries.{asks, isRequest, chainBy, chainAfter, onChain, chained, repeated}
 use Rattle.rules.specs.Services.{exchanges, goodExchange, slaveDiag, serve}
 use Rattle.rules.proofs.Alike.{refilled-alike}
 use Rattle.rules.proofs.GoodExchange.{refilled-exchanges, exchange-good}
@@ -207,12 +207,12 @@ module _ (m : List ℕ) (s : State) (i : Incoming) (r : Request) (setup : Setup)
   pub answered-over : acts (s .setup) r ≡ true → (o : Outcome) (x : Reply) → outputs ≡ onOutputs (o .outputs) was
       → Draws (o .drawn) setup (o .control) held master x
       → (n₁ n₂ n₃ n₄ : List ℕ) → n₁ ≡ packedAfter (carried s m (onChain o (s .control .chain)) (r .count)) → Changes n₁ n₂ (λ t. withIncoming t i)
-      → Changes n₂ n₃ (λ t. withReply t x) → Changes n₃ n₄ (λ t. withChain t (cond (not (wantsNone r)) (chainBy r (o .drawn)) (t .control .chain)))
+      → Changes n₂ n₃ (λ t. withReply t x) → Changes n₃ n₄ (λ t. withChain t (cond (asks r) (chainBy r (o .drawn)) (t .control .chain)))
       → n₄ ≡ packedAfter (answered (withIncoming s i) m (onChain o (chainAfter (s .setup) (s .control .chain) r (o .drawn))) r)
   unfolding carried answered
   answered-over acting o x done draws n₁ n₂ n₃ n₄ e p₂ p₃ p₄ =
       let l : List ℕ = onMemory (o .outputs) s m in
-      let h : Chain = cond (not (wantsNone r)) (chainBy r (o .drawn)) (s .control .chain) in
+      let h : Chain = cond (asks r) (chainBy r (o .drawn)) (s .control .chain) in
       let s₁ : State = onState s (onChain o (s .control .chain)) (r .count) in
       let s₂ : State = withIncoming s₁ i in
       let s₃ : State = withReply s₂ x in
@@ -227,7 +227,7 @@ module _ (m : List ℕ) (s : State) (i : Incoming) (r : Request) (setup : Setup)
       ∙ (λ j. kept (withReply t (replies j)) (zeros-same (o .outputs) s i m j))
       ∙ (λ j.
       packedAfter
-      (answered (withIncoming s i) m (onChain o (cond (sym acting j && not (wantsNone r)) (chainBy r (o .drawn)) (s .control .chain))) r))
+      (answered (withIncoming s i) m (onChain o (cond (sym acting j && asks r) (chainBy r (o .drawn)) (s .control .chain))) r))
 
   -- a good Data_Exchange: the telegram, the events, the ticks that remain, the chain, both sets and the reply
   pub exchanged-over : m ≡ kept s m → isGoodExchange s r ≡ true → isRepeatIn s r ≡ false → (c control : Control) (deed : OutputsDeed) (way : InputsDeed) (inputs brings : Triple)

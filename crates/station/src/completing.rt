@@ -23,9 +23,9 @@ use rules::requests::acts;
 use rules::requests::function_service;
 use rules::requests::master_of;
 use rules::requests::refilled;
+use rules::retries::asks;
 use rules::retries::chain_by;
 use rules::retries::repeats;
-use rules::retries::wants_reply;
 use rules::services::exchanges;
 use rules::services::serve;
 use rules::services::slave_diag;
@@ -47,7 +47,7 @@ use state::state::Reply;
 use telegram::Kind;
 use telegram::sender::Sender;
 ghost use Prim.Native.Nat.{_≤_};
-ghost use mathlib.Core.Bool.{true, false, cond, not};
+ghost use mathlib.Core.Bool.{true, false, cond};
 ghost use mathlib.Core.Path.{_≡_};
 ghost use lib.ListN.{length};
 ghost use Rattle.buffers.specs.Roles.{heldOf};
@@ -57,8 +57,8 @@ ghost use Rattle.state.specs.Memory.{Holds, Changes};
 ghost use Rattle.state.specs.Unpack.{unpacked};
 ghost use Rattle.state.specs.With.{withChain};
 ghost use Rattle.rules.specs.declared.request.Service.the-variants.{SlaveDiag};
-ghost use Rattle.rules.specs.Requests.{wantsNone, acts, serviceOf};
-ghost use Rattle.rules.specs.Retries.{chainBy};
+ghost use Rattle.rules.specs.Requests.{acts, serviceOf};
+ghost use Rattle.rules.specs.Retries.{asks, chainBy};
 ghost use Rattle.steps.specs.Replies.{replyFor};
 ghost use Rattle.steps.specs.Reading.{requestBy, prmIn};
 ghost use Rattle.station.specs.Completing.{completedBy, served, answeredBy, isRepeatIn, isDataExchange, isGoodExchange};
@@ -98,9 +98,9 @@ fn served_in(mem: &[u8], r: Request, service: Service) -> Outcome
 // If the telegram is a request, the next one is compared with it.
 fn keep_request(mem: &mut [u8], r: Request, drawn: Drawn)
     requires { ⌜ stateLength ≤ length (now mem) ⌝ }
-    ensures { λ _. ⌜ Changes (now (mem .entry)) (now (mem .exit)) (λ s. withChain s (cond (not (wantsNone r)) (chainBy r drawn) (s .control .chain))) ⌝ }
+    ensures { λ _. ⌜ Changes (now (mem .entry)) (now (mem .exit)) (λ s. withChain s (cond (asks r) (chainBy r drawn) (s .control .chain))) ⌝ }
 {
-    if wants_reply(r) {
+    if asks(r) {
         save_chain(chain_by(r, drawn), mem);
     }
 }

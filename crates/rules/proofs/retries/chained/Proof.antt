@@ -6,8 +6,8 @@ use Rattle.rules.proofs.retries.chained.Tie as tie
 acts-requires : tie.Need-acts-requires
 acts-requires c κs = search needs
 
-wants-reply-requires : tie.Need-wants-reply-requires
-wants-reply-requires c κs = search needs
+asks-requires : tie.Need-asks-requires
+asks-requires c κs = search needs
 
 chain-by-requires : tie.Need-chain-by-requires
 chain-by-requires c κs = search needs
@@ -16,13 +16,13 @@ returns : tie.Need-returns
 returns c =
     rw (
       ← c .before .before .before .before .acts .ensures,
-      ← c .before .before .before .wants-reply .ensures,
+      ← c .before .before .before .asks .ensures,
       c .before .before .if1 .taken,
       c .before .chain-by .ensures,
     )
 
 returns-2 : tie.Need-returns-2
-returns-2 c = rw (← c .before .before .acts .ensures, ← c .before .wants-reply .ensures, c .if1 .left)
+returns-2 c = rw (← c .before .before .acts .ensures, ← c .before .asks .ensures, c .if1 .left)
 
 pub chained-spec : {M : Type 1} → statement M
-chained-spec = tie.close (tie.spec acts-requires wants-reply-requires chain-by-requires returns returns-2)
+chained-spec = tie.close (tie.spec acts-requires asks-requires chain-by-requires returns returns-2)

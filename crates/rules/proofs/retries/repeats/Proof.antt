@@ -1,20 +1,20 @@
 -- `rules::retries::repeats` meets its contract.
 use Prim.Native.Nat.{ℕ}
 use mathlib.Core.Path.{_≡_, sym, ap, _∙_}
-use mathlib.Core.Bool.{Bool, true, false, not, _&&_, and-true, and-false}
+use mathlib.Core.Bool.{Bool, true, false, _&&_, and-true, and-false}
 use lib.Dec.{eqb}
 use borrow.Author.Tests.{eq-eqb, ne-eqb, not-true, not-false}
 use Rattle.state.specs.Chain.{fcbIn}
 use Rattle.rules.specs.declared.request.Request.{Request}
-use Rattle.rules.specs.Requests.{masterOf, wantsNone}
-use Rattle.rules.specs.Retries.{fcvOf, fcbOf, same}
+use Rattle.rules.specs.Requests.{masterOf}
+use Rattle.rules.specs.Retries.{asks, fcvOf, fcbOf, same}
 use borrow.Author.Needs.{needs}
 use Rattle.rules.proofs.retries.repeats.Statement.{statement}
 use Rattle.rules.proofs.retries.repeats.Tie as tie
 
 -- a request whose frame count bit counts
 abbrev request : Request → Bool
-request r = not (wantsNone r) && fcvOf r
+request r = asks r && fcvOf r
 
 -- the last of three tests fails, or the one before it, or both hold
 last-fails : (x m s : Bool) → s ≡ false → false ≡ (x && m && s)
@@ -48,19 +48,19 @@ returns-2 c =
     middle-fails (request (x .r)) (eqb (masterOf (x .r)) (x .chain .master)) (same (fcbOf (x .r)) (fcbIn (x .chain)))
     (ap (λ (n : ℕ). eqb n (x .chain .master)) (sym (asked .master-of .ensures)) ∙ ne-eqb _ _ (c .if2 .taken))
 
-wants-reply-requires : tie.Need-wants-reply-requires
-wants-reply-requires c κs = search needs
+asks-requires : tie.Need-asks-requires
+asks-requires c κs = search needs
 
 returns-3 : tie.Need-returns-3
 returns-3 c =
     let tested = c .before .before .before .before in
     let asked = tested .before .before .before .before in
     let x = asked .before .args in
-    (λ i. c .before .wants-reply .ensures i && fcvOf (x .r))
+    (λ i. c .before .asks .ensures i && fcvOf (x .r))
     ∙ both-hold (request (x .r)) (eqb (masterOf (x .r)) (x .chain .master)) (same (fcbOf (x .r)) (fcbIn (x .chain)))
     (ap (λ (n : ℕ). eqb n (x .chain .master)) (sym (asked .master-of .ensures)) ∙ eq-eqb _ _ (c .before .before .if2 .left))
     (sym (tested .before .same .ensures ∙ ap (same (fcbOf (x .r))) (tested .before .before .fcb .ensures)) ∙ not-false _ (tested .if1 .left))
 
 pub repeats-spec : {M : Type 1} → statement M
 repeats-spec =
-    tie.close (tie.spec master-of-requires fcb-requires same-requires returns returns-2 wants-reply-requires returns-3)
+    tie.close (tie.spec master-of-requires fcb-requires same-requires returns returns-2 asks-requires returns-3)
