@@ -8,7 +8,7 @@ use Rattle.ledger.proofs.Hearing.{hears, dialogue}
 use Rattle.ledger.proofs.History.{deeds-make, withheld-told, clear-last, takes-told}
 use Rattle.ledger.proofs.EventsFollow.{events-open, publishing-raises}
 use Rattle.ledger.proofs.ModesKept.{modes-always}
-use Rattle.ledger.proofs.Repeats.{e5-again, set-prm-once, no-deed-again}
+use Rattle.ledger.proofs.Repeats.{repeat-is, e5-again, set-prm-once, no-deed-again}
 use Rattle.ledger.proofs.Fit.{replies-read}
 use Rattle.ledger.proofs.Octets.{sent-octets}
 
@@ -27,6 +27,7 @@ demand-2 = record {
   takes-told = takes-told;
   publishing-raises = publishing-raises;
   modes-kept = modes-always;
+  repeat-is = repeat-is;
   e5-again = e5-again;
   set-prm-once = set-prm-once;
   no-deed-again = no-deed-again;

@@ -9,6 +9,7 @@ use Rattle.telegram.specs.Reading.{run, status}
 use Rattle.telegram.specs.Sending.{startOctet}
 use Rattle.state.specs.declared.chain.Chain.{Chain}
 use Rattle.state.specs.declared.setup.Setup.{Setup}
+use Rattle.state.specs.declared.state.Drawn.{Drawn}
 use Rattle.state.specs.declared.state.Drawn.the-variants.{Nothing, Acknowledge}
 use Rattle.state.specs.Chain.{chainOf, drawnIn}
 use Rattle.state.proofs.SetCodes.{drawn-in}
@@ -22,13 +23,13 @@ use Rattle.rules.specs.Requests.{masterOf, refilled}
 use Rattle.rules.specs.Retries.{isRequest, fcvOf, fcbOf, isRepeat}
 use Rattle.rules.proofs.Alike.{refilled-alike}
 use Rattle.rules.proofs.Repeats.{is-repeat, by-repeat, request-chain, set-prm-draws}
-use Rattle.ledger.specs.Ledger.{Line, Ledger, withControl, withLine, busy, occupied}
+use Rattle.ledger.specs.Ledger.{Line, Ledger, withLine, busy, occupied}
 use Rattle.ledger.specs.Outcome.{carried, afterReply, settle}
 use Rattle.ledger.specs.Bus.{requestBy, dataBy, outcomeOf, answered, completed, lengthened, beginning, paused, gapped}
 use Rattle.ledger.specs.Calls.{step, after}
 use Rattle.ledger.specs.Hearing.{hear, begunBy}
 use Rattle.ledger.specs.History.{clears, deedsBy}
-use Rattle.ledger.specs.Repeats.{SentAgain, gapAfter, NothingNew, E5Again, SetPrmOnce, NoDeedAgain}
+use Rattle.ledger.specs.Repeats.{again, RepeatIs, SentAgain, gapAfter, NothingNew, E5Again, SetPrmOnce, NoDeedAgain}
 use Rattle.ledger.proofs.Settling.{settle-line, settle-setup}
 use Rattle.ledger.proofs.Kept.{step-kept, after-kept}
 use Rattle.ledger.proofs.Hearing.{unfinished, completed-on, inner-heard, begun-heard, hears}
@@ -83,29 +84,21 @@ module _ (t : Telegram) (v : Valid t) where
 -- ---------------------------------------------------------------------------------------------------
 -- The last octet.
 
--- the ledger with E5 drawn by a repeat
-abbrev again : Ledger → Telegram → Ledger
-again l t =
-    withLine (withControl l (refilled (l .setup) (l .control) (requestBy t)))
-    (record { ignored = true; telegram = []; reply = 0xE5 ∷ []; diagnosing = false })
-
--- a repeat of what drew E5
-repeat-completed : (l : Ledger) (t : Telegram) → isRepeat (l .setup) (l .control) (requestBy t) ≡ true → drawnIn (l .control .chain) ≡ Acknowledge
-    → completed l t ≡ again l t
+-- a repeat draws what the chain holds, and that is all
+pub repeat-is : RepeatIs
 unfolding answered
-repeat-completed l t e d =
+repeat-is l t e =
     ap (λ (o : Outcome). answered l o (masterOf (requestBy t)) (payloadOf t))
-    (by-repeat (l .setup) (l .control) (occupied l) (requestBy t) (dataBy (payloadOf t)) e
-    ∙ ap (drawing (refilled (l .setup) (l .control) (requestBy t))) d)
+    (by-repeat (l .setup) (l .control) (occupied l) (requestBy t) (dataBy (payloadOf t)) e)
 
 -- heard whole after a gap
 repeat-heard : (l : Ledger) (t : Telegram) → Valid t → delayed (l .control) ≡ false → l .line .ignored ≡ false → l .line .telegram ≡ []
-    → isRepeat (l .setup) (l .control) (requestBy t) ≡ true → drawnIn (l .control .chain) ≡ Acknowledge → after l (hear (octetsOf t)) ≡ again l t
+    → isRepeat (l .setup) (l .control) (requestBy t) ≡ true → drawnIn (l .control .chain) ≡ Acknowledge → after l (hear (octetsOf t)) ≡ again Acknowledge l t
 repeat-heard l t v n i e r d =
     hears l t .ledger-is i e v
     ∙ ap (λ (m : Ledger). settle (completed m t)) (begun-stays l (startOctet (kindOf t)) n)
-    ∙ ap settle (completed-on l (beginning (startOctet (kindOf t))) t ∙ repeat-completed l t r d)
-    ∙ settle-stays (again l t) (ap isDelayed (refilled-alike (l .setup) (l .control) (requestBy t) .diagnosis-same) ∙ n) refl
+    ∙ ap settle (completed-on l (beginning (startOctet (kindOf t))) t ∙ repeat-is l t r ∙ ap (λ (x : Drawn). again x l t) d)
+    ∙ settle-stays (again Acknowledge l t) (ap isDelayed (refilled-alike (l .setup) (l .control) (requestBy t) .diagnosis-same) ∙ n) refl
 
 -- ---------------------------------------------------------------------------------------------------
 -- Sent again.

@@ -7,18 +7,40 @@ use Rattle.telegram.specs.declared.reader.Status.{Status}
 use Rattle.telegram.specs.declared.reader.Status.the-variants.{Fresh, Inside, Complete, Broken}
 use Rattle.telegram.specs.Telegram.{Telegram, octetsOf, payloadOf, Valid}
 use Rattle.telegram.specs.Reading.{run, readerAfter, status}
+use Rattle.state.specs.declared.state.Drawn.{Drawn}
 use Rattle.state.specs.declared.state.Drawn.the-variants as drawn
+use Rattle.state.specs.Chain.{drawnIn}
 use Rattle.rules.specs.declared.request.Service.the-variants.{SetPrm}
 use Rattle.rules.specs.Call.{Call, octet, gap, send, tick, take, read, write, hand-over, new-diagnosis, judge-parameters, judge-configuration, events, acknowledge, pending, leave}
+use Rattle.rules.specs.Replies.{diagnoses}
 use Rattle.rules.specs.Requests.{masterOf, refilled, serviceOf}
 use Rattle.rules.specs.Retries.{isRequest, fcvOf, fcbOf, isRepeat}
 use Rattle.rules.specs.Services.{otherOwns}
-use Rattle.ledger.specs.Ledger.{Ledger}
+use Rattle.ledger.specs.Ledger.{Ledger, withControl, withLine}
+use Rattle.ledger.specs.Replies.{replyOf}
 use Rattle.ledger.specs.Outcome.{settle}
 use Rattle.ledger.specs.Bus.{telegramOn, requestBy, outcomeOf, completed}
 use Rattle.ledger.specs.Calls.{step, after}
 use Rattle.ledger.specs.Hearing.{hear}
 use Rattle.ledger.specs.History.{clears, telegramDeeds}
+
+-- the ledger after a repeat that draws d: nothing but the owner's watchdog changes, and the reply comes from the state and lists as they stand
+abbrev pub again : Drawn → Ledger → Telegram → Ledger
+again d l t =
+    withLine (withControl l (refilled (l .setup) (l .control) (requestBy t)))
+    (record {
+      ignored = true;
+      telegram = [];
+      reply = replyOf d (l .setup) (l .slice) (refilled (l .setup) (l .control) (requestBy t)) (l .buffers) (masterOf (requestBy t));
+      diagnosing = diagnoses d;
+    })
+
+-- so it is of every repeat, with what the earlier request drew: no Diag_Flag is cleared, no set, input or output changes, and a repeated
+-- Slave_Diag's reply delays a new diagnosis
+abbrev pub RepeatIs : Type 0
+RepeatIs =
+    (l : Ledger) (t : Telegram) → isRepeat (l .setup) (l .control) (requestBy t) ≡ true
+    → completed l t ≡ again (drawnIn (l .control .chain)) l t
 
 -- the octets are those of a whole telegram
 abbrev pub isWhole : Status → Bool
