@@ -2,6 +2,7 @@
 use Rattle.telegram.proofs.Framing.{framing}
 use Rattle.telegram.proofs.FirstOctets.{first-octets}
 use Rattle.telegram.proofs.Sends.{sending}
+use Rattle.rules.proofs.Repeats.{repeat-exactly}
 use Rattle.ledger.specs.Demand2.{Demand2}
 use Rattle.ledger.proofs.ByGrammar.{by-grammar, sd4-without-effect}
 use Rattle.ledger.proofs.Hearing.{hears, dialogue}
@@ -27,6 +28,7 @@ demand-2 = record {
   takes-told = takes-told;
   publishing-raises = publishing-raises;
   modes-kept = modes-always;
+  repeat-exactly = repeat-exactly;
   repeat-is = repeat-is;
   e5-again = e5-again;
   set-prm-once = set-prm-once;

@@ -11,7 +11,7 @@ use Rattle.ledger.specs.ReadBack.{ReadingBack}
 use Rattle.ledger.specs.Octets.{SentOctets}
 use Rattle.ledger.specs.EventsFollow.{EventsOpen, PublishingRaises}
 use Rattle.ledger.specs.ModesKept.{ModesAlways}
-use Rattle.ledger.specs.Repeats.{RepeatIs, E5Again, SetPrmOnce, NoDeedAgain}
+use Rattle.ledger.specs.Repeats.{RepeatExactly, RepeatIs, E5Again, SetPrmOnce, NoDeedAgain}
 
 pub record Demand2 : Type 0 where
   -- of every list of octets the reader tells what the grammar says
@@ -40,6 +40,8 @@ pub record Demand2 : Type 0 where
   pub publishing-raises : PublishingRaises
   -- a mode is on in DATA_EXCH alone and where Set_Prm allowed it, and something is held back in sync alone
   pub modes-kept : ModesAlways
+  -- a repeat is exactly a request with FC bit 4 set and the last one's master and bit 5
+  pub repeat-exactly : RepeatExactly
   -- a repeat refills the owner's watchdog and draws what the earlier request drew, nothing else
   pub repeat-is : RepeatIs
   -- a request that drew E5 and is sent again draws E5, and nothing else comes of it

@@ -3,13 +3,17 @@ use Prim.Native.Nat.{ℕ}
 use mathlib.Core.Path.{_≡_}
 use mathlib.Core.Bool.{Bool, true, false, not, _&&_}
 use mathlib.Core.List.{List, [], _∷_, _++_}
+use mathlib.Core.Logic.{_↔_}
 use Rattle.telegram.specs.declared.reader.Status.{Status}
 use Rattle.telegram.specs.declared.reader.Status.the-variants.{Fresh, Inside, Complete, Broken}
 use Rattle.telegram.specs.Telegram.{Telegram, octetsOf, payloadOf, Valid}
 use Rattle.telegram.specs.Reading.{run, readerAfter, status}
+use Rattle.state.specs.declared.setup.Setup.{Setup}
+use Rattle.state.specs.declared.control.Control.{Control}
 use Rattle.state.specs.declared.state.Drawn.{Drawn}
 use Rattle.state.specs.declared.state.Drawn.the-variants as drawn
-use Rattle.state.specs.Chain.{drawnIn}
+use Rattle.state.specs.Chain.{fcbIn, drawnIn}
+use Rattle.rules.specs.declared.request.Request.{Request}
 use Rattle.rules.specs.declared.request.Service.the-variants.{SetPrm}
 use Rattle.rules.specs.Call.{Call, octet, gap, send, tick, take, read, write, hand-over, new-diagnosis, judge-parameters, judge-configuration, events, acknowledge, pending, leave}
 use Rattle.rules.specs.Replies.{diagnoses}
@@ -23,6 +27,13 @@ use Rattle.ledger.specs.Bus.{telegramOn, requestBy, outcomeOf, completed
 use Rattle.ledger.specs.Calls.{step, after}
 use Rattle.ledger.specs.Hearing.{hear}
 use Rattle.ledger.specs.History.{clears, telegramDeeds}
+
+-- a repeat is exactly a request with FC bit 4 set and the master and the bit 5 of the last one
+abbrev pub RepeatExactly : Type 0
+RepeatExactly =
+    (g : Setup) (c : Control) (r : Request)
+    → (isRepeat g c r ≡ true)
+    ↔ ((isRequest g r ≡ true) × (fcvOf r ≡ true) × (masterOf r ≡ c .chain .master) × (fcbOf r ≡ fcbIn (c .chain)))
 
 -- the ledger after a repeat that draws d: nothing but the owner's watchdog changes, and the reply comes from the state and lists as they stand
 abbrev pub again : Drawn → Ledger → Telegram → Ledger
