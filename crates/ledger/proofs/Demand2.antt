@@ -9,6 +9,7 @@ use Rattle.ledger.proofs.Hearing.{hears, dialogue}
 use Rattle.ledger.proofs.History.{deeds-make, withheld-told, clear-last, takes-told}
 use Rattle.ledger.proofs.EventsFollow.{events-open, publishing-raises}
 use Rattle.ledger.proofs.ModesKept.{modes-always}
+use Rattle.ledger.proofs.RequestKept.{chain-kept, chain-goes-on, start-has-none}
 use Rattle.ledger.proofs.Repeats.{repeat-is, e5-again, set-prm-once, no-deed-again}
 use Rattle.ledger.proofs.Fit.{replies-read}
 use Rattle.ledger.proofs.Octets.{sent-octets}
@@ -30,6 +31,9 @@ demand-2 = record {
   modes-kept = modes-always;
   repeat-exactly = repeat-exactly;
   repeat-is = repeat-is;
+  start-has-none = start-has-none;
+  chain-kept = chain-kept;
+  chain-goes-on = chain-goes-on;
   e5-again = e5-again;
   set-prm-once = set-prm-once;
   no-deed-again = no-deed-again;

@@ -11,7 +11,7 @@ use Rattle.state.specs.declared.chain.Chain.{Chain}
 use Rattle.state.specs.declared.setup.Setup.{Setup}
 use Rattle.state.specs.declared.state.Drawn.{Drawn}
 use Rattle.state.specs.declared.state.Drawn.the-variants.{Nothing, Acknowledge}
-use Rattle.state.specs.Chain.{chainOf, drawnIn}
+use Rattle.state.specs.Chain.{chainOf, noChain, drawnIn}
 use Rattle.state.proofs.SetCodes.{drawn-in}
 use Rattle.rules.specs.declared.outcome.Outcome.{Outcome}
 use Rattle.rules.specs.Call.{Call, gap}
@@ -22,7 +22,7 @@ use Rattle.rules.specs.Replies.{diagnoses}
 use Rattle.rules.specs.Requests.{masterOf, refilled}
 use Rattle.rules.specs.Retries.{isRequest, fcvOf, fcbOf, isRepeat}
 use Rattle.rules.proofs.Alike.{refilled-alike}
-use Rattle.rules.proofs.Repeats.{is-repeat, by-repeat, request-chain, set-prm-draws}
+use Rattle.rules.proofs.Repeats.{is-repeat, by-repeat, set-prm-draws}
 use Rattle.ledger.specs.Ledger.{Line, Ledger, withLine, busy, occupied}
 use Rattle.ledger.specs.Outcome.{carried, afterReply, settle}
 use Rattle.ledger.specs.Bus.{requestBy, dataBy, outcomeOf, answered, completed, lengthened, beginning, paused, gapped}
@@ -33,7 +33,7 @@ use Rattle.ledger.specs.Repeats.{again, RepeatIs, SentAgain, gapAfter, N
 use Rattle.ledger.proofs.Settling.{settle-line, settle-setup}
 use Rattle.ledger.proofs.Kept.{step-kept, after-kept}
 use Rattle.ledger.proofs.Hearing.{unfinished, completed-on, inner-heard, begun-heard, hears}
-use Rattle.ledger.proofs.RequestKept.{Waits, settle-waits, step-waits, after-waits}
+use Rattle.ledger.proofs.RequestKept.{chain-goes-on, Waits, settle-waits, step-waits, after-waits}
 
 -- ---------------------------------------------------------------------------------------------------
 -- A busy line with nothing delayed.
@@ -112,8 +112,8 @@ nothing-new : (l : Ledger) (t : Telegram) → Valid t → Waits (e5Chain t) l �
     → isRequest (l .setup) (requestBy t) ≡ true → fcvOf (requestBy t) ≡ true → NothingNew l t
 nothing-new l t v w i e a b =
     let r = requestBy t in
-    let n = w .none-delayed in
-    let s = repeat-heard l t v n i e (is-repeat (l .setup) (l .control) r Acknowledge a b (w .chain-is)) (ap drawnIn (w .chain-is) ∙ drawn-in (masterOf r) (fcbOf r) Acknowledge) in
+    let n = w .1 .none-delayed in
+    let s = repeat-heard l t v n i e (is-repeat (l .setup) (l .control) r Acknowledge a b (w .0)) (ap drawnIn (w .0) ∙ drawn-in (masterOf r) (fcbOf r) Acknowledge) in
     record {
       draws-e5 = ap (λ (m : Ledger). m .line .reply) s;
       control-is = ap (λ (m : Ledger). m .control) s;
@@ -133,8 +133,8 @@ request-waits : (l : Ledger) (t u : Telegram) → SentAgain l t u → outcomeOf 
 unfolding answered
 request-waits l t u s d =
     settle-waits (completed l t)
-    (request-chain (l .setup) (l .control) (occupied l) (requestBy t) (dataBy (payloadOf t)) (s .first-asks) (s .first-counts) (s .first-new)
-    ∙ (λ i. chainOf (sym (s .same-master) i) (sym (s .same-bit) i) (d i)))
+    (chain-goes-on l t .new-goes-in (s .first-asks) (s .first-new)
+    ∙ (λ i. cond (s .first-counts i) (chainOf (sym (s .same-master) i) (sym (s .same-bit) i) (d i)) noChain))
     (ap diagnoses d)
 
 -- the setup after it, the calls cs and a gap

@@ -1,7 +1,7 @@
 -- A request that is sent again (document 02, Req 04): what its repeat draws, and that the vat program notices nothing of it.
 use Prim.Native.Nat.{ℕ}
 use mathlib.Core.Path.{_≡_}
-use mathlib.Core.Bool.{Bool, true, false, not, _&&_}
+use mathlib.Core.Bool.{Bool, true, false, cond, not, _&&_}
 use mathlib.Core.List.{List, [], _∷_, _++_}
 use mathlib.Core.Logic.{_↔_}
 use Rattle.telegram.specs.declared.reader.Status.{Status}
@@ -12,7 +12,7 @@ use Rattle.state.specs.declared.setup.Setup.{Setup}
 use Rattle.state.specs.declared.control.Control.{Control}
 use Rattle.state.specs.declared.state.Drawn.{Drawn}
 use Rattle.state.specs.declared.state.Drawn.the-variants as drawn
-use Rattle.state.specs.Chain.{fcbIn, drawnIn}
+use Rattle.state.specs.Chain.{chainOf, noChain, fcbIn, drawnIn}
 use Rattle.rules.specs.declared.request.Request.{Request}
 use Rattle.rules.specs.declared.request.Service.the-variants.{SetPrm}
 use Rattle.rules.specs.Call.{Call, octet, gap, send, tick, take, read, write, hand-over, new-diagnosis, judge-parameters, judge-configuration, events, acknowledge, pending, leave}
@@ -20,7 +20,7 @@ use Rattle.rules.specs.Replies.{diagnoses}
 use Rattle.rules.specs.Requests.{masterOf, refilled, serviceOf}
 use Rattle.rules.specs.Retries.{isRequest, fcvOf, fcbOf, isRepeat}
 use Rattle.rules.specs.Services.{otherOwns}
-use Rattle.ledger.specs.Ledger.{Ledger, withControl, withLine}
+use Rattle.ledger.specs.Ledger.{Ledger, withControl, withLine, fresh}
 use Rattle.ledger.specs.Replies.{replyOf}
 use Rattle.ledger.specs.Outcome.{settle}
 use Rattle.ledger.specs.Bus.{telegramOn, requestBy, outcomeOf, completed}
@@ -84,6 +84,23 @@ completesRequest l leave = false
 abbrev pub NoRequest : Ledger → List Call → Type 0
 NoRequest l [] = Unit
 NoRequest l (c ∷ cs) = (completesRequest l c ≡ false) × NoRequest (step l c .ledger) cs
+
+-- a station starts with no request that a telegram could repeat
+abbrev pub StartHasNone : Type 0
+StartHasNone = (s : Setup) (slice : List ℕ) → fresh s slice .control .chain ≡ noChain
+
+-- nothing but a request touches the chain
+abbrev pub ChainKept : Type 0
+ChainKept = (l : Ledger) (c : Call) → completesRequest l c ≡ false → step l c .ledger .control .chain ≡ l .control .chain
+
+-- and what a request makes of it
+pub record ChainGoesOn (l : Ledger) (t : Telegram) : Type 0 where
+  -- a new one is what the next is compared with, or ends the chain if its FC bit 4 is clear
+  pub new-goes-in : isRequest (l .setup) (requestBy t) ≡ true → isRepeat (l .setup) (l .control) (requestBy t) ≡ false
+      → completed l t .control .chain
+      ≡ cond (fcvOf (requestBy t)) (chainOf (masterOf (requestBy t)) (fcbOf (requestBy t)) (outcomeOf l (requestBy t) (payloadOf t) .drawn)) noChain
+  -- a repeat leaves it
+  pub repeat-leaves : isRepeat (l .setup) (l .control) (requestBy t) ≡ true → completed l t .control .chain ≡ l .control .chain
 
 -- t is a request with FC bit 4 set that repeats none, and u is one with bit 4 set, that master and that bit 5; nothing else of u is looked at
 pub record SentAgain (l : Ledger) (t u : Telegram) : Type 0 where

@@ -10,7 +10,7 @@ use Rattle.state.specs.declared.control.Control.{Control}
 use Rattle.state.specs.declared.chain.Chain.{Chain}
 use Rattle.state.specs.declared.state.Drawn.{Drawn}
 use Rattle.state.specs.declared.state.Drawn.the-variants.{Nothing, Acknowledge}
-use Rattle.state.specs.Chain.{chainOf, noChain, fcbIn}
+use Rattle.state.specs.Chain.{chainOf, fcbIn}
 use Rattle.state.specs.Well.{within}
 use Rattle.state.proofs.SetCodes.{fcb-in}
 use Rattle.state.proofs.Choice.{by-test, either, and-left, and-right}
@@ -23,7 +23,7 @@ use Rattle.rules.specs.declared.request.Service.the-variants.{SetPrm}
 use Rattle.rules.specs.declared.outcome.Outcome.{Outcome}
 use Rattle.rules.specs.Control.{bit}
 use Rattle.rules.specs.Requests.{masterOf, wantsNone, acts, refilled, serviceOf}
-use Rattle.rules.specs.Retries.{isRequest, fcvOf, fcbOf, same, isRepeat, chained, repeated}
+use Rattle.rules.specs.Retries.{isRequest, fcvOf, fcbOf, same, isRepeat, chainBy, chained, repeated}
 use Rattle.rules.specs.Services.{otherOwns, otherIdent, wantsWatchdog, badFactors, setPrm, serve, outcomeBy}
 use Rattle.rules.proofs.Alike.{refilled-alike}
 use Rattle.rules.proofs.ByCases.{refilled-same}
@@ -86,14 +86,17 @@ module _ (g : Setup) (c : Control) (b : Occupied) (r : Request) (octets : Data) 
       (λ x. no-true (sym e ∙ repeat-exactly g c r .0 x .0))
       (λ _. rw e (serve-chain g (refilled g c r) b r octets ∙ refilled-alike g c r .chain-same, unasked-silent g (refilled g c r) b r octets e .2))
 
-  -- a new request with bit 4 set is what a later one is compared with
-  pub request-chain : isRequest g r ≡ true → fcvOf r ≡ true → isRepeat g c r ≡ false
-      → outcomeBy g c b r octets .control .chain ≡ chainOf (masterOf r) (fcbOf r) (outcomeBy g c b r octets .drawn)
-  request-chain a v n =
+  -- a new request with bit 4 set is what a later one is compared with, and one with bit 4 clear ends the chain
+  pub request-chain : isRequest g r ≡ true → isRepeat g c r ≡ false → outcomeBy g c b r octets .control .chain ≡ chainBy r (outcomeBy g c b r octets .drawn)
+  request-chain a n =
       let s = by-repeat n in
       ap (λ (o : Outcome). o .control .chain) s
-      ∙ (λ i. cond (a i) (cond (v i) (chainOf (masterOf r) (fcbOf r) (first .drawn)) noChain) (first .control .chain))
-      ∙ ap (λ (o : Outcome). chainOf (masterOf r) (fcbOf r) (o .drawn)) (sym s)
+      ∙ (λ i. cond (a i) (chainBy r (first .drawn)) (first .control .chain))
+      ∙ ap (λ (o : Outcome). chainBy r (o .drawn)) (sym s)
+
+  -- a repeat leaves it
+  pub repeat-chain : isRepeat g c r ≡ true → outcomeBy g c b r octets .control .chain ≡ c .chain
+  repeat-chain e = ap (λ (o : Outcome). o .control .chain) (by-repeat e) ∙ refilled-alike g c r .chain-same
 
 -- ---- Set_Prm
 
