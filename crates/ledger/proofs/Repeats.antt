@@ -22,6 +22,7 @@ use Rattle.rules.specs.Replies.{diagnoses}
 use Rattle.rules.specs.Requests.{masterOf, refilled}
 use Rattle.rules.specs.Retries.{isRequest, fcvOf, fcbOf, isRepeat}
 use Rattle.rules.proofs.Alike.{refilled-alike}
+use Rattle.rules.proofs.ByCases.{refilled-same}
 use Rattle.rules.proofs.Repeats.{is-repeat, by-repeat, set-prm-draws}
 use Rattle.ledger.specs.Ledger.{Line, Ledger, withLine, busy, occupied}
 use Rattle.ledger.specs.Outcome.{carried, afterReply, settle}
@@ -29,7 +30,7 @@ use Rattle.ledger.specs.Bus.{requestBy, dataBy, outcomeOf, answered, com
 use Rattle.ledger.specs.Calls.{step, after}
 use Rattle.ledger.specs.Hearing.{hear, begunBy}
 use Rattle.ledger.specs.History.{clears, deedsBy}
-use Rattle.ledger.specs.Repeats.{again, RepeatIs, SentAgain, gapAfter, NothingNew, E5Again, SetPrmOnce, NoDeedAgain}
+use Rattle.ledger.specs.Repeats.{again, RepeatIs, SentAgain, afterGap, NothingNew, E5Again, SetPrmOnce, NoDeedAgain}
 use Rattle.ledger.proofs.Settling.{settle-line, settle-setup}
 use Rattle.ledger.proofs.Kept.{step-kept, after-kept}
 use Rattle.ledger.proofs.Hearing.{unfinished, completed-on, inner-heard, begun-heard, hears}
@@ -118,6 +119,7 @@ nothing-new l t v w i e a b =
       draws-e5 = ap (λ (m : Ledger). m .line .reply) s;
       control-is = ap (λ (m : Ledger). m .control) s;
       buffers-are = ap (λ (m : Ledger). m .buffers) s;
+      events-stay = ap (λ (m : Ledger). m .control .events) s ∙ refilled-same (l .setup) (l .control) r .1;
       inner-control = λ xs ys y o. part-same t v l xs y ys n i e o .0;
       inner-buffers = λ xs ys y o. part-same t v l xs y ys n i e o .1;
     }
@@ -138,7 +140,7 @@ request-waits l t u s d =
     (ap diagnoses d)
 
 -- the setup after it, the calls cs and a gap
-setup-stays : (l : Ledger) (t : Telegram) (cs : List Call) → gapAfter l t cs .setup ≡ l .setup
+setup-stays : (l : Ledger) (t : Telegram) (cs : List Call) → afterGap l t cs .setup ≡ l .setup
 unfolding answered
 setup-stays l t cs =
     let m = settle (completed l t) in
@@ -149,7 +151,7 @@ pub e5-again : E5Again
 e5-again l t u cs s d n =
     let k = settle (completed l t) in
     let m = after k cs in
-    nothing-new (gapAfter l t cs) u (s .second-valid) (step-waits m gap refl (after-waits k cs n (request-waits l t u s d)))
+    nothing-new (afterGap l t cs) u (s .second-valid) (step-waits m gap refl (after-waits k cs n (request-waits l t u s d)))
     (ap (λ (x : Line). x .ignored) (gap-line m)) (ap (λ (x : Line). x .telegram) (gap-line m))
     (ap (λ (x : Setup). isRequest x (requestBy u)) (setup-stays l t cs) ∙ s .second-asks) (s .second-counts)
 

@@ -114,17 +114,19 @@ pub record SentAgain (l : Ledger) (t u : Telegram) : Type 0 where
   pub same-bit : fcbOf (requestBy u) ≡ fcbOf (requestBy t)
 
 -- the ledger after t was completed, the calls cs and a gap
-abbrev pub gapAfter : Ledger → Telegram → List Call → Ledger
-gapAfter l t cs = step (after (settle (completed l t)) cs) gap .ledger
+abbrev pub afterGap : Ledger → Telegram → List Call → Ledger
+afterGap l t cs = step (after (settle (completed l t)) cs) gap .ledger
 
 -- of the ledger p after the gap: u is heard whole with no call between, octet by octet
 pub record NothingNew (p : Ledger) (u : Telegram) : Type 0 where
   -- E5 is drawn
   pub draws-e5 : after p (hear (octetsOf u)) .line .reply ≡ 0xE5 ∷ []
-  -- the control part stays, the events among it, but for the present owner's watchdog, and so do the lists
+  -- the control part stays but for the present owner's watchdog, and so do the lists
   pub control-is : after p (hear (octetsOf u)) .control ≡ refilled (p .setup) (p .control) (requestBy u)
   pub buffers-are : after p (hear (octetsOf u)) .buffers ≡ p .buffers
-  -- and before its last octet both stay whole
+  -- so no event comes or goes
+  pub events-stay : after p (hear (octetsOf u)) .control .events ≡ p .control .events
+  -- and before its last octet control part and lists stay whole
   pub inner-control : (xs ys : List ℕ) (y : ℕ) → octetsOf u ≡ xs ++ y ∷ ys → after p (hear xs) .control ≡ p .control
   pub inner-buffers : (xs ys : List ℕ) (y : ℕ) → octetsOf u ≡ xs ++ y ∷ ys → after p (hear xs) .buffers ≡ p .buffers
 
@@ -133,14 +135,14 @@ abbrev pub E5Again : Type 0
 E5Again =
     (l : Ledger) (t u : Telegram) (cs : List Call) → SentAgain l t u
     → outcomeOf l (requestBy t) (payloadOf t) .drawn ≡ drawn.Acknowledge → NoRequest (settle (completed l t)) cs
-    → NothingNew (gapAfter l t cs) u
+    → NothingNew (afterGap l t cs) u
 
 -- "the vat program gets the event twice" no more: a Set_Prm that no other master's ownership refuses, and its repeat
 abbrev pub SetPrmOnce : Type 0
 SetPrmOnce =
     (l : Ledger) (t u : Telegram) (cs : List Call) → SentAgain l t u → serviceOf (l .setup) (requestBy t) ≡ SetPrm
     → otherOwns (l .control) (masterOf (requestBy t)) ≡ false → NoRequest (settle (completed l t)) cs
-    → NothingNew (gapAfter l t cs) u
+    → NothingNew (afterGap l t cs) u
 
 -- "the outputs of a repeated Data_Exchange count as accepted a single time": a repeat has no deed but that of a noted clear at its end
 abbrev pub NoDeedAgain : Type 0
