@@ -19,7 +19,7 @@ use Rattle.rules.specs.Diagnosis.{isDelayed, delayed}
 use Rattle.rules.specs.Line.{clearing}
 use Rattle.rules.specs.Phases.{drawing}
 use Rattle.rules.specs.Replies.{diagnoses}
-use Rattle.rules.specs.Requests.{masterOf, refilled}
+use Rattle.rules.specs.Requests.{masterOf}
 use Rattle.rules.specs.Retries.{isRequest, fcvOf, fcbOf, isRepeat}
 use Rattle.rules.proofs.Alike.{refilled-alike}
 use Rattle.rules.proofs.ByCases.{refilled-same}
@@ -108,13 +108,17 @@ repeat-heard l t v n i e r d =
 abbrev e5Chain : Telegram → Chain
 e5Chain t = chainOf (masterOf (requestBy t)) (fcbOf (requestBy t)) Acknowledge
 
+-- it holds E5
+e5-drawn : (t : Telegram) → drawnIn (e5Chain t) ≡ Acknowledge
+e5-drawn t = drawn-in (masterOf (requestBy t)) (fcbOf (requestBy t)) Acknowledge
+
 -- its repeat after a gap
 nothing-new : (l : Ledger) (t : Telegram) → Valid t → Waits (e5Chain t) l → l .line .ignored ≡ false → l .line .telegram ≡ []
     → isRequest (l .setup) (requestBy t) ≡ true → fcvOf (requestBy t) ≡ true → NothingNew l t
 nothing-new l t v w i e a b =
     let r = requestBy t in
     let n = w .1 .none-delayed in
-    let s = repeat-heard l t v n i e (is-repeat (l .setup) (l .control) r Acknowledge a b (w .0)) (ap drawnIn (w .0) ∙ drawn-in (masterOf r) (fcbOf r) Acknowledge) in
+    let s = repeat-heard l t v n i e (is-repeat (l .setup) (l .control) r Acknowledge a b (w .0)) (ap drawnIn (w .0) ∙ e5-drawn t) in
     record {
       draws-e5 = ap (λ (m : Ledger). m .line .reply) s;
       control-is = ap (λ (m : Ledger). m .control) s;
@@ -151,7 +155,8 @@ pub e5-again : E5Again
 e5-again l t u cs s d n =
     let k = settle (completed l t) in
     let m = after k cs in
-    nothing-new (afterGap l t cs) u (s .second-valid) (step-waits m gap refl (after-waits k cs n (request-waits l t u s d)))
+    let x = ap diagnoses (e5-drawn u) in
+    nothing-new (afterGap l t cs) u (s .second-valid) (step-waits x m gap refl (after-waits x k cs n (request-waits l t u s d)))
     (ap (λ (x : Line). x .ignored) (gap-line m)) (ap (λ (x : Line). x .telegram) (gap-line m))
     (ap (λ (x : Setup). isRequest x (requestBy u)) (setup-stays l t cs) ∙ s .second-asks) (s .second-counts)
 

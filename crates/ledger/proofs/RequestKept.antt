@@ -1,4 +1,4 @@
--- What becomes of the chain by every call (specs/Repeats.antt), and that no diagnosis is or can be delayed by calls that complete no request.
+-- What becomes of the chain by every call (specs/Repeats.antt), and that no diagnosis is or can be delayed by calls that complete no new request.
 use Prim.Native.Nat.{ℕ}
 use mathlib.Core.Path.{_≡_, refl, sym, ap, _∙_}
 use mathlib.Core.Bool.{Bool, false, not, _&&_, and-true}
@@ -13,32 +13,33 @@ use Rattle.telegram.proofs.Run.{no-true}
 use Rattle.state.specs.declared.setup.Setup.{Setup}
 use Rattle.state.specs.declared.chain.Chain.{Chain}
 use Rattle.state.specs.declared.control.Control.{Control}
+use Rattle.state.specs.Chain.{drawnIn}
 use Rattle.state.specs.Well.{within}
 use Rattle.state.proofs.Choice.{by-test, either, and-left}
 use Rattle.rules.specs.declared.outcome.Outcome.{Outcome}
 use Rattle.rules.specs.Diagnosis.{isDelayed, delayed, diagnosed, delaying, caughtUp}
 use Rattle.rules.specs.Replies.{diagnoses}
-use Rattle.rules.specs.Retries.{isRequest}
 use Rattle.rules.specs.Call.{Call, octet, gap, send, tick, take, read, write, hand-over, new-diagnosis, judge-parameters, judge-configuration, events, acknowledge, pending, leave}
 use Rattle.rules.proofs.Served.{Quiet, clear-quiet, clear-noted-quiet, ticked-quiet, parameters-quiet, configuration-quiet}
-use Rattle.rules.proofs.Repeats.{unasked-leaves, request-chain, repeat-chain}
+use Rattle.rules.proofs.Repeats.{request-chain, repeat-chain, old-leaves}
 use Rattle.ledger.specs.Lists.{some}
 use Rattle.ledger.specs.Ledger.{Line, Ledger, withLine, begun, busy, diagnosisLeaves, occupied}
 use Rattle.ledger.specs.Outcome.{carried, diagnosisChanged, afterReply, settle}
 use Rattle.ledger.specs.Bus.{telegramOn, requestBy, dataBy, answered, completed, brokenOff, beginning, sendLeft, silenced, heardAs, heard, paused, afterSend, elapsed, gapped}
 use Rattle.ledger.specs.User.{Told, handOver, newDiagnosis, acknowledgeEvents, leaveMaster}
 use Rattle.ledger.specs.Calls.{step, after}
-use Rattle.ledger.specs.Repeats.{isWhole, completesRequest, NoRequest, StartHasNone, ChainKept, ChainGoesOn}
+use Rattle.ledger.specs.Repeats.{isWhole, isNew, completesNewRequest, NoNewRequest, StartHasNone, ChainKept, ChainGoesOn}
 use Rattle.ledger.proofs.ByCases.{take-cases, read-cases, write-cases, diagnosis-cases, parameters-cases, configuration-cases}
 
--- a telegram that is no request, of its octets before the last and with it
+-- the octets since the gap are no new request with b
 abbrev NoneWith : Ledger → ℕ → Status → Type 0
-NoneWith l b s = isWhole s && isRequest (l .setup) (requestBy (telegramOn (l .line .telegram ++ b ∷ []))) ≡ false
+NoneWith l b s = isWhole s && isNew l (telegramOn (l .line .telegram ++ b ∷ [])) ≡ false
 
--- an octet that is heard completes none
-heard-none : (l : Ledger) (b : ℕ) (s : Status) → l .line .ignored ≡ false
-    → not (l .line .ignored) && isWhole s && isRequest (l .setup) (requestBy (telegramOn (l .line .telegram ++ b ∷ []))) ≡ false → NoneWith l b s
-heard-none l b s i e = (λ k. not (sym i k) && isWhole s && isRequest (l .setup) (requestBy (telegramOn (l .line .telegram ++ b ∷ [])))) ∙ e
+-- so it is of an octet that is heard and completes none
+heard-none : (l : Ledger) (b : ℕ) (bad : Bool) → completesNewRequest l (octet b bad) ≡ false → l .line .ignored ≡ false
+    → NoneWith l b (status (readerAfter (run (l .line .telegram)) b bad))
+heard-none l b bad e i =
+    (λ k. not (sym i k) && isWhole (status (readerAfter (run (l .line .telegram)) b bad)) && isNew l (telegramOn (l .line .telegram ++ b ∷ []))) ∙ e
 
 -- ---------------------------------------------------------------------------------------------------
 -- The chain.
@@ -69,7 +70,7 @@ heard-chain l b Fresh e = refl
 heard-chain l b Inside e = either (SameChain l) (begun l) refl (settle-chain (withLine l (beginning b)))
 heard-chain l b Complete e =
     let t = telegramOn (l .line .telegram ++ b ∷ []) in
-    settle-chain (completed l t) ∙ unasked-leaves (l .setup) (l .control) (occupied l) (requestBy t) (dataBy (payloadOf t)) e .0
+    settle-chain (completed l t) ∙ old-leaves (l .setup) (l .control) (occupied l) (requestBy t) (dataBy (payloadOf t)) e .0
 heard-chain l b Broken e = settle-chain (withLine l (brokenOff (l .line)))
 
 -- every call
@@ -77,7 +78,7 @@ pub chain-kept : ChainKept
 unfolding heard paused afterSend elapsed handOver diagnosed delaying acknowledgeEvents leaveMaster
 chain-kept l (octet b bad) e =
     let s = status (readerAfter (run (l .line .telegram)) b bad) in
-    by-test (SameChain l) (l .line .ignored) l (heardAs s l b) (λ _. refl) (λ i. heard-chain l b s (heard-none l b s i e))
+    by-test (SameChain l) (l .line .ignored) l (heardAs s l b) (λ _. refl) (λ i. heard-chain l b s (heard-none l b bad e i))
 chain-kept l gap e = settle-chain (withLine l (gapped (l .line)))
 chain-kept l send e = settle-chain (withLine l (sendLeft (l .line) (l .line .reply)))
 chain-kept l tick e =
@@ -127,6 +128,10 @@ Undelayed l = UndelayedBy (l .line .diagnosing) (delayed (l .control))
 abbrev LeavesUndelayed : Told → Type 0
 LeavesUndelayed t = Undelayed (t .ledger)
 
+-- a repeat would draw no Slave_Diag's reply
+abbrev NoDiagnosisAgain : Ledger → Type 0
+NoDiagnosisAgain l = diagnoses (drawnIn (l .control .chain)) ≡ false
+
 -- a send leaves whose reply it is
 sent-diagnosing : (n : Line) (xs : List ℕ) → sendLeft n xs .diagnosing ≡ n .diagnosing
 sent-diagnosing n [] = refl
@@ -145,20 +150,21 @@ catches-up l f =
     (λ d. record { no-diagnosis = f; none-delayed = sym (and-true (delayed (l .control))) ∙ (λ i. delayed (l .control) && not (sym f i && some (l .line .reply))) ∙ d })
 
 -- so nothing is delayed behind settling
-pub settle-undelayed : (l : Ledger) → l .line .diagnosing ≡ false → Undelayed (settle l)
+settle-undelayed : (l : Ledger) → l .line .diagnosing ≡ false → Undelayed (settle l)
 unfolding settle
 settle-undelayed l f =
     quiet-undelayed (afterReply l) (catches-up l f) (clear-noted-quiet (afterReply l .setup) (afterReply l .control) (busy l) (λ _. tt))
 
 -- an octet, by what the octets are with it
-heard-undelayed : (l : Ledger) (b : ℕ) (s : Status) → NoneWith l b s → Undelayed l → Undelayed (heardAs s l b)
+heard-undelayed : (l : Ledger) (b : ℕ) (s : Status) → NoneWith l b s → NoDiagnosisAgain l → Undelayed l → Undelayed (heardAs s l b)
 unfolding answered
-heard-undelayed l b Fresh e w = w
-heard-undelayed l b Inside e w = either Undelayed (begun l) w (settle-undelayed (withLine l (beginning b)) refl)
-heard-undelayed l b Complete e w =
+heard-undelayed l b Fresh e h w = w
+heard-undelayed l b Inside e h w = either Undelayed (begun l) w (settle-undelayed (withLine l (beginning b)) refl)
+heard-undelayed l b Complete e h w =
     let t = telegramOn (l .line .telegram ++ b ∷ []) in
-    settle-undelayed (completed l t) (ap diagnoses (unasked-leaves (l .setup) (l .control) (occupied l) (requestBy t) (dataBy (payloadOf t)) e .1))
-heard-undelayed l b Broken e w = settle-undelayed (withLine l (brokenOff (l .line))) (w .no-diagnosis)
+    settle-undelayed (completed l t)
+    (⊎-elim (λ d. ap diagnoses d ∙ h) (λ d. ap diagnoses d) (old-leaves (l .setup) (l .control) (occupied l) (requestBy t) (dataBy (payloadOf t)) e .1))
+heard-undelayed l b Broken e h w = settle-undelayed (withLine l (brokenOff (l .line))) (w .no-diagnosis)
 
 -- a new diagnosis takes effect at once
 diagnosed-undelayed : (l : Ledger) (count flags : ℕ) → Undelayed l → Undelayed (newDiagnosis l count flags .ledger)
@@ -170,32 +176,32 @@ diagnosed-undelayed l count flags w =
     (λ _. record { no-diagnosis = w .no-diagnosis; none-delayed = refl })))
 
 -- every call
-step-undelayed : (l : Ledger) (c : Call) → completesRequest l c ≡ false → Undelayed l → Undelayed (step l c .ledger)
+step-undelayed : (l : Ledger) (c : Call) → completesNewRequest l c ≡ false → NoDiagnosisAgain l → Undelayed l → Undelayed (step l c .ledger)
 unfolding heard paused afterSend elapsed handOver acknowledgeEvents leaveMaster
-step-undelayed l (octet b bad) e w =
+step-undelayed l (octet b bad) e h w =
     let s = status (readerAfter (run (l .line .telegram)) b bad) in
-    by-test Undelayed (l .line .ignored) l (heardAs s l b) (λ _. w) (λ i. heard-undelayed l b s (heard-none l b s i e) w)
-step-undelayed l gap e w = settle-undelayed (withLine l (gapped (l .line))) (w .no-diagnosis)
-step-undelayed l send e w =
+    by-test Undelayed (l .line .ignored) l (heardAs s l b) (λ _. w) (λ i. heard-undelayed l b s (heard-none l b bad e i) h w)
+step-undelayed l gap e h w = settle-undelayed (withLine l (gapped (l .line))) (w .no-diagnosis)
+step-undelayed l send e h w =
     settle-undelayed (withLine l (sendLeft (l .line) (l .line .reply))) (sent-diagnosing (l .line) (l .line .reply) ∙ w .no-diagnosis)
-step-undelayed l tick e w =
+step-undelayed l tick e h w =
     either Undelayed (l .control .noted) (settle-undelayed (withLine l (silenced l)) refl)
     (quiet-undelayed l w (ticked-quiet (l .setup) (l .control) (busy l) (λ _. tt)))
-step-undelayed l take e w = take-cases LeavesUndelayed l (λ _. w) (λ _. w)
-step-undelayed l (read kind index) e w = read-cases LeavesUndelayed l kind index (λ _. w) w
-step-undelayed l (write kind index x) e w = write-cases LeavesUndelayed l kind index x (λ _. w) w
-step-undelayed l hand-over e w = w
-step-undelayed l (new-diagnosis count flags) e w = diagnosed-undelayed l count flags w
-step-undelayed l (judge-parameters j) e w =
+step-undelayed l take e h w = take-cases LeavesUndelayed l (λ _. w) (λ _. w)
+step-undelayed l (read kind index) e h w = read-cases LeavesUndelayed l kind index (λ _. w) w
+step-undelayed l (write kind index x) e h w = write-cases LeavesUndelayed l kind index x (λ _. w) w
+step-undelayed l hand-over e h w = w
+step-undelayed l (new-diagnosis count flags) e h w = diagnosed-undelayed l count flags w
+step-undelayed l (judge-parameters j) e h w =
     parameters-cases LeavesUndelayed l j (λ _ _. w)
     (λ _. quiet-undelayed l w (parameters-quiet (l .setup) (l .control) (some (l .buffers .parameters .waiting)) (eqb j 1) tt))
-step-undelayed l (judge-configuration j) e w =
+step-undelayed l (judge-configuration j) e h w =
     configuration-cases LeavesUndelayed l j (λ _ _. w)
     (λ _. quiet-undelayed l w (configuration-quiet (l .setup) (l .control) (some (l .buffers .configuration .waiting)) (eqb j 1) tt))
-step-undelayed l events e w = w
-step-undelayed l (acknowledge mask) e w = w
-step-undelayed l pending e w = w
-step-undelayed l leave e w = quiet-undelayed l w (clear-quiet (l .setup) (l .control) (busy l) (λ _. tt))
+step-undelayed l events e h w = w
+step-undelayed l (acknowledge mask) e h w = w
+step-undelayed l pending e h w = w
+step-undelayed l leave e h w = quiet-undelayed l w (clear-quiet (l .setup) (l .control) (busy l) (λ _. tt))
 
 -- ---------------------------------------------------------------------------------------------------
 -- Both.
@@ -204,16 +210,16 @@ step-undelayed l leave e w = quiet-undelayed l w (clear-quiet (l .setup) (l .con
 abbrev pub Waits : Chain → Ledger → Type 0
 Waits h l = (l .control .chain ≡ h) × Undelayed l
 
-module _ {h : Chain} where
-  -- settling
-  pub settle-waits : (l : Ledger) → l .control .chain ≡ h → l .line .diagnosing ≡ false → Waits h (settle l)
-  settle-waits l e f = (settle-chain l ∙ e, settle-undelayed l f)
+-- settling
+pub settle-waits : {h : Chain} (l : Ledger) → l .control .chain ≡ h → l .line .diagnosing ≡ false → Waits h (settle l)
+settle-waits l e f = (settle-chain l ∙ e, settle-undelayed l f)
 
+module _ {h : Chain} (d : diagnoses (drawnIn h) ≡ false) where
   -- every call
-  pub step-waits : (l : Ledger) (c : Call) → completesRequest l c ≡ false → Waits h l → Waits h (step l c .ledger)
-  step-waits l c e w = (chain-kept l c e ∙ w .0, step-undelayed l c e (w .1))
+  pub step-waits : (l : Ledger) (c : Call) → completesNewRequest l c ≡ false → Waits h l → Waits h (step l c .ledger)
+  step-waits l c e w = (chain-kept l c e ∙ w .0, step-undelayed l c e (ap (λ (k : Chain). diagnoses (drawnIn k)) (w .0) ∙ d) (w .1))
 
   -- a list of calls
-  pub after-waits : (l : Ledger) (cs : List Call) → NoRequest l cs → Waits h l → Waits h (after l cs)
+  pub after-waits : (l : Ledger) (cs : List Call) → NoNewRequest l cs → Waits h l → Waits h (after l cs)
   after-waits l [] n w = w
   after-waits l (c ∷ cs) n w = after-waits (step l c .ledger) cs (n .1) (step-waits l c (n .0) w)

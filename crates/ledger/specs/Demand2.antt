@@ -46,9 +46,9 @@ pub record Demand2 : Type 0 where
   pub repeat-is : RepeatIs
   -- at first there is no request to repeat
   pub start-has-none : StartHasNone
-  -- nothing but a request touches the chain
+  -- nothing but a new request touches the chain
   pub chain-kept : ChainKept
-  -- a new one goes into it or ends it, a repeat leaves it
+  -- which goes into it or ends it; a repeat leaves it
   pub chain-goes-on : (l : Ledger) (t : Telegram) → ChainGoesOn l t
   -- a request that drew E5 and is sent again draws E5, and nothing else comes of it
   pub e5-again : E5Again

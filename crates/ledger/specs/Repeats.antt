@@ -60,40 +60,45 @@ isWhole Inside = false
 isWhole Complete = true
 isWhole Broken = false
 
--- a call completes a request: an octet with which the octets since the gap are one
-abbrev pub completesRequest : Ledger → Call → Bool
-completesRequest l (octet b bad) =
-    not (l .line .ignored) && isWhole (status (readerAfter (run (l .line .telegram)) b bad))
-    && isRequest (l .setup) (requestBy (telegramOn (l .line .telegram ++ b ∷ [])))
-completesRequest l gap = false
-completesRequest l send = false
-completesRequest l tick = false
-completesRequest l take = false
-completesRequest l (read kind index) = false
-completesRequest l (write kind index x) = false
-completesRequest l hand-over = false
-completesRequest l (new-diagnosis count flags) = false
-completesRequest l (judge-parameters j) = false
-completesRequest l (judge-configuration j) = false
-completesRequest l events = false
-completesRequest l (acknowledge mask) = false
-completesRequest l pending = false
-completesRequest l leave = false
+-- a telegram is a request that repeats none
+abbrev pub isNew : Ledger → Telegram → Bool
+isNew l t = isRequest (l .setup) (requestBy t) && not (isRepeat (l .setup) (l .control) (requestBy t))
 
--- no call of a list completes a request; telegrams with function 4 or 6, and those that do not act, may come
-abbrev pub NoRequest : Ledger → List Call → Type 0
-NoRequest l [] = Unit
-NoRequest l (c ∷ cs) = (completesRequest l c ≡ false) × NoRequest (step l c .ledger) cs
+-- a call completes a new request: an octet with which the octets since the gap are one
+abbrev pub completesNewRequest : Ledger → Call → Bool
+completesNewRequest l (octet b bad) =
+    not (l .line .ignored) && isWhole (status (readerAfter (run (l .line .telegram)) b bad))
+    && isNew l (telegramOn (l .line .telegram ++ b ∷ []))
+completesNewRequest l gap = false
+completesNewRequest l send = false
+completesNewRequest l tick = false
+completesNewRequest l take = false
+completesNewRequest l (read kind index) = false
+completesNewRequest l (write kind index x) = false
+completesNewRequest l hand-over = false
+completesNewRequest l (new-diagnosis count flags) = false
+completesNewRequest l (judge-parameters j) = false
+completesNewRequest l (judge-configuration j) = false
+completesNewRequest l events = false
+completesNewRequest l (acknowledge mask) = false
+completesNewRequest l pending = false
+completesNewRequest l leave = false
+
+-- no call of a list completes a new request; repeats, telegrams with function 4 or 6, and those that do not act, may come: a repeat of a
+-- repeat is a repeat
+abbrev pub NoNewRequest : Ledger → List Call → Type 0
+NoNewRequest l [] = Unit
+NoNewRequest l (c ∷ cs) = (completesNewRequest l c ≡ false) × NoNewRequest (step l c .ledger) cs
 
 -- a station starts with no request that a telegram could repeat
 abbrev pub StartHasNone : Type 0
 StartHasNone = (s : Setup) (slice : List ℕ) → fresh s slice .control .chain ≡ noChain
 
--- nothing but a request touches the chain
+-- nothing but a new request touches the chain
 abbrev pub ChainKept : Type 0
-ChainKept = (l : Ledger) (c : Call) → completesRequest l c ≡ false → step l c .ledger .control .chain ≡ l .control .chain
+ChainKept = (l : Ledger) (c : Call) → completesNewRequest l c ≡ false → step l c .ledger .control .chain ≡ l .control .chain
 
--- and what a request makes of it
+-- and what becomes of it by a request
 pub record ChainGoesOn (l : Ledger) (t : Telegram) : Type 0 where
   -- a new one is what the next is compared with, or ends the chain if its FC bit 4 is clear
   pub new-goes-in : isRequest (l .setup) (requestBy t) ≡ true → isRepeat (l .setup) (l .control) (requestBy t) ≡ false
@@ -130,18 +135,18 @@ pub record NothingNew (p : Ledger) (u : Telegram) : Type 0 where
   pub inner-control : (xs ys : List ℕ) (y : ℕ) → octetsOf u ≡ xs ++ y ∷ ys → after p (hear xs) .control ≡ p .control
   pub inner-buffers : (xs ys : List ℕ) (y : ℕ) → octetsOf u ≡ xs ++ y ∷ ys → after p (hear xs) .buffers ≡ p .buffers
 
--- if t drew E5: so it is after any calls between that complete no request
+-- if t drew E5: so it is after any calls between that complete no new request
 abbrev pub E5Again : Type 0
 E5Again =
     (l : Ledger) (t u : Telegram) (cs : List Call) → SentAgain l t u
-    → outcomeOf l (requestBy t) (payloadOf t) .drawn ≡ drawn.Acknowledge → NoRequest (settle (completed l t)) cs
+    → outcomeOf l (requestBy t) (payloadOf t) .drawn ≡ drawn.Acknowledge → NoNewRequest (settle (completed l t)) cs
     → NothingNew (afterGap l t cs) u
 
 -- "the vat program gets the event twice" no more: a Set_Prm that no other master's ownership refuses, and its repeat
 abbrev pub SetPrmOnce : Type 0
 SetPrmOnce =
     (l : Ledger) (t u : Telegram) (cs : List Call) → SentAgain l t u → serviceOf (l .setup) (requestBy t) ≡ SetPrm
-    → otherOwns (l .control) (masterOf (requestBy t)) ≡ false → NoRequest (settle (completed l t)) cs
+    → otherOwns (l .control) (masterOf (requestBy t)) ≡ false → NoNewRequest (settle (completed l t)) cs
     → NothingNew (afterGap l t cs) u
 
 -- "the outputs of a repeated Data_Exchange count as accepted a single time": a repeat has no deed but that of a noted clear at its end

@@ -1,7 +1,7 @@
 -- The chain after a telegram, and which telegram is a repeat by it.
 use mathlib.Core.Path.{_≡_, refl, sym, ap, _∙_}
-use mathlib.Core.Bool.{Bool, true, false, cond, not, _&&_, _||_}
-use mathlib.Core.Logic.{_↔_}
+use mathlib.Core.Bool.{Bool, true, false, cond, not, _&&_, _||_, and-true}
+use mathlib.Core.Logic.{_↔_, _⊎_, inl, inr}
 use lib.Dec.{eqb}
 use borrow.Author.Tests.{eq-eqb, eqb-true}
 use Rattle.telegram.proofs.Run.{no-true}
@@ -10,7 +10,7 @@ use Rattle.state.specs.declared.control.Control.{Control}
 use Rattle.state.specs.declared.chain.Chain.{Chain}
 use Rattle.state.specs.declared.state.Drawn.{Drawn}
 use Rattle.state.specs.declared.state.Drawn.the-variants.{Nothing, Acknowledge}
-use Rattle.state.specs.Chain.{chainOf, fcbIn}
+use Rattle.state.specs.Chain.{chainOf, fcbIn, drawnIn}
 use Rattle.state.specs.Well.{within}
 use Rattle.state.proofs.SetCodes.{fcb-in}
 use Rattle.state.proofs.Choice.{by-test, either, and-left, and-right}
@@ -79,13 +79,6 @@ module _ (g : Setup) (c : Control) (b : Occupied) (r : Request) (octets : Data) 
   pub by-repeat : {t : Bool} → isRepeat g c r ≡ t → outcomeBy g c b r octets ≡ cond t (repeated g c r) (chained g r first)
   by-repeat e = ap (λ (t : Bool). cond t (repeated g c r) (chained g r first)) e
 
-  -- what is no request leaves the chain and draws nothing
-  pub unasked-leaves : isRequest g r ≡ false → (outcomeBy g c b r octets .control .chain ≡ c .chain) × (outcomeBy g c b r octets .drawn ≡ Nothing)
-  unasked-leaves e =
-      by-test (λ (o : Outcome). (o .control .chain ≡ c .chain) × (o .drawn ≡ Nothing)) (isRepeat g c r) (repeated g c r) (chained g r first)
-      (λ x. no-true (sym e ∙ repeat-exactly g c r .0 x .0))
-      (λ _. rw e (serve-chain g (refilled g c r) b r octets ∙ refilled-alike g c r .chain-same, unasked-silent g (refilled g c r) b r octets e .2))
-
   -- a new request with bit 4 set is what a later one is compared with, and one with bit 4 clear ends the chain
   pub request-chain : isRequest g r ≡ true → isRepeat g c r ≡ false → outcomeBy g c b r octets .control .chain ≡ chainBy r (outcomeBy g c b r octets .drawn)
   request-chain a n =
@@ -97,6 +90,17 @@ module _ (g : Setup) (c : Control) (b : Occupied) (r : Request) (octets : Data) 
   -- a repeat leaves it
   pub repeat-chain : isRepeat g c r ≡ true → outcomeBy g c b r octets .control .chain ≡ c .chain
   repeat-chain e = ap (λ (o : Outcome). o .control .chain) (by-repeat e) ∙ refilled-alike g c r .chain-same
+
+  -- what is no new request leaves it, and draws what the chain holds or nothing
+  pub old-leaves : isRequest g r && not (isRepeat g c r) ≡ false
+      → (outcomeBy g c b r octets .control .chain ≡ c .chain)
+      × ((outcomeBy g c b r octets .drawn ≡ drawnIn (c .chain)) ⊎ (outcomeBy g c b r octets .drawn ≡ Nothing))
+  old-leaves n =
+      by-test (λ (o : Outcome). (o .control .chain ≡ c .chain) × ((o .drawn ≡ drawnIn (c .chain)) ⊎ (o .drawn ≡ Nothing))) (isRepeat g c r)
+      (repeated g c r) (chained g r first)
+      (λ _. (refilled-alike g c r .chain-same, inl refl))
+      (λ f. let e : isRequest g r ≡ false = sym (and-true (isRequest g r)) ∙ (λ i. isRequest g r && not (sym f i)) ∙ n in
+      rw e (serve-chain g (refilled g c r) b r octets ∙ refilled-alike g c r .chain-same, inr (unasked-silent g (refilled g c r) b r octets e .2)))
 
 -- ---- Set_Prm
 
