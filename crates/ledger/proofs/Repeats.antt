@@ -9,8 +9,9 @@ use Rattle.telegram.specs.Reading.{run, status}
 use Rattle.telegram.specs.Sending.{startOctet}
 use Rattle.state.specs.declared.chain.Chain.{Chain}
 use Rattle.state.specs.declared.setup.Setup.{Setup}
+use Rattle.state.specs.declared.state.Drawn.{Drawn}
 use Rattle.state.specs.declared.state.Drawn.the-variants.{Nothing, Acknowledge}
-use Rattle.state.specs.Chain.{chainOf, drawnIn}
+use Rattle.state.specs.Chain.{chainOf, noChain, drawnIn}
 use Rattle.state.proofs.SetCodes.{drawn-in}
 use Rattle.rules.specs.declared.outcome.Outcome.{Outcome}
 use Rattle.rules.specs.Call.{Call, gap}
@@ -18,21 +19,22 @@ use Rattle.rules.specs.Diagnosis.{isDelayed, delayed}
 use Rattle.rules.specs.Line.{clearing}
 use Rattle.rules.specs.Phases.{drawing}
 use Rattle.rules.specs.Replies.{diagnoses}
-use Rattle.rules.specs.Requests.{masterOf, refilled}
+use Rattle.rules.specs.Requests.{masterOf}
 use Rattle.rules.specs.Retries.{isRequest, fcvOf, fcbOf, isRepeat}
 use Rattle.rules.proofs.Alike.{refilled-alike}
-use Rattle.rules.proofs.Repeats.{is-repeat, by-repeat, request-chain, set-prm-draws}
-use Rattle.ledger.specs.Ledger.{Line, Ledger, withControl, withLine, busy, occupied}
+use Rattle.rules.proofs.ByCases.{refilled-same}
+use Rattle.rules.proofs.Repeats.{is-repeat, by-repeat, set-prm-draws}
+use Rattle.ledger.specs.Ledger.{Line, Ledger, withLine, busy, occupied}
 use Rattle.ledger.specs.Outcome.{carried, afterReply, settle}
 use Rattle.ledger.specs.Bus.{requestBy, dataBy, outcomeOf, answered, completed, lengthened, beginning, paused, gapped}
 use Rattle.ledger.specs.Calls.{step, after}
 use Rattle.ledger.specs.Hearing.{hear, begunBy}
 use Rattle.ledger.specs.History.{clears, deedsBy}
-use Rattle.ledger.specs.Repeats.{SentAgain, gapAfter, NothingNew, E5Again, SetPrmOnce, NoDeedAgain}
+use Rattle.ledger.specs.Repeats.{again, RepeatIs, SentAgain, afterGap, NothingNew, E5Again, SetPrmOnce, NoDeedAgain}
 use Rattle.ledger.proofs.Settling.{settle-line, settle-setup}
 use Rattle.ledger.proofs.Kept.{step-kept, after-kept}
 use Rattle.ledger.proofs.Hearing.{unfinished, completed-on, inner-heard, begun-heard, hears}
-use Rattle.ledger.proofs.RequestKept.{Waits, settle-waits, step-waits, after-waits}
+use Rattle.ledger.proofs.RequestKept.{chain-goes-on, Waits, settle-waits, step-waits, after-waits}
 
 -- ---------------------------------------------------------------------------------------------------
 -- A busy line with nothing delayed.
@@ -83,29 +85,21 @@ module _ (t : Telegram) (v : Valid t) where
 -- ---------------------------------------------------------------------------------------------------
 -- The last octet.
 
--- the ledger with E5 drawn by a repeat
-abbrev again : Ledger → Telegram → Ledger
-again l t =
-    withLine (withControl l (refilled (l .setup) (l .control) (requestBy t)))
-    (record { ignored = true; telegram = []; reply = 0xE5 ∷ []; diagnosing = false })
-
--- a repeat of what drew E5
-repeat-completed : (l : Ledger) (t : Telegram) → isRepeat (l .setup) (l .control) (requestBy t) ≡ true → drawnIn (l .control .chain) ≡ Acknowledge
-    → completed l t ≡ again l t
+-- a repeat draws what the chain holds, and that is all
+pub repeat-is : RepeatIs
 unfolding answered
-repeat-completed l t e d =
+repeat-is l t e =
     ap (λ (o : Outcome). answered l o (masterOf (requestBy t)) (payloadOf t))
-    (by-repeat (l .setup) (l .control) (occupied l) (requestBy t) (dataBy (payloadOf t)) e
-    ∙ ap (drawing (refilled (l .setup) (l .control) (requestBy t))) d)
+    (by-repeat (l .setup) (l .control) (occupied l) (requestBy t) (dataBy (payloadOf t)) e)
 
 -- heard whole after a gap
 repeat-heard : (l : Ledger) (t : Telegram) → Valid t → delayed (l .control) ≡ false → l .line .ignored ≡ false → l .line .telegram ≡ []
-    → isRepeat (l .setup) (l .control) (requestBy t) ≡ true → drawnIn (l .control .chain) ≡ Acknowledge → after l (hear (octetsOf t)) ≡ again l t
+    → isRepeat (l .setup) (l .control) (requestBy t) ≡ true → drawnIn (l .control .chain) ≡ Acknowledge → after l (hear (octetsOf t)) ≡ again Acknowledge l t
 repeat-heard l t v n i e r d =
     hears l t .ledger-is i e v
     ∙ ap (λ (m : Ledger). settle (completed m t)) (begun-stays l (startOctet (kindOf t)) n)
-    ∙ ap settle (completed-on l (beginning (startOctet (kindOf t))) t ∙ repeat-completed l t r d)
-    ∙ settle-stays (again l t) (ap isDelayed (refilled-alike (l .setup) (l .control) (requestBy t) .diagnosis-same) ∙ n) refl
+    ∙ ap settle (completed-on l (beginning (startOctet (kindOf t))) t ∙ repeat-is l t r ∙ ap (λ (x : Drawn). again x l t) d)
+    ∙ settle-stays (again Acknowledge l t) (ap isDelayed (refilled-alike (l .setup) (l .control) (requestBy t) .diagnosis-same) ∙ n) refl
 
 -- ---------------------------------------------------------------------------------------------------
 -- Sent again.
@@ -114,17 +108,22 @@ repeat-heard l t v n i e r d =
 abbrev e5Chain : Telegram → Chain
 e5Chain t = chainOf (masterOf (requestBy t)) (fcbOf (requestBy t)) Acknowledge
 
+-- it holds E5
+e5-drawn : (t : Telegram) → drawnIn (e5Chain t) ≡ Acknowledge
+e5-drawn t = drawn-in (masterOf (requestBy t)) (fcbOf (requestBy t)) Acknowledge
+
 -- its repeat after a gap
 nothing-new : (l : Ledger) (t : Telegram) → Valid t → Waits (e5Chain t) l → l .line .ignored ≡ false → l .line .telegram ≡ []
     → isRequest (l .setup) (requestBy t) ≡ true → fcvOf (requestBy t) ≡ true → NothingNew l t
 nothing-new l t v w i e a b =
     let r = requestBy t in
-    let n = w .none-delayed in
-    let s = repeat-heard l t v n i e (is-repeat (l .setup) (l .control) r Acknowledge a b (w .chain-is)) (ap drawnIn (w .chain-is) ∙ drawn-in (masterOf r) (fcbOf r) Acknowledge) in
+    let n = w .1 .none-delayed in
+    let s = repeat-heard l t v n i e (is-repeat (l .setup) (l .control) r Acknowledge a b (w .0)) (ap drawnIn (w .0) ∙ e5-drawn t) in
     record {
       draws-e5 = ap (λ (m : Ledger). m .line .reply) s;
       control-is = ap (λ (m : Ledger). m .control) s;
       buffers-are = ap (λ (m : Ledger). m .buffers) s;
+      events-stay = ap (λ (m : Ledger). m .control .events) s ∙ refilled-same (l .setup) (l .control) r .1;
       inner-control = λ xs ys y o. part-same t v l xs y ys n i e o .0;
       inner-buffers = λ xs ys y o. part-same t v l xs y ys n i e o .1;
     }
@@ -140,12 +139,12 @@ request-waits : (l : Ledger) (t u : Telegram) → SentAgain l t u → outcomeOf 
 unfolding answered
 request-waits l t u s d =
     settle-waits (completed l t)
-    (request-chain (l .setup) (l .control) (occupied l) (requestBy t) (dataBy (payloadOf t)) (s .first-asks) (s .first-counts) (s .first-new)
-    ∙ (λ i. chainOf (sym (s .same-master) i) (sym (s .same-bit) i) (d i)))
+    (chain-goes-on l t .new-goes-in (s .first-asks) (s .first-new)
+    ∙ (λ i. cond (s .first-counts i) (chainOf (sym (s .same-master) i) (sym (s .same-bit) i) (d i)) noChain))
     (ap diagnoses d)
 
 -- the setup after it, the calls cs and a gap
-setup-stays : (l : Ledger) (t : Telegram) (cs : List Call) → gapAfter l t cs .setup ≡ l .setup
+setup-stays : (l : Ledger) (t : Telegram) (cs : List Call) → afterGap l t cs .setup ≡ l .setup
 unfolding answered
 setup-stays l t cs =
     let m = settle (completed l t) in
@@ -156,7 +155,8 @@ pub e5-again : E5Again
 e5-again l t u cs s d n =
     let k = settle (completed l t) in
     let m = after k cs in
-    nothing-new (gapAfter l t cs) u (s .second-valid) (step-waits m gap refl (after-waits k cs n (request-waits l t u s d)))
+    let x = ap diagnoses (e5-drawn u) in
+    nothing-new (afterGap l t cs) u (s .second-valid) (step-waits x m gap refl (after-waits x k cs n (request-waits l t u s d)))
     (ap (λ (x : Line). x .ignored) (gap-line m)) (ap (λ (x : Line). x .telegram) (gap-line m))
     (ap (λ (x : Setup). isRequest x (requestBy u)) (setup-stays l t cs) ∙ s .second-asks) (s .second-counts)
 

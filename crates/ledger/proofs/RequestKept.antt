@@ -1,4 +1,4 @@
--- What calls that complete no request keep (specs/Repeats.antt): the chain, and that no diagnosis is or can be delayed.
+-- What becomes of the chain by every call (specs/Repeats.antt), and that no diagnosis is or can be delayed by calls that complete no new request.
 use Prim.Native.Nat.{ℕ}
 use mathlib.Core.Path.{_≡_, refl, sym, ap, _∙_}
 use mathlib.Core.Bool.{Bool, false, not, _&&_, and-true}
@@ -10,120 +10,216 @@ use Rattle.telegram.specs.declared.reader.Status.the-variants.{Fresh, Inside, C
 use Rattle.telegram.specs.Telegram.{Telegram, payloadOf}
 use Rattle.telegram.specs.Reading.{run, readerAfter, status}
 use Rattle.telegram.proofs.Run.{no-true}
+use Rattle.state.specs.declared.setup.Setup.{Setup}
 use Rattle.state.specs.declared.chain.Chain.{Chain}
+use Rattle.state.specs.declared.control.Control.{Control}
+use Rattle.state.specs.Chain.{drawnIn}
 use Rattle.state.specs.Well.{within}
 use Rattle.state.proofs.Choice.{by-test, either, and-left}
 use Rattle.rules.specs.declared.outcome.Outcome.{Outcome}
-use Rattle.rules.specs.Diagnosis.{isDelayed, delayed, diagnosed, caughtUp}
+use Rattle.rules.specs.Diagnosis.{isDelayed, delayed, diagnosed, delaying, caughtUp}
 use Rattle.rules.specs.Replies.{diagnoses}
-use Rattle.rules.specs.Retries.{isRequest}
 use Rattle.rules.specs.Call.{Call, octet, gap, send, tick, take, read, write, hand-over, new-diagnosis, judge-parameters, judge-configuration, events, acknowledge, pending, leave}
 use Rattle.rules.proofs.Served.{Quiet, clear-quiet, clear-noted-quiet, ticked-quiet, parameters-quiet, configuration-quiet}
-use Rattle.rules.proofs.Repeats.{unasked-leaves}
+use Rattle.rules.proofs.Repeats.{request-chain, repeat-chain, old-leaves}
 use Rattle.ledger.specs.Lists.{some}
 use Rattle.ledger.specs.Ledger.{Line, Ledger, withLine, begun, busy, diagnosisLeaves, occupied}
 use Rattle.ledger.specs.Outcome.{carried, diagnosisChanged, afterReply, settle}
 use Rattle.ledger.specs.Bus.{telegramOn, requestBy, dataBy, answered, completed, brokenOff, beginning, sendLeft, silenced, heardAs, heard, paused, afterSend, elapsed, gapped}
 use Rattle.ledger.specs.User.{Told, handOver, newDiagnosis, acknowledgeEvents, leaveMaster}
 use Rattle.ledger.specs.Calls.{step, after}
-use Rattle.ledger.specs.Repeats.{isWhole, completesRequest, NoRequest}
-use Rattle.ledger.proofs.ByCases.{take-cases, read-cases, write-cases, parameters-cases, configuration-cases}
+use Rattle.ledger.specs.Repeats.{isWhole, isNew, completesNewRequest, NoNewRequest, StartHasNone, ChainKept, ChainGoesOn}
+use Rattle.ledger.proofs.ByCases.{take-cases, read-cases, write-cases, diagnosis-cases, parameters-cases, configuration-cases}
 
--- the chain is h, the reply is no Slave_Diag's, and no diagnosis is delayed
-pub record WaitsBy (h chain : Chain) (diagnosing late : Bool) : Type 0 where
-  pub chain-is : chain ≡ h
+-- the octets since the gap are no new request with b
+abbrev NoneWith : Ledger → ℕ → Status → Type 0
+NoneWith l b s = isWhole s && isNew l (telegramOn (l .line .telegram ++ b ∷ [])) ≡ false
+
+-- so it is of an octet that is heard and completes none
+heard-none : (l : Ledger) (b : ℕ) (bad : Bool) → completesNewRequest l (octet b bad) ≡ false → l .line .ignored ≡ false
+    → NoneWith l b (status (readerAfter (run (l .line .telegram)) b bad))
+heard-none l b bad e i =
+    (λ k. not (sym i k) && isWhole (status (readerAfter (run (l .line .telegram)) b bad)) && isNew l (telegramOn (l .line .telegram ++ b ∷ []))) ∙ e
+
+-- ---------------------------------------------------------------------------------------------------
+-- The chain.
+
+-- m has the chain of l
+abbrev SameChain : Ledger → Ledger → Type 0
+SameChain l m = m .control .chain ≡ l .control .chain
+
+-- so does what a call leaves
+abbrev LeavesChain : Ledger → Told → Type 0
+LeavesChain l t = SameChain l (t .ledger)
+
+-- an outcome without a telegram
+quiet-chain : {g : Setup} {c : Control} {o : Outcome} → Quiet g c Unit o → o .control .chain ≡ c .chain
+quiet-chain q = ⊎-elim (λ e. e) (λ x. absurd (x .0)) (q .chain-comes)
+
+-- a delayed diagnosis and a noted clear
+settle-chain : (l : Ledger) → SameChain l (settle l)
+unfolding settle afterReply diagnosed
+settle-chain l =
+    quiet-chain (clear-noted-quiet (afterReply l .setup) (afterReply l .control) (busy l) (λ _. tt))
+    ∙ by-test (SameChain l) (delayed (l .control) && not (diagnosisLeaves l)) (diagnosisChanged l (caughtUp (l .control))) l (λ _. refl) (λ _. refl)
+
+-- an octet, by what the octets are with it
+heard-chain : (l : Ledger) (b : ℕ) (s : Status) → NoneWith l b s → SameChain l (heardAs s l b)
+unfolding answered
+heard-chain l b Fresh e = refl
+heard-chain l b Inside e = either (SameChain l) (begun l) refl (settle-chain (withLine l (beginning b)))
+heard-chain l b Complete e =
+    let t = telegramOn (l .line .telegram ++ b ∷ []) in
+    settle-chain (completed l t) ∙ old-leaves (l .setup) (l .control) (occupied l) (requestBy t) (dataBy (payloadOf t)) e .0
+heard-chain l b Broken e = settle-chain (withLine l (brokenOff (l .line)))
+
+-- every call
+pub chain-kept : ChainKept
+unfolding heard paused afterSend elapsed handOver diagnosed delaying acknowledgeEvents leaveMaster
+chain-kept l (octet b bad) e =
+    let s = status (readerAfter (run (l .line .telegram)) b bad) in
+    by-test (SameChain l) (l .line .ignored) l (heardAs s l b) (λ _. refl) (λ i. heard-chain l b s (heard-none l b bad e i))
+chain-kept l gap e = settle-chain (withLine l (gapped (l .line)))
+chain-kept l send e = settle-chain (withLine l (sendLeft (l .line) (l .line .reply)))
+chain-kept l tick e =
+    either (SameChain l) (l .control .noted) (settle-chain (withLine l (silenced l)))
+    (quiet-chain (ticked-quiet (l .setup) (l .control) (busy l) (λ _. tt)))
+chain-kept l take e = take-cases (LeavesChain l) l (λ _. refl) (λ _. refl)
+chain-kept l (read kind index) e = read-cases (LeavesChain l) l kind index (λ _. refl) refl
+chain-kept l (write kind index x) e = write-cases (LeavesChain l) l kind index x (λ _. refl) refl
+chain-kept l hand-over e = refl
+chain-kept l (new-diagnosis count flags) e = diagnosis-cases (LeavesChain l) l count flags (λ _. refl) (λ _. refl) (λ _. refl)
+chain-kept l (judge-parameters j) e =
+    parameters-cases (LeavesChain l) l j (λ _ _. refl)
+    (λ _. quiet-chain (parameters-quiet (l .setup) (l .control) (some (l .buffers .parameters .waiting)) (eqb j 1) tt))
+chain-kept l (judge-configuration j) e =
+    configuration-cases (LeavesChain l) l j (λ _ _. refl)
+    (λ _. quiet-chain (configuration-quiet (l .setup) (l .control) (some (l .buffers .configuration .waiting)) (eqb j 1) tt))
+chain-kept l events e = refl
+chain-kept l (acknowledge mask) e = refl
+chain-kept l pending e = refl
+chain-kept l leave e = quiet-chain (clear-quiet (l .setup) (l .control) (busy l) (λ _. tt))
+
+-- a request
+pub chain-goes-on : (l : Ledger) (t : Telegram) → ChainGoesOn l t
+unfolding answered
+chain-goes-on l t = record {
+  new-goes-in = request-chain (l .setup) (l .control) (occupied l) (requestBy t) (dataBy (payloadOf t));
+  repeat-leaves = repeat-chain (l .setup) (l .control) (occupied l) (requestBy t) (dataBy (payloadOf t));
+}
+
+-- Start
+pub start-has-none : StartHasNone
+start-has-none s slice = refl
+
+-- ---------------------------------------------------------------------------------------------------
+-- No diagnosis.
+
+-- the reply is no Slave_Diag's, and no diagnosis is delayed
+pub record UndelayedBy (diagnosing late : Bool) : Type 0 where
   pub no-diagnosis : diagnosing ≡ false
   pub none-delayed : late ≡ false
 
 -- so it is of a ledger
-abbrev pub Waits : Chain → Ledger → Type 0
-Waits h l = WaitsBy h (l .control .chain) (l .line .diagnosing) (delayed (l .control))
+abbrev pub Undelayed : Ledger → Type 0
+Undelayed l = UndelayedBy (l .line .diagnosing) (delayed (l .control))
 
 -- and of what a call leaves
-abbrev Leaves : Chain → Told → Type 0
-Leaves h t = Waits h (t .ledger)
+abbrev LeavesUndelayed : Told → Type 0
+LeavesUndelayed t = Undelayed (t .ledger)
+
+-- a repeat would draw no Slave_Diag's reply
+abbrev NoDiagnosisAgain : Ledger → Type 0
+NoDiagnosisAgain l = diagnoses (drawnIn (l .control .chain)) ≡ false
 
 -- a send leaves whose reply it is
 sent-diagnosing : (n : Line) (xs : List ℕ) → sendLeft n xs .diagnosing ≡ n .diagnosing
 sent-diagnosing n [] = refl
 sent-diagnosing n (x ∷ xs) = refl
 
-module _ {h : Chain} where
-  -- an outcome without a telegram
-  quiet-waits : (l : Ledger) {o : Outcome} → Waits h l → Quiet (l .setup) (l .control) Unit o → Waits h (carried l o [])
-  quiet-waits l w q = record {
-    chain-is = ⊎-elim (λ e. e ∙ w .chain-is) (λ x. absurd (x .0)) (q .chain-comes);
-    no-diagnosis = w .no-diagnosis;
-    none-delayed = ap isDelayed (q .counts-stay) ∙ w .none-delayed;
-  }
+-- an outcome without a telegram
+quiet-undelayed : (l : Ledger) {o : Outcome} → Undelayed l → Quiet (l .setup) (l .control) Unit o → Undelayed (carried l o [])
+quiet-undelayed l w q = record { no-diagnosis = w .no-diagnosis; none-delayed = ap isDelayed (q .counts-stay) ∙ w .none-delayed }
 
-  -- a delayed diagnosis takes effect where the reply is no Slave_Diag's
-  catches-up : (l : Ledger) → l .control .chain ≡ h → l .line .diagnosing ≡ false → Waits h (afterReply l)
-  unfolding afterReply diagnosed
-  catches-up l e f =
-      by-test (Waits h) (delayed (l .control) && not (diagnosisLeaves l)) (diagnosisChanged l (caughtUp (l .control))) l
-      (λ _. record { chain-is = e; no-diagnosis = f; none-delayed = refl })
-      (λ d. record { chain-is = e; no-diagnosis = f; none-delayed = sym (and-true (delayed (l .control))) ∙ (λ i. delayed (l .control) && not (sym f i && some (l .line .reply))) ∙ d })
+-- a delayed diagnosis takes effect where the reply is no Slave_Diag's
+catches-up : (l : Ledger) → l .line .diagnosing ≡ false → Undelayed (afterReply l)
+unfolding afterReply diagnosed
+catches-up l f =
+    by-test Undelayed (delayed (l .control) && not (diagnosisLeaves l)) (diagnosisChanged l (caughtUp (l .control))) l
+    (λ _. record { no-diagnosis = f; none-delayed = refl })
+    (λ d. record { no-diagnosis = f; none-delayed = sym (and-true (delayed (l .control))) ∙ (λ i. delayed (l .control) && not (sym f i && some (l .line .reply))) ∙ d })
 
-  -- so nothing is delayed behind settling
-  pub settle-waits : (l : Ledger) → l .control .chain ≡ h → l .line .diagnosing ≡ false → Waits h (settle l)
-  unfolding settle
-  settle-waits l e f = quiet-waits (afterReply l) (catches-up l e f) (clear-noted-quiet (afterReply l .setup) (afterReply l .control) (busy l) (λ _. tt))
+-- so nothing is delayed behind settling
+settle-undelayed : (l : Ledger) → l .line .diagnosing ≡ false → Undelayed (settle l)
+unfolding settle
+settle-undelayed l f =
+    quiet-undelayed (afterReply l) (catches-up l f) (clear-noted-quiet (afterReply l .setup) (afterReply l .control) (busy l) (λ _. tt))
 
-  -- a telegram that is no request
-  unasked-waits : (l : Ledger) (t : Telegram) → isRequest (l .setup) (requestBy t) ≡ false → Waits h l → Waits h (settle (completed l t))
-  unfolding answered
-  unasked-waits l t e w =
-      let x = unasked-leaves (l .setup) (l .control) (occupied l) (requestBy t) (dataBy (payloadOf t)) e in
-      settle-waits (completed l t) (x .0 ∙ w .chain-is) (ap diagnoses (x .1))
+-- an octet, by what the octets are with it
+heard-undelayed : (l : Ledger) (b : ℕ) (s : Status) → NoneWith l b s → NoDiagnosisAgain l → Undelayed l → Undelayed (heardAs s l b)
+unfolding answered
+heard-undelayed l b Fresh e h w = w
+heard-undelayed l b Inside e h w = either Undelayed (begun l) w (settle-undelayed (withLine l (beginning b)) refl)
+heard-undelayed l b Complete e h w =
+    let t = telegramOn (l .line .telegram ++ b ∷ []) in
+    settle-undelayed (completed l t)
+    (⊎-elim (λ d. ap diagnoses d ∙ h) (λ d. ap diagnoses d) (old-leaves (l .setup) (l .control) (occupied l) (requestBy t) (dataBy (payloadOf t)) e .1))
+heard-undelayed l b Broken e h w = settle-undelayed (withLine l (brokenOff (l .line))) (w .no-diagnosis)
 
-  -- an octet, by what the octets are with it
-  heard-waits : (l : Ledger) (b : ℕ) (s : Status) → isWhole s && isRequest (l .setup) (requestBy (telegramOn (l .line .telegram ++ b ∷ []))) ≡ false
-      → Waits h l → Waits h (heardAs s l b)
-  heard-waits l b Fresh e w = w
-  heard-waits l b Inside e w = either (Waits h) (begun l) w (settle-waits (withLine l (beginning b)) (w .chain-is) refl)
-  heard-waits l b Complete e w = unasked-waits l (telegramOn (l .line .telegram ++ b ∷ [])) e w
-  heard-waits l b Broken e w = settle-waits (withLine l (brokenOff (l .line))) (w .chain-is) (w .no-diagnosis)
+-- a new diagnosis takes effect at once
+diagnosed-undelayed : (l : Ledger) (count flags : ℕ) → Undelayed l → Undelayed (newDiagnosis l count flags .ledger)
+unfolding newDiagnosis diagnosed
+diagnosed-undelayed l count flags w =
+    either LeavesUndelayed (not (within 6 count (l .setup .«diagnosis_len») && leb flags 7)) w
+    (either LeavesUndelayed (delayed (l .control)) w
+    (by-test LeavesUndelayed (diagnosisLeaves l) _ _ (λ d. no-true (sym (w .no-diagnosis) ∙ and-left (l .line .diagnosing) _ d))
+    (λ _. record { no-diagnosis = w .no-diagnosis; none-delayed = refl })))
 
-  -- a new diagnosis takes effect at once
-  diagnosed-waits : (l : Ledger) (count flags : ℕ) → Waits h l → Waits h (newDiagnosis l count flags .ledger)
-  unfolding newDiagnosis diagnosed
-  diagnosed-waits l count flags w =
-      either (Leaves h) (not (within 6 count (l .setup .«diagnosis_len») && leb flags 7)) w
-      (either (Leaves h) (delayed (l .control)) w
-      (by-test (Leaves h) (diagnosisLeaves l) _ _ (λ d. no-true (sym (w .no-diagnosis) ∙ and-left (l .line .diagnosing) _ d))
-      (λ _. record { chain-is = w .chain-is; no-diagnosis = w .no-diagnosis; none-delayed = refl })))
+-- every call
+step-undelayed : (l : Ledger) (c : Call) → completesNewRequest l c ≡ false → NoDiagnosisAgain l → Undelayed l → Undelayed (step l c .ledger)
+unfolding heard paused afterSend elapsed handOver acknowledgeEvents leaveMaster
+step-undelayed l (octet b bad) e h w =
+    let s = status (readerAfter (run (l .line .telegram)) b bad) in
+    by-test Undelayed (l .line .ignored) l (heardAs s l b) (λ _. w) (λ i. heard-undelayed l b s (heard-none l b bad e i) h w)
+step-undelayed l gap e h w = settle-undelayed (withLine l (gapped (l .line))) (w .no-diagnosis)
+step-undelayed l send e h w =
+    settle-undelayed (withLine l (sendLeft (l .line) (l .line .reply))) (sent-diagnosing (l .line) (l .line .reply) ∙ w .no-diagnosis)
+step-undelayed l tick e h w =
+    either Undelayed (l .control .noted) (settle-undelayed (withLine l (silenced l)) refl)
+    (quiet-undelayed l w (ticked-quiet (l .setup) (l .control) (busy l) (λ _. tt)))
+step-undelayed l take e h w = take-cases LeavesUndelayed l (λ _. w) (λ _. w)
+step-undelayed l (read kind index) e h w = read-cases LeavesUndelayed l kind index (λ _. w) w
+step-undelayed l (write kind index x) e h w = write-cases LeavesUndelayed l kind index x (λ _. w) w
+step-undelayed l hand-over e h w = w
+step-undelayed l (new-diagnosis count flags) e h w = diagnosed-undelayed l count flags w
+step-undelayed l (judge-parameters j) e h w =
+    parameters-cases LeavesUndelayed l j (λ _ _. w)
+    (λ _. quiet-undelayed l w (parameters-quiet (l .setup) (l .control) (some (l .buffers .parameters .waiting)) (eqb j 1) tt))
+step-undelayed l (judge-configuration j) e h w =
+    configuration-cases LeavesUndelayed l j (λ _ _. w)
+    (λ _. quiet-undelayed l w (configuration-quiet (l .setup) (l .control) (some (l .buffers .configuration .waiting)) (eqb j 1) tt))
+step-undelayed l events e h w = w
+step-undelayed l (acknowledge mask) e h w = w
+step-undelayed l pending e h w = w
+step-undelayed l leave e h w = quiet-undelayed l w (clear-quiet (l .setup) (l .control) (busy l) (λ _. tt))
 
+-- ---------------------------------------------------------------------------------------------------
+-- Both.
+
+-- the chain is h, the reply is no Slave_Diag's, and no diagnosis is delayed
+abbrev pub Waits : Chain → Ledger → Type 0
+Waits h l = (l .control .chain ≡ h) × Undelayed l
+
+-- settling
+pub settle-waits : {h : Chain} (l : Ledger) → l .control .chain ≡ h → l .line .diagnosing ≡ false → Waits h (settle l)
+settle-waits l e f = (settle-chain l ∙ e, settle-undelayed l f)
+
+module _ {h : Chain} (d : diagnoses (drawnIn h) ≡ false) where
   -- every call
-  pub step-waits : (l : Ledger) (c : Call) → completesRequest l c ≡ false → Waits h l → Waits h (step l c .ledger)
-  unfolding heard paused afterSend elapsed handOver acknowledgeEvents leaveMaster
-  step-waits l (octet b bad) e w =
-      let s = status (readerAfter (run (l .line .telegram)) b bad) in
-      by-test (Waits h) (l .line .ignored) l (heardAs s l b) (λ _. w)
-      (λ i. heard-waits l b s ((λ k. not (sym i k) && isWhole s && isRequest (l .setup) (requestBy (telegramOn (l .line .telegram ++ b ∷ [])))) ∙ e) w)
-  step-waits l gap e w = settle-waits (withLine l (gapped (l .line))) (w .chain-is) (w .no-diagnosis)
-  step-waits l send e w =
-      settle-waits (withLine l (sendLeft (l .line) (l .line .reply))) (w .chain-is) (sent-diagnosing (l .line) (l .line .reply) ∙ w .no-diagnosis)
-  step-waits l tick e w =
-      either (Waits h) (l .control .noted) (settle-waits (withLine l (silenced l)) (w .chain-is) refl)
-      (quiet-waits l w (ticked-quiet (l .setup) (l .control) (busy l) (λ _. tt)))
-  step-waits l take e w = take-cases (Leaves h) l (λ _. w) (λ _. w)
-  step-waits l (read kind index) e w = read-cases (Leaves h) l kind index (λ _. w) w
-  step-waits l (write kind index x) e w = write-cases (Leaves h) l kind index x (λ _. w) w
-  step-waits l hand-over e w = w
-  step-waits l (new-diagnosis count flags) e w = diagnosed-waits l count flags w
-  step-waits l (judge-parameters j) e w =
-      parameters-cases (Leaves h) l j (λ _ _. w)
-      (λ _. quiet-waits l w (parameters-quiet (l .setup) (l .control) (some (l .buffers .parameters .waiting)) (eqb j 1) tt))
-  step-waits l (judge-configuration j) e w =
-      configuration-cases (Leaves h) l j (λ _ _. w)
-      (λ _. quiet-waits l w (configuration-quiet (l .setup) (l .control) (some (l .buffers .configuration .waiting)) (eqb j 1) tt))
-  step-waits l events e w = w
-  step-waits l (acknowledge mask) e w = w
-  step-waits l pending e w = w
-  step-waits l leave e w = quiet-waits l w (clear-quiet (l .setup) (l .control) (busy l) (λ _. tt))
+  pub step-waits : (l : Ledger) (c : Call) → completesNewRequest l c ≡ false → Waits h l → Waits h (step l c .ledger)
+  step-waits l c e w = (chain-kept l c e ∙ w .0, step-undelayed l c e (ap (λ (k : Chain). diagnoses (drawnIn k)) (w .0) ∙ d) (w .1))
 
   -- a list of calls
-  pub after-waits : (l : Ledger) (cs : List Call) → NoRequest l cs → Waits h l → Waits h (after l cs)
+  pub after-waits : (l : Ledger) (cs : List Call) → NoNewRequest l cs → Waits h l → Waits h (after l cs)
   after-waits l [] n w = w
   after-waits l (c ∷ cs) n w = after-waits (step l c .ledger) cs (n .1) (step-waits l c (n .0) w)

@@ -11,7 +11,7 @@ use Rattle.ledger.specs.ReadBack.{ReadingBack}
 use Rattle.ledger.specs.Octets.{SentOctets}
 use Rattle.ledger.specs.EventsFollow.{EventsOpen, PublishingRaises}
 use Rattle.ledger.specs.ModesKept.{ModesAlways}
-use Rattle.ledger.specs.Repeats.{E5Again, SetPrmOnce, NoDeedAgain}
+use Rattle.ledger.specs.Repeats.{RepeatExactly, RepeatIs, StartHasNone, ChainKept, ChainGoesOn, E5Again, SetPrmOnce, NoDeedAgain}
 
 pub record Demand2 : Type 0 where
   -- of every list of octets the reader tells what the grammar says
@@ -40,6 +40,16 @@ pub record Demand2 : Type 0 where
   pub publishing-raises : PublishingRaises
   -- a mode is on in DATA_EXCH alone and where Set_Prm allowed it, and something is held back in sync alone
   pub modes-kept : ModesAlways
+  -- a repeat is exactly a request with FC bit 4 set and the last one's master and bit 5
+  pub repeat-exactly : RepeatExactly
+  -- a repeat refills the owner's watchdog and draws what the earlier request drew, nothing else
+  pub repeat-is : RepeatIs
+  -- at first there is no request to repeat
+  pub start-has-none : StartHasNone
+  -- nothing but a new request touches the chain
+  pub chain-kept : ChainKept
+  -- which goes into it or ends it; a repeat leaves it
+  pub chain-goes-on : (l : Ledger) (t : Telegram) → ChainGoesOn l t
   -- a request that drew E5 and is sent again draws E5, and nothing else comes of it
   pub e5-again : E5Again
   -- so a Set_Prm's event comes once

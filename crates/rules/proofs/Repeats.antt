@@ -1,14 +1,16 @@
 -- The chain after a telegram, and which telegram is a repeat by it.
 use mathlib.Core.Path.{_≡_, refl, sym, ap, _∙_}
-use mathlib.Core.Bool.{Bool, true, false, cond, not, _&&_, _||_}
+use mathlib.Core.Bool.{Bool, true, false, cond, not, _&&_, _||_, and-true}
+use mathlib.Core.Logic.{_↔_, _⊎_, inl, inr}
 use lib.Dec.{eqb}
-use borrow.Author.Tests.{eq-eqb}
+use borrow.Author.Tests.{eq-eqb, eqb-true}
 use Rattle.telegram.proofs.Run.{no-true}
 use Rattle.state.specs.declared.setup.Setup.{Setup}
 use Rattle.state.specs.declared.control.Control.{Control}
+use Rattle.state.specs.declared.chain.Chain.{Chain}
 use Rattle.state.specs.declared.state.Drawn.{Drawn}
 use Rattle.state.specs.declared.state.Drawn.the-variants.{Nothing, Acknowledge}
-use Rattle.state.specs.Chain.{chainOf, noChain, fcbIn}
+use Rattle.state.specs.Chain.{chainOf, fcbIn, drawnIn}
 use Rattle.state.specs.Well.{within}
 use Rattle.state.proofs.SetCodes.{fcb-in}
 use Rattle.state.proofs.Choice.{by-test, either, and-left, and-right}
@@ -21,7 +23,7 @@ use Rattle.rules.specs.declared.request.Service.the-variants.{SetPrm}
 use Rattle.rules.specs.declared.outcome.Outcome.{Outcome}
 use Rattle.rules.specs.Control.{bit}
 use Rattle.rules.specs.Requests.{masterOf, wantsNone, acts, refilled, serviceOf}
-use Rattle.rules.specs.Retries.{isRequest, fcvOf, fcbOf, same, isRepeat, chained, repeated}
+use Rattle.rules.specs.Retries.{isRequest, fcvOf, fcbOf, same, isRepeat, chainBy, chained, repeated}
 use Rattle.rules.specs.Services.{otherOwns, otherIdent, wantsWatchdog, badFactors, setPrm, serve, outcomeBy}
 use Rattle.rules.proofs.Alike.{refilled-alike}
 use Rattle.rules.proofs.ByCases.{refilled-same}
@@ -30,30 +32,41 @@ use Rattle.rules.proofs.Served.{serve-chain}
 
 -- ---- which telegram is a repeat
 
--- a repeat is a request
-repeat-asks : (g : Setup) (c : Control) (r : Request) → isRepeat g c r ≡ true → isRequest g r ≡ true
-repeat-asks g c r e =
+-- marks are the same exactly if they are equal
+same-exactly : (t u : Bool) → (same t u ≡ true) ↔ (t ≡ u)
+same-exactly true true = (λ _. refl, λ _. refl)
+same-exactly true false = (λ e. no-true e, λ e. sym e)
+same-exactly false true = (λ e. no-true e, λ e. no-true e)
+same-exactly false false = (λ _. refl, λ _. refl)
+
+-- a repeat is a request with bit 4 set, the last one's master and its bit 5
+pub repeat-exactly : (g : Setup) (c : Control) (r : Request)
+    → (isRepeat g c r ≡ true)
+    ↔ ((isRequest g r ≡ true) × (fcvOf r ≡ true) × (masterOf r ≡ c .chain .master) × (fcbOf r ≡ fcbIn (c .chain)))
+repeat-exactly g c r =
     let x = not (wantsNone r) in
+    let v = fcvOf r in
     let m = eqb (masterOf r) (c .chain .master) in
-    let a = and-left (acts g r) _ e in
-    let w = and-left x (fcvOf r) (and-left (x && fcvOf r) m (and-left (x && fcvOf r && m) _ (and-right (acts g r) _ e))) in
-    λ i. a i && w i
+    let b = same-exactly (fcbOf r) (fcbIn (c .chain)) in
+    (
+      λ e.
+        let all = and-right (acts g r) _ e in
+        let three = and-left (x && v && m) _ all in
+        let two = and-left (x && v) m three in
+        (
+          (λ i. and-left (acts g r) _ e i && and-left x v two i),
+          and-right x v two,
+          eqb-true (masterOf r) (c .chain .master) (and-right (x && v) m three),
+          b .0 (and-right (x && v && m) _ all),
+        ),
+      λ f. λ i. and-left (acts g r) x (f .0) i && (and-right (acts g r) x (f .0) i && f .1 i && eq-eqb (masterOf r) (c .chain .master) (f .2) i && b .1 (f .3) i),
+    )
 
--- a mark is the same as itself
-same-self : (t : Bool) → same t t ≡ true
-same-self true = refl
-same-self false = refl
-
--- a request with bit 4 set repeats one of that master with that bit 5
+-- so it is after one of that master with that bit 5
 pub is-repeat : (g : Setup) (c : Control) (r : Request) (d : Drawn) → isRequest g r ≡ true → fcvOf r ≡ true
     → c .chain ≡ chainOf (masterOf r) (fcbOf r) d → isRepeat g c r ≡ true
 is-repeat g c r d a v h =
-    let x = and-left (acts g r) (not (wantsNone r)) a in
-    let y = and-right (acts g r) (not (wantsNone r)) a in
-    let m = eq-eqb (masterOf r) (c .chain .master) (λ i. sym h i .master) in
-    let f : fcbIn (c .chain) ≡ fcbOf r = ap fcbIn h ∙ fcb-in (masterOf r) (fcbOf r) d in
-    let b = ap (same (fcbOf r)) f ∙ same-self (fcbOf r) in
-    λ i. x i && (y i && v i && m i && b i)
+    repeat-exactly g c r .1 (a, v, ap (λ (k : Chain). k .master) (sym h), sym (ap fcbIn h ∙ fcb-in (masterOf r) (fcbOf r) d))
 
 -- ---- the chain
 
@@ -66,21 +79,28 @@ module _ (g : Setup) (c : Control) (b : Occupied) (r : Request) (octets : Data) 
   pub by-repeat : {t : Bool} → isRepeat g c r ≡ t → outcomeBy g c b r octets ≡ cond t (repeated g c r) (chained g r first)
   by-repeat e = ap (λ (t : Bool). cond t (repeated g c r) (chained g r first)) e
 
-  -- what is no request leaves the chain and draws nothing
-  pub unasked-leaves : isRequest g r ≡ false → (outcomeBy g c b r octets .control .chain ≡ c .chain) × (outcomeBy g c b r octets .drawn ≡ Nothing)
-  unasked-leaves e =
-      by-test (λ (o : Outcome). (o .control .chain ≡ c .chain) × (o .drawn ≡ Nothing)) (isRepeat g c r) (repeated g c r) (chained g r first)
-      (λ x. no-true (sym e ∙ repeat-asks g c r x))
-      (λ _. rw e (serve-chain g (refilled g c r) b r octets ∙ refilled-alike g c r .chain-same, unasked-silent g (refilled g c r) b r octets e .2))
-
-  -- a new request with bit 4 set is what a later one is compared with
-  pub request-chain : isRequest g r ≡ true → fcvOf r ≡ true → isRepeat g c r ≡ false
-      → outcomeBy g c b r octets .control .chain ≡ chainOf (masterOf r) (fcbOf r) (outcomeBy g c b r octets .drawn)
-  request-chain a v n =
+  -- a new request with bit 4 set is what a later one is compared with, and one with bit 4 clear ends the chain
+  pub request-chain : isRequest g r ≡ true → isRepeat g c r ≡ false → outcomeBy g c b r octets .control .chain ≡ chainBy r (outcomeBy g c b r octets .drawn)
+  request-chain a n =
       let s = by-repeat n in
       ap (λ (o : Outcome). o .control .chain) s
-      ∙ (λ i. cond (a i) (cond (v i) (chainOf (masterOf r) (fcbOf r) (first .drawn)) noChain) (first .control .chain))
-      ∙ ap (λ (o : Outcome). chainOf (masterOf r) (fcbOf r) (o .drawn)) (sym s)
+      ∙ (λ i. cond (a i) (chainBy r (first .drawn)) (first .control .chain))
+      ∙ ap (λ (o : Outcome). chainBy r (o .drawn)) (sym s)
+
+  -- a repeat leaves it
+  pub repeat-chain : isRepeat g c r ≡ true → outcomeBy g c b r octets .control .chain ≡ c .chain
+  repeat-chain e = ap (λ (o : Outcome). o .control .chain) (by-repeat e) ∙ refilled-alike g c r .chain-same
+
+  -- what is no new request leaves it, and draws what the chain holds or nothing
+  pub old-leaves : isRequest g r && not (isRepeat g c r) ≡ false
+      → (outcomeBy g c b r octets .control .chain ≡ c .chain)
+      × ((outcomeBy g c b r octets .drawn ≡ drawnIn (c .chain)) ⊎ (outcomeBy g c b r octets .drawn ≡ Nothing))
+  old-leaves n =
+      by-test (λ (o : Outcome). (o .control .chain ≡ c .chain) × ((o .drawn ≡ drawnIn (c .chain)) ⊎ (o .drawn ≡ Nothing))) (isRepeat g c r)
+      (repeated g c r) (chained g r first)
+      (λ _. (refilled-alike g c r .chain-same, inl refl))
+      (λ f. let e : isRequest g r ≡ false = sym (and-true (isRequest g r)) ∙ (λ i. isRequest g r && not (sym f i)) ∙ n in
+      rw e (serve-chain g (refilled g c r) b r octets ∙ refilled-alike g c r .chain-same, inr (unasked-silent g (refilled g c r) b r octets e .2)))
 
 -- ---- Set_Prm
 
