@@ -1,4 +1,5 @@
--- A request that is sent again (document 02, Req 04): what its repeat draws, and that the vat program notices nothing of it.
+-- A request that is sent again (document 02, Req 04): what its repeat draws, what becomes of the chain, and that the vat program notices
+-- nothing of it.
 use Prim.Native.Nat.{ℕ}
 use mathlib.Core.Path.{_≡_}
 use mathlib.Core.Bool.{Bool, true, false, cond, not, _&&_}
@@ -118,7 +119,7 @@ pub record SentAgain (l : Ledger) (t u : Telegram) : Type 0 where
   pub same-master : masterOf (requestBy u) ≡ masterOf (requestBy t)
   pub same-bit : fcbOf (requestBy u) ≡ fcbOf (requestBy t)
 
--- the ledger after t was completed, the calls cs and a gap
+-- the ledger after the last octet of t (ByGrammar.antt: HeardAsFramed .whole), the calls cs and a gap
 abbrev pub afterGap : Ledger → Telegram → List Call → Ledger
 afterGap l t cs = step (after (settle (completed l t)) cs) gap .ledger
 
