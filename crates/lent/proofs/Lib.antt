@@ -2,7 +2,6 @@ pub mod Value
 pub mod Again
 pub mod Local
 pub mod OnLocal
-pub mod Behind
 pub mod Same
 pub mod Loops
 pub mod Partly

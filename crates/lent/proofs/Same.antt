@@ -24,6 +24,7 @@ use Rattle.rules.specs.Call.{Call}
 use Rattle.steps.specs.Safe.{Safe}
 use Rattle.steps.specs.Step.{stepOver}
 use Rattle.agreement.specs.Agreement.{memoryOf}
+use Rattle.steps.proofs.Behind.{behind, Alike, alike-heard, alike-paused, alike-elapsed}
 use Rattle.steps.proofs.KeepsSafe.{safe-heard, safe-paused, safe-elapsed}
 use Rattle.steps.proofs.KeepsSetup.{step-keeps}
 use Rattle.steps.proofs.KeepsSound.{step-sound}
@@ -33,7 +34,6 @@ use Rattle.steps.proofs.Guarded.{holds-well, called-steps}
 use Rattle.agreement.proofs.Agreement.{begins-ready, ready-after, later}
 use Rattle.steps.proofs.Runs.{memory-append}
 use Rattle.lent.specs.Run.{Beat, octet, gap, tick, beat, runBeats, callOf, calls, Same, LentSame, CarriesOver, Demand3CarriesOver}
-use Rattle.lent.proofs.Behind.{behind, alike-beat}
 
 -- ---- one octet, gap or Tick
 
@@ -41,6 +41,12 @@ pub safe-beat : (s : State) (m : List ℕ) → Safe s m → (x : Beat) → Safe 
 safe-beat s m h (octet b bad) = safe-heard s m b bad h
 safe-beat s m h gap = safe-paused s m h
 safe-beat s m h tick = safe-elapsed s m h
+
+-- it reads and writes only behind the state part
+alike-beat : (s : State) (m n : List ℕ) → Safe s m → Safe s n → behind m ≡ behind n → (x : Beat) → Alike (beat s m x) (beat s n x)
+alike-beat s m n h g e (octet b bad) = alike-heard s m n h g e b bad
+alike-beat s m n h g e gap = alike-paused s m n h g e
+alike-beat s m n h g e tick = alike-elapsed s m n h g e
 
 -- what is needed of a run's state and memory holds after it
 pub safe-run : (bs : List Beat) (s : State) (m : List ℕ) → Safe s m → Safe (runBeats s m bs .state) (runBeats s m bs .memory)

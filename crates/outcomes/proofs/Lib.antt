@@ -1,1 +1,2 @@
 pub mod CarriedOver
+pub mod Settled

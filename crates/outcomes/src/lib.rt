@@ -2,3 +2,4 @@
 pub mod carry;
 pub mod line;
 pub mod over;
+pub mod settling;

@@ -1,18 +1,20 @@
 -- Whether a phase or a stage is before the data, by its number, and the test of the data octets that are read or sent.
-use Prim.Native.Nat.{ℕ, _≤_}
+use Prim.Native.Nat.{ℕ, _≤_, _<_}
 use native.Mathlib.Omega.{arith}
 use mathlib.Core.Path.{_≡_, refl, sym, ap, _∙_}
 use mathlib.Core.Bool.{Bool, true, false, not, _&&_, _||_}
 use lib.Dec.{leb, eqb}
-use borrow.Author.Tests.{leb-true, le-leb, eqb-true, eqb-false}
+use borrow.Author.Tests.{leb-true, leb-false, le-leb, eqb-true, eqb-false, ne-eqb}
 use Rattle.telegram.specs.declared.reader.Phase.{Phase}
 use Rattle.telegram.specs.declared.reader.Phase.the-variants as reading
 use Rattle.telegram.specs.declared.sender.Stage.{Stage}
 use Rattle.telegram.specs.declared.sender.Stage.the-variants as stage
+use Rattle.telegram.specs.Reading.{inBody}
 use Rattle.telegram.specs.Counts.{beforeData, stageBeforeData}
 use Rattle.telegram.proofs.Run.{no-true}
-use Rattle.state.specs.Number.{readingNumber, readingNumbered, stageNumber, stageNumbered}
+use Rattle.state.specs.Number.{readingNumber, readingCases, readingNumbered, stageNumber, stageNumbered}
 use Rattle.state.specs.Well.{partDone}
+use Rattle.state.proofs.Count.{past}
 use Rattle.state.proofs.Choice.{and-left, and-right, or-holds}
 use Rattle.state.proofs.Numbers.{reading-counted, stage-counted}
 
@@ -35,6 +37,33 @@ reading-before reading.Off = refl
 -- the same from the number
 pub reading-numbered : (n : ℕ) → n ≤ 12 → leb 9 n ≡ not (beforeData (readingNumbered n))
 reading-numbered n h = ap (leb 9) (sym (reading-counted n h)) ∙ reading-before (readingNumbered n)
+
+-- it is at the data exactly if its number is 9
+body-number : (p : Phase) → eqb (readingNumber p) 9 ≡ inBody p
+body-number reading.Start = refl
+body-number reading.Le = refl
+body-number reading.LeAgain = refl
+body-number reading.SdAgain = refl
+body-number reading.Da = refl
+body-number reading.Sa = refl
+body-number reading.Fc = refl
+body-number reading.Dsap = refl
+body-number reading.Ssap = refl
+body-number reading.Body = refl
+body-number reading.End = refl
+body-number reading.Done = refl
+body-number reading.Off = refl
+
+-- the same from the number, whatever it is
+pub body-numbered : (n : ℕ) → eqb n 9 ≡ inBody (readingNumbered n)
+unfolding readingNumbered
+body-numbered n = go (leb n 12) refl
+  where
+    go : (t : Bool) → leb n 12 ≡ t → eqb n 9 ≡ inBody (readingNumbered n)
+    go true e = ap (λ (k : ℕ). eqb k 9) (sym (reading-counted n (leb-true n 12 e))) ∙ body-number (readingNumbered n)
+    go false e =
+        let h : 12 < n = leb-false n 12 e in
+        ne-eqb n 9 (λ f. omega arith) ∙ ap inBody (past readingCases n (omega arith))
 
 -- a sender's stage is before the data exactly if its number is below 7
 pub stage-before : (g : Stage) → leb 7 (stageNumber g) ≡ not (stageBeforeData g)

@@ -1,10 +1,11 @@
 -- A part of the state packed alone: the memory then holds the state with that part changed.
-use Prim.Native.Nat.{ℕ, suc, _/_, _%_, _≤_, _<_}
+use Prim.Native.Nat.{ℕ, zero, suc, _+_, _/_, _%_, _≤_, _<_}
 use native.Mathlib.Omega.{arith}
 use mathlib.Core.Path.{_≡_, sym, ap, _∙_}
 use mathlib.Core.Bool.{Bool}
 use mathlib.Core.List.{List, [], _∷_}
 use lib.ListN.{length, set}
+use borrow.Author.Tests.{ne-eqb}
 use Rattle.buffers.specs.declared.events.Events.{Events}
 use Rattle.buffers.specs.declared.triple.Triple.{Triple}
 use Rattle.buffers.specs.Number.{numberOf, numberOf4}
@@ -21,7 +22,7 @@ use Rattle.state.specs.Layout.{stateLength}
 use Rattle.state.specs.Memory.{kept, Changes}
 use Rattle.state.specs.Number.{readingNumber, kindNumber, stageNumber, phaseNumber, drawnNumber}
 use Rattle.state.proofs.Front.{kept-kept}
-use Rattle.state.specs.With.{withStanding, withEventWord, withTicks, withChain, withOutputs, withInputs, withParameters, withConfiguration, withSwapped, withIncoming, withData, withSender, withOutline}
+use Rattle.state.specs.With.{withStanding, withEventWord, withTicks, withChain, withOutputs, withInputs, withParameters, withConfiguration, withSwapped, withIncoming, withRead, withKept, withSender, withOutline}
 
 -- ---- the octets lie in the memory
 
@@ -87,10 +88,21 @@ module _ (m : List ℕ) (s : State) (front : m ≡ kept s m) where
   unfolding image used
   incoming-saved i = ap (λ (l : List ℕ). wrote l 30 (incomingOctets i)) front
 
-  -- octets 33 and 39 to 41
-  pub data-saved : (at sum first second : ℕ) → wrote (wrote m 33 (at ∷ [])) 39 (sum ∷ first ∷ second ∷ []) ≡ kept (withData s at sum first second) m
+  -- octets 33 and 39
+  pub read-saved : (at sum : ℕ) → wrote (wrote m 33 (at ∷ [])) 39 (sum ∷ []) ≡ kept (withRead s at sum) m
   unfolding image used
-  data-saved at sum first second = ap (λ (l : List ℕ). wrote (wrote l 33 (at ∷ [])) 39 (sum ∷ first ∷ second ∷ [])) front
+  read-saved at sum = ap (λ (l : List ℕ). wrote (wrote l 33 (at ∷ [])) 39 (sum ∷ [])) front
+
+  -- octet 40 or 41
+  pub octet-kept : (k b : ℕ) → k < 2 → wrote m (40 + k) (b ∷ []) ≡ kept (withKept s k b) m
+  unfolding image used
+  octet-kept zero b h = ap (λ (l : List ℕ). wrote l 40 (b ∷ [])) front
+  octet-kept (suc zero) b h = ap (λ (l : List ℕ). wrote l 41 (b ∷ [])) front
+  octet-kept (suc (suc k)) b h = absurd (omega arith)
+
+  -- a later one is not
+  pub octet-past : (k b : ℕ) → 2 ≤ k → m ≡ kept (withKept s k b) m
+  octet-past k b h = rw (ne-eqb k 0 (λ e. omega arith), ne-eqb k 1 (λ e. omega arith)) front
 
   -- octets 10 to 17
   pub sender-saved : (x : Sender) → wrote (wrote m 16 (kindNumber (x .kind) ∷ stageNumber (x .stage) ∷ [])) 10 (senderOctets x) ≡ kept (withSender s x) m

@@ -1,6 +1,7 @@
 -- The state with a part of it changed.
 use Prim.Native.Nat.{ℕ}
-use mathlib.Core.Bool.{Bool}
+use mathlib.Core.Bool.{Bool, cond}
+use lib.Dec.{eqb}
 use Rattle.buffers.specs.declared.events.Events.{Events}
 use Rattle.buffers.specs.declared.triple.Triple.{Triple}
 use Rattle.telegram.specs.declared.sender.Sender.{Sender}
@@ -59,10 +60,16 @@ withIncoming s x = stateOf (s .setup) (s .control) (s .outputs) (s .inputs) (s .
 abbrev pub withReply : State → Reply → State
 withReply s x = stateOf (s .setup) (s .control) (s .outputs) (s .inputs) (s .parameters) (s .configuration) (s .swapped) (s .incoming) x
 
--- with what a data octet changes of the telegram that is coming: how many were read, the checksum and the first two
-abbrev pub withData : State → ℕ → ℕ → ℕ → ℕ → State
-withData s at sum first second =
-    withIncoming s (record { reader = readTo (s .incoming .reader) at sum; first = first; second = second })
+-- with another count of data octets read of the telegram that is coming, and another checksum
+abbrev pub withRead : State → ℕ → ℕ → State
+withRead s at sum =
+    withIncoming s (record { reader = readTo (s .incoming .reader) at sum; first = s .incoming .first; second = s .incoming .second })
+
+-- with data octet k kept if it is one of the first two
+abbrev pub withKept : State → ℕ → ℕ → State
+withKept s k b =
+    withIncoming s
+    (record { reader = s .incoming .reader; first = cond (eqb k 0) b (s .incoming .first); second = cond (eqb k 1) b (s .incoming .second) })
 
 -- with the sender of the reply
 abbrev pub withSender : State → Sender → State

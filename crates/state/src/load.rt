@@ -8,6 +8,7 @@ use crate::control::Watchdog;
 use crate::number::drawn_numbered;
 use crate::number::kind_numbered;
 use crate::number::phase_numbered;
+use crate::number::reading_number;
 use crate::number::reading_numbered;
 use crate::number::stage_numbered;
 use crate::setup::Setup;
@@ -28,6 +29,7 @@ use telegram::sender::Stage;
 ghost use mathlib.Core.Path.{_≡_};
 ghost use Prim.Native.Nat.{_+_, _≤_, _<_};
 ghost use lib.ListN.{length};
+ghost use Rattle.telegram.specs.Reading.{takesData};
 ghost use Rattle.state.specs.Layout.{stateLength};
 ghost use Rattle.state.specs.Unpack.{wordAt, setupIn, flagsIn, modesIn, setsIn, readerIn, senderIn, headerIn, unpacked};
 
@@ -248,6 +250,14 @@ pub fn incoming(mem: &[u8]) -> Incoming
         first: mem[40],
         second: mem[41],
     }
+}
+
+// Whether its next octet is data. By the octets as they stand, since most octets are data and nothing else of it is then looked at.
+pub fn takes_data(mem: &[u8]) -> bool
+    requires { ⌜ stateLength ≤ length (now mem) ⌝ }
+    ensures { λ r. ⌜ r ≡ takesData (unpacked (now (mem .entry)) .incoming .reader) ⌝ }
+{
+    (mem[31] == reading_number(reader::Phase::Body)) & (mem[33] < mem[32])
 }
 
 // The sender at a stage.

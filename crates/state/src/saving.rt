@@ -25,7 +25,7 @@ ghost use Prim.Native.Nat.{_≤_};
 ghost use lib.ListN.{length};
 ghost use Rattle.state.specs.Layout.{stateLength};
 ghost use Rattle.state.specs.Memory.{Changes};
-ghost use Rattle.state.specs.With.{withControlButChain, withStanding, withEventWord, withTicks, withChain, withOutputs, withInputs, withParameters, withConfiguration, withSwapped, withIncoming, withData, withSender, withOutline, withReply};
+ghost use Rattle.state.specs.With.{withControlButChain, withStanding, withEventWord, withTicks, withChain, withOutputs, withInputs, withParameters, withConfiguration, withSwapped, withIncoming, withRead, withKept, withSender, withOutline, withReply};
 
 // The telegram that is coming: octets 30 to 41.
 pub fn save_incoming(i: Incoming, mem: &mut [u8])
@@ -49,15 +49,23 @@ pub fn save_incoming(i: Incoming, mem: &mut [u8])
     mem[41] = i.second;
 }
 
-// What a data octet changes of it: how many were read, the checksum and the first two.
-pub fn save_data(at: u8, sum: u8, first: u8, second: u8, mem: &mut [u8])
+// How many data octets of it were read, and its checksum.
+pub fn save_read(at: u8, sum: u8, mem: &mut [u8])
     requires { ⌜ stateLength ≤ length (now mem) ⌝ }
-    ensures { λ _. ⌜ Changes (now (mem .entry)) (now (mem .exit)) (λ s. withData s at sum first second) ⌝ }
+    ensures { λ _. ⌜ Changes (now (mem .entry)) (now (mem .exit)) (λ s. withRead s at sum) ⌝ }
 {
     mem[33] = at;
     mem[39] = sum;
-    mem[40] = first;
-    mem[41] = second;
+}
+
+// Its data octet k, if that is one of the first two.
+pub fn keep_octet(k: u8, b: u8, mem: &mut [u8])
+    requires { ⌜ stateLength ≤ length (now mem) ⌝ }
+    ensures { λ _. ⌜ Changes (now (mem .entry)) (now (mem .exit)) (λ s. withKept s k b) ⌝ }
+{
+    if k < 2 {
+        mem[40 + k as usize] = b;
+    }
 }
 
 // The sender of the reply: octets 10 to 17.

@@ -1,4 +1,5 @@
 // Gap, send and tick.
+use crate::hearing::drop_reply;
 use crate::reading::read_by;
 use crate::reading::read_on;
 use crate::replies::asked_for;
@@ -7,31 +8,30 @@ use outcomes::carry::settle;
 use outcomes::line::begun;
 use outcomes::line::busy;
 use outcomes::line::busy_in;
-use outcomes::line::waits;
+use outcomes::line::is_inside;
 use outcomes::over::carry_over;
+use outcomes::settling::settle_over;
+use outcomes::settling::settle_waiting;
 use rules::line::counts;
 use rules::line::ticked;
-use state::image::save;
 use state::load;
 use state::saving::save_incoming;
 use state::saving::save_sender;
 use state::saving::save_ticks;
 use state::start::no_reply;
-use state::state::Reply;
 use state::state::State;
 use telegram::reader::Reader;
-use telegram::sender::Sender;
 ghost use mathlib.Core.Path.{_≡_};
 ghost use Rattle.state.specs.Memory.{Holds};
 ghost use Rattle.state.specs.Unpack.{unpacked};
 ghost use Rattle.state.specs.Start.{noReply};
-ghost use Rattle.state.specs.With.{withSender, withReply};
+ghost use Rattle.state.specs.With.{withReply};
 ghost use Rattle.steps.specs.Safe.{Safe};
 ghost use Rattle.steps.specs.Stepped.{Steps, packedAfter};
 ghost use Rattle.steps.specs.Line.{begun};
 ghost use Rattle.steps.specs.Outcome.{settle};
 ghost use Rattle.steps.specs.Reading.{readBy};
-ghost use Rattle.steps.specs.Bus.{paused, sentBy, sendTold, sendLeft, silencedReader, elapsed};
+ghost use Rattle.steps.specs.Bus.{paused, sendTold, sendLeft, silencedReader, elapsed};
 
 // A gap: the next octet may begin a telegram.
 pub fn pause(s: State, mem: &mut [u8]) -> State
@@ -41,47 +41,14 @@ pub fn pause(s: State, mem: &mut [u8]) -> State
     settle(read_by(s, Reader::start()), mem)
 }
 
-// A gap over the memory. Nearly always nothing waits for it, and only the reader is packed.
+// A gap over the memory: only the reader is packed.
 pub fn gap(mem: &mut [u8])
     requires { ⌜ Holds (now mem) (unpacked (now mem)) ⌝ }
     ensures { λ _. ⌜ now (mem .exit) ≡ packedAfter (paused (unpacked (now (mem .entry))) (now (mem .entry))) ⌝ }
 {
-    if waits(&mem[..]) {
-        let t = pause(load::unpack(&mem[..]), mem);
-        save(t, mem);
-        return;
-    }
     let old = load::incoming(&mem[..]);
     save_incoming(read_on(old, Reader::start()), mem);
-}
-
-// The reply with its sender gone on.
-fn sent_by(reply: Reply, sender: Sender) -> Reply
-    ensures { λ r. ⌜ r ≡ sentBy reply sender ⌝ }
-{
-    let drawn = reply.drawn;
-    let header = reply.header;
-    Reply {
-        drawn,
-        sender,
-        place: reply.place,
-        header,
-    }
-}
-
-// The sender gone on. Nearly always nothing waits for the end of a reply, and only the sender is packed.
-fn go_on(mem: &mut [u8], sender: Sender)
-    requires { ⌜ Holds (now mem) (unpacked (now mem)) ⌝ }
-    ensures { λ _. ⌜ now (mem .exit) ≡ packedAfter (settle (withSender (unpacked (now (mem .entry))) sender) (now (mem .entry))) ⌝ }
-{
-    if waits(&mem[..]) {
-        let mut t = load::unpack(&mem[..]);
-        t.reply = sent_by(t.reply, sender);
-        let settled = settle(t, mem);
-        save(settled, mem);
-        return;
-    }
-    save_sender(sender, mem);
+    settle_over(mem);
 }
 
 // Send answers the next octet of the reply, 256 when no octet is left.
@@ -96,7 +63,8 @@ pub fn send(mem: &mut [u8]) -> u16
     }
     let datum = asked_for(&mem[..]);
     let sent = sender.send(datum);
-    go_on(mem, sent.sender);
+    save_sender(sent.sender, mem);
+    settle_over(mem);
     sent.octet as u16
 }
 
@@ -141,6 +109,18 @@ pub fn elapse(mut s: State, mem: &mut [u8]) -> State
     carry_out(s, mem, ticked(busy(s), s.control), 0)
 }
 
+// The same over the memory.
+fn silence_line(mem: &mut [u8])
+    requires { ⌜ Holds (now mem) (unpacked (now mem)) ⌝ }
+    ensures { λ _. ⌜ now (mem .exit) ≡ packedAfter (settle (withReply (readBy (unpacked (now (mem .entry))) (silencedReader (begun (unpacked (now (mem .entry)))) (unpacked (now (mem .entry)) .incoming .reader))) noReply) (now (mem .entry))) ⌝ }
+{
+    let old = load::incoming(&mem[..]);
+    let reader = old.reader;
+    let inside = is_inside(reader.status());
+    drop_reply(mem, read_on(old, silenced_reader(inside, reader)));
+    settle_waiting(mem);
+}
+
 // A Tick over the memory: nearly always only the ticks that remain are packed.
 pub fn tick(mem: &mut [u8])
     requires { ⌜ Holds (now mem) (unpacked (now mem)) ⌝ }
@@ -148,8 +128,7 @@ pub fn tick(mem: &mut [u8])
 {
     let control = load::control(&mem[..]);
     if control.noted {
-        let t = silence(load::unpack(&mem[..]), mem);
-        save(t, mem);
+        silence_line(mem);
         return;
     }
     if !counts(control) {

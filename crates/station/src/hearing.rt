@@ -1,13 +1,11 @@
 // The bus's octet over the memory that holds the state: nearly every octet reads and writes only the parts of the state that it needs.
 // Every step leaves the memory as the step on the unpacked state (`reading`) would leave it, packed again.
 use crate::completing::complete;
-use crate::reading::hear_as;
 use crate::reading::is_ignored;
 use crate::reading::keep_octets;
 use crate::reading::read_on;
 use outcomes::line::is_inside;
-use outcomes::line::waits;
-use state::image::save;
+use outcomes::settling::settle_over;
 use state::layout::configuration_at;
 use state::layout::outputs_at;
 use state::layout::parameters_at;
@@ -85,8 +83,8 @@ fn is_plain(reader: Reader, next: Reader) -> bool
     is_inside(reader.status()) & is_inside(next.status()) & !reader.takes_data()
 }
 
-// A beginning drops an unfinished reply.
-fn begin(mem: &mut [u8], i: Incoming)
+// The telegram that is coming, with an unfinished reply dropped.
+pub fn drop_reply(mem: &mut [u8], i: Incoming)
     requires { ⌜ stateLength ≤ length (now mem) ⌝ }
     ensures { λ _. ⌜ Changes (now (mem .entry)) (now (mem .exit)) (λ s. withReply (withIncoming s i) noReply) ⌝ }
 {
@@ -94,23 +92,31 @@ fn begin(mem: &mut [u8], i: Incoming)
     save_reply(no_reply(), mem);
 }
 
-// Octets that begin, end or break off a telegram, where nothing waits for that; next: the reader after the octet.
+// Octets that begin, end or break off a telegram; next: the reader after the octet. A beginning drops an unfinished reply.
 fn turn(status: Status, mem: &mut [u8], old: Incoming, next: Reader)
-    requires { ⌜ Turns (now mem) old status ⌝ }
+    requires { ⌜ Turns (now mem) old next status ⌝ }
     ensures { λ _. ⌜ ((b : ℕ) → now (mem .exit) ≡ packedAfter (heardAs status (unpacked (now (mem .entry))) (now (mem .entry)) next b)) ⌝ }
 {
     match status {
         Status::Fresh => {}
-        Status::Inside => begin(mem, read_on(old, next)),
-        Status::Complete => complete(mem, read_on(old, next)),
-        Status::Broken => save_incoming(read_on(old, Reader::off()), mem),
+        Status::Inside => {
+            drop_reply(mem, read_on(old, next));
+            settle_over(mem);
+        }
+        Status::Complete => {
+            complete(mem, read_on(old, next));
+            settle_over(mem);
+        }
+        Status::Broken => {
+            save_incoming(read_on(old, Reader::off()), mem);
+            settle_over(mem);
+        }
     }
 }
 
-// Any other octet: one that is ignored changes nothing, an inner one only the reader. Nearly always nothing waits for the others; else,
-// and at a data octet that is flagged bad, the whole state is unpacked.
+// Any octet but good data: one that is ignored changes nothing, an inner one only the reader.
 fn hear_other(mem: &mut [u8], b: u8, bad: bool)
-    requires { ⌜ Holds (now mem) (unpacked (now mem)) ⌝ }
+    requires { ⌜ (Holds (now mem) (unpacked (now mem))) × (takesData (unpacked (now mem) .incoming .reader) ≡ true → bad ≡ true) ⌝ }
     ensures { λ _. ⌜ now (mem .exit) ≡ packedAfter (heard (unpacked (now (mem .entry))) (now (mem .entry)) b bad) ⌝ }
 {
     let old = load::incoming(&mem[..]);
@@ -121,11 +127,6 @@ fn hear_other(mem: &mut [u8], b: u8, bad: bool)
     let next = reader.receive(b, bad);
     if is_plain(reader, next) {
         save_incoming(read_on(old, next), mem);
-        return;
-    }
-    if waits(&mem[..]) | reader.takes_data() {
-        let t = hear_as(next.status(), load::unpack(&mem[..]), mem, next, b);
-        save(t, mem);
         return;
     }
     turn(next.status(), mem, old, next);

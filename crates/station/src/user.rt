@@ -4,6 +4,7 @@ use outcomes::carry::is_open;
 use outcomes::line::busy_in;
 use outcomes::line::diagnosis_leaves_in;
 use outcomes::over::carry_over;
+use outcomes::settling::change_diagnosis;
 use rules::diagnosis::delaying;
 use rules::diagnosis::diagnosed;
 use rules::diagnosis::is_delayed;
@@ -13,7 +14,6 @@ use rules::user::judged_configuration;
 use rules::user::judged_parameters;
 use state::answer::Answer;
 use state::answer::Refusal;
-use state::control::Control;
 use state::layout::configuration_at;
 use state::layout::diagnosis_at;
 use state::layout::inputs_at;
@@ -24,7 +24,6 @@ use state::saving::save_control;
 use state::saving::save_events;
 use state::saving::save_inputs;
 use state::saving::save_outputs;
-use state::saving::save_swapped;
 use state::state::Outputs;
 ghost use Prim.Native.Nat.{_≤_};
 ghost use mathlib.Core.Bool.{cond};
@@ -154,16 +153,6 @@ pub fn hand_over(mem: &mut [u8]) -> Answer
     let inputs = load::inputs(&mem[..]);
     save_inputs(inputs.hand_over(), mem);
     Answer::Value(0)
-}
-
-// The two diagnosis buffers change, with that control part but for its chain.
-fn change_diagnosis(mem: &mut [u8], control: Control)
-    requires { ⌜ stateLength ≤ length (now mem) ⌝ }
-    ensures { λ _. ⌜ ((s : State) → unpacked (now (mem .entry)) ≡ s → now (mem .entry) ≡ kept s (now (mem .entry)) → now (mem .exit) ≡ kept (diagnosisChanged s (withChain control (s .control .chain))) (now (mem .entry))) ⌝ }
-{
-    let swapped = load::swapped(&mem[..]);
-    save_control(control, mem);
-    save_swapped(!swapped, mem);
 }
 
 // New diagnosis; while a Slave_Diag reply is unfinished all of it waits.

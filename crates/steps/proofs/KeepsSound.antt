@@ -83,7 +83,7 @@ sound-quiet s m = sound-carried s m 0
 
 -- ---- the line settled
 
-sound-after-reply : (s : State) → Sound s → Sound (afterReply s)
+pub sound-after-reply : (s : State) → Sound s → Sound (afterReply s)
 unfolding afterReply diagnosed
 sound-after-reply s h = by-test Sound (delayed (s .control) && not (diagnosisLeaves s)) (diagnosisChanged s (caughtUp (s .control))) s changed (λ _. h)
   where
@@ -134,7 +134,7 @@ sound-stored : (d : Datum) (s : State) (m : List ℕ) (r : Reader) (b : ℕ) →
 sound-stored Nothing s m r b h a = sound-read-by s h r a
 sound-stored (Number k) s m r b h a = sound-incoming s h (keptOctets (s .incoming) r k b) a
 
-sound-completed : (s : State) (m : List ℕ) (r : Reader) → Sound s → ReadCounts r → SoundStep (completed s m r)
+pub sound-completed : (s : State) (m : List ℕ) (r : Reader) → Sound s → ReadCounts r → SoundStep (completed s m r)
 unfolding answered
 sound-completed s m r h a =
     let x = readBy s r in

@@ -1,6 +1,7 @@
 pub mod KeepsSafe
 pub mod KeepsSetup
 pub mod NothingWaits
+pub mod Behind
 pub mod Holding
 pub mod Guarded
 pub mod OutcomeServed

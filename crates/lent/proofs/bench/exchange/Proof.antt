@@ -8,7 +8,7 @@ use Rattle.steps.proofs.Holding.{holds-safe}
 use Rattle.station.proofs.Guarding.{found, found-length}
 use Rattle.station.proofs.Stepping.{holding}
 use Rattle.lent.specs.Run.{Beat, turn, calls}
-use Rattle.lent.proofs.Behind.{safe-long}
+use Rattle.steps.proofs.Behind.{safe-long}
 use Rattle.lent.proofs.Turns.{safe-after, in-turn, packed-again, none-found, one-found}
 use Rattle.lent.proofs.bench.exchange.Statement.{statement}
 use Rattle.lent.proofs.bench.exchange.Tie as tie

@@ -1,12 +1,12 @@
--- `station::user::change_diagnosis` meets its contract.
+-- `outcomes::settling::change_diagnosis` meets its contract.
 use mathlib.Core.Bool.{not}
 use mathlib.Core.Path.{_∙_}
 use Rattle.state.specs.Memory.{kept}
 use Rattle.state.specs.With.{withControlButChain, withSwapped}
 use Rattle.state.proofs.Written.{then}
 use borrow.Author.Needs.{needs}
-use Rattle.station.proofs.user.change_diagnosis.Statement.{statement}
-use Rattle.station.proofs.user.change_diagnosis.Tie as tie
+use Rattle.outcomes.proofs.settling.change_diagnosis.Statement.{statement}
+use Rattle.outcomes.proofs.settling.change_diagnosis.Tie as tie
 
 swapped-requires : tie.Need-swapped-requires
 swapped-requires c κs = search needs

@@ -18,6 +18,7 @@ use Rattle.telegram.specs.declared.reader.Status.{Status}
 use Rattle.telegram.specs.declared.reader.Status.the-variants.{Fresh, Inside, Complete, Broken}
 use Rattle.telegram.specs.Reading.{start, off, readerAfter, status, datumOf}
 use Rattle.state.specs.declared.state.State.{State}
+use Rattle.state.specs.Image.{image}
 use Rattle.state.specs.Layout.{stateLength, outputRow, parameterRow, configurationRow, rowCount, startOf, outputsAt, parametersAt}
 use Rattle.state.proofs.Places.{inside}
 use Rattle.rules.specs.declared.outcome.OutputsDeed.{OutputsDeed}
@@ -27,14 +28,13 @@ use Rattle.rules.specs.declared.request.Request.{Request}
 use Rattle.rules.specs.declared.request.Prm.{Prm}
 use Rattle.rules.specs.Services.{outcomeBy}
 use Rattle.rules.specs.Line.{clearNoted, ticked}
 use Rattle.steps.specs.Safe.{Safe}
-use Rattle.steps.specs.Stepped.{Stepped}
+use Rattle.steps.specs.Stepped.{Stepped, packedAfter}
 use Rattle.steps.specs.Line.{begun, busy}
 use Rattle.steps.specs.Outcome.{occupied, onMemory, carried, afterReply, settle}
 use Rattle.steps.specs.Reading.{storedData, storedAs, readBy, requestBy, prmAt, prmIn, outcomeOf, answered, completed, beginning, isIgnored, heardAs, heard}
 use Rattle.steps.specs.Bus.{paused, silencedReader, elapsed}
 use Rattle.steps.proofs.KeepsSafe.{safe-after-reply, safe-read-by, safe-beginning, safe-completed}
-use Rattle.lent.specs.Run.{Beat, octet, gap, tick, beat}
 
 -- what lies behind the state part
 abbrev pub behind : List ℕ → List ℕ
@@ -44,6 +44,10 @@ behind m = drop stateLength m
 pub record Alike (r q : Stepped) : Type 0 where
   pub states : r .state ≡ q .state
   pub bodies : behind (r .memory) ≡ behind (q .memory)
+
+-- so they are packed alike
+pub alike-packs : {r q : Stepped} → Alike r q → packedAfter r ≡ packedAfter q
+alike-packs a = λ i. image (a .states i) ++ a .bodies i
 
 -- ---- stores and reads behind the state part
 
@@ -110,7 +114,7 @@ module _ (s : State) (m n : List ℕ) (h : Safe s m) (g : Safe s n) (e : behind 
       ∙ ap (λ (l : List ℕ). pasted l (a - stateLength) xs) e
       ∙ sym (behind-pasted n (safe-long s n g) a far xs)
 
-  alike-carried : (o : Outcome) (count : ℕ) → Alike (carried s m o count) (carried s n o count)
+  pub alike-carried : (o : Outcome) (count : ℕ) → Alike (carried s m o count) (carried s n o count)
   unfolding carried
   alike-carried o count = record { states = refl; bodies = on-memory (o .outputs) }
 
@@ -163,7 +167,7 @@ module _ (s : State) (m n : List ℕ) (h : Safe s m) (g : Safe s n) (e : behind 
   unfolding answered carried
   alike-answered o r = record { states = refl; bodies = on-memory (o .outputs) }
 
-alike-settle : (s : State) (m n : List ℕ) → Safe s m → Safe s n → behind m ≡ behind n → Alike (settle s m) (settle s n)
+pub alike-settle : (s : State) (m n : List ℕ) → Safe s m → Safe s n → behind m ≡ behind n → Alike (settle s m) (settle s n)
 unfolding settle
 alike-settle s m n h g e =
     alike-carried (afterReply s) m n (safe-after-reply s m h) (safe-after-reply s n g) e (clearNoted (busy s) (afterReply s .control)) 0
@@ -198,14 +202,22 @@ module _ (s : State) (m n : List ℕ) (h : Safe s m) (g : Safe s n) (e : behind 
       alike-settled (completed s m r) (completed s n r) (safe-completed s m r h) (safe-completed s n r g) (alike-completed r)
   alike-heard-as Broken r b = alike-settle (readBy s off) m n (safe-read-by s m off h) (safe-read-by s n off g) e
 
-  -- an octet, a gap, a Tick
-  pub alike-beat : (x : Beat) → Alike (beat s m x) (beat s n x)
-  unfolding heard paused elapsed
-  alike-beat (octet b bad) =
+  -- an octet
+  pub alike-heard : (b : ℕ) (bad : Bool) → Alike (heard s m b bad) (heard s n b bad)
+  unfolding heard
+  alike-heard b bad =
       chosen (isIgnored (status (s .incoming .reader))) (record { states = refl; bodies = e })
       (alike-heard-as (status (readerAfter (s .incoming .reader) b bad)) (readerAfter (s .incoming .reader) b bad) b)
-  alike-beat gap = alike-settle (readBy s start) m n (safe-read-by s m start h) (safe-read-by s n start g) e
-  alike-beat tick =
+
+  -- a gap
+  pub alike-paused : Alike (paused s m) (paused s n)
+  unfolding paused
+  alike-paused = alike-settle (readBy s start) m n (safe-read-by s m start h) (safe-read-by s n start g) e
+
+  -- a Tick
+  pub alike-elapsed : Alike (elapsed s m) (elapsed s n)
+  unfolding elapsed
+  alike-elapsed =
       let r : Reader = silencedReader (begun s) (s .incoming .reader) in
       chosen (s .control .noted) (alike-settle (beginning s r) m n (safe-beginning s m r h) (safe-beginning s n r g) e)
       (alike-carried s m n h g e (ticked (busy s) (s .control)) 0)
