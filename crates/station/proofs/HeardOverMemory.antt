@@ -7,7 +7,7 @@ use mathlib.Core.List.{List}
 use lib.Dec.{eqb, ltb}
 use lib.ListN.{take, set}
 use lib.Seq.{take-set-le}
-use borrow.Author.Tests.{not-true}
+use borrow.Author.Tests.{not-true, not-false}
 use Rattle.buffers.specs.Roles.{fillOf}
 use Rattle.buffers.specs.Roles as role
 use Rattle.octets.specs.Part.{storedIn}
@@ -23,11 +23,12 @@ use Rattle.state.specs.declared.state.Incoming.{Incoming}
 use Rattle.state.specs.declared.state.State.{State}
 use Rattle.state.specs.Layout.{stateLength, rowCount, startOf, outputRow, parameterRow, configurationRow, outputsAt, parametersAt, configurationAt}
 use Rattle.state.specs.Memory.{kept, Holds, Changes}
-use Rattle.state.specs.With.{withIncoming, withData}
+use Rattle.state.specs.With.{withIncoming, withRead, withKept}
 use Rattle.state.proofs.Choice.{and-left, and-right}
 use Rattle.state.proofs.Damage.{fronted, fronted-same}
 use Rattle.state.proofs.Places.{inside}
-use Rattle.steps.specs.Stepped.{Steps, unchanged, packedAfter}
+use Rattle.state.proofs.Written.{then}
+use Rattle.steps.specs.Stepped.{unchanged, packedAfter}
 use Rattle.steps.specs.Line.{isInside}
 use Rattle.steps.specs.Outcome.{settle}
 use Rattle.steps.specs.Reading.{storedData, keptOctets, storedAs, readOn, readBy, beginning, heardAs, isIgnored, heard}
@@ -39,6 +40,10 @@ is-inside Fresh e = no-true e
 is-inside Inside e = refl
 is-inside Complete e = no-true e
 is-inside Broken e = no-true e
+
+-- a data octet that is not heard as good data is bad
+pub must-be-bad : (takes bad : Bool) → takes && not bad ≡ false → takes ≡ true → bad ≡ true
+must-be-bad takes bad e f = not-false bad ((λ i. sym f i && not bad) ∙ e)
 
 -- ---- what an octet does, by the reader before it and after it
 
@@ -122,15 +127,11 @@ module _ (m : List ℕ) (s : State) (h : Holds m s) where
   -- of a data octet
   data-octet : (b : ℕ) (e : takesData (s .incoming .reader) ≡ true)
       → let r = s .incoming .reader in
-      kept
-      (withData s (readerStep r b .at) (readerStep r b .sum) (cond (eqb (r .at) 0) b (s .incoming .first)) (cond (eqb (r .at) 1) b (s .incoming .second)))
-      (storedData s m (r .at) b)
+      kept (withKept (withRead s (readerStep r b .at) (readerStep r b .sum)) (r .at) b) (storedData s m (r .at) b)
       ≡ packedAfter (heard s m b false)
   data-octet b e =
       let r = s .incoming .reader in
-      let first = cond (eqb (r .at) 0) b (s .incoming .first) in
-      let second = cond (eqb (r .at) 1) b (s .incoming .second) in
-      (λ i. kept (withIncoming s (record { reader = data-changes r b e i; first = first; second = second })) (storedData s m (r .at) b))
+      (λ i. kept (withIncoming s (keptOctets (s .incoming) (data-changes r b e i) (r .at) b)) (storedData s m (r .at) b))
       ∙ sym (ap packedAfter (heard-data s m b e))
 
   -- of an inner one that is no data
@@ -145,18 +146,16 @@ module _ (m : List ℕ) (s : State) (h : Holds m s) where
   -- ---- the same of the values that the code has
 
   module _ (b : ℕ) (i : Incoming) (same : i ≡ s .incoming) where
-    -- a data octet
-    pub leaves-data : takesData (s .incoming .reader) ≡ true → (n : List ℕ) (x : Reader) (j : Incoming) (out : List ℕ)
-        → n ≡ storedData s m (i .reader .at) b → x ≡ readerStep (i .reader) b → j ≡ keptOctets i x (i .reader .at) b
-        → Changes n out (λ u. withData u (j .reader .at) (j .reader .sum) (j .first) (j .second)) → out ≡ packedAfter (heard s m b false)
-    leaves-data e n x j out en ex ej k =
-        let stored : n ≡ storedData s m (s .incoming .reader .at) b = en ∙ (λ t. storedData s m (same t .reader .at) b) in
+    -- a data octet: n₀ after it was stored, n₁ after it was counted
+    pub leaves-data : takesData (s .incoming .reader) ≡ true → (n₀ n₁ : List ℕ) (x : Reader) (out : List ℕ)
+        → n₀ ≡ storedData s m (i .reader .at) b → x ≡ readerStep (i .reader) b
+        → Changes n₀ n₁ (λ u. withRead u (x .at) (x .sum)) → Changes n₁ out (λ u. withKept u (i .reader .at) b)
+        → out ≡ packedAfter (heard s m b false)
+    leaves-data e n₀ n₁ x out en ex k₁ k₂ =
+        let stored : n₀ ≡ storedData s m (s .incoming .reader .at) b = en ∙ (λ t. storedData s m (same t .reader .at) b) in
         let read : x ≡ readerStep (s .incoming .reader) b = ex ∙ (λ t. readerStep (same t .reader) b) in
-        let put : j ≡ keptOctets (s .incoming) (readerStep (s .incoming .reader) b) (s .incoming .reader .at) b =
-        ej ∙ (λ t. keptOctets (same t) (read t) (same t .reader .at) b)
-        in
-        k s (fronted m n s h (ap (take stateLength) stored ∙ stored-front (s .incoming .reader .at) b))
-        ∙ (λ t. kept (withData s (put t .reader .at) (put t .reader .sum) (put t .first) (put t .second)) (stored t))
+        then n₀ n₁ out _ _ k₁ k₂ s (fronted m n₀ s h (ap (take stateLength) stored ∙ stored-front (s .incoming .reader .at) b))
+        ∙ (λ t. kept (withKept (withRead s (read t .at) (read t .sum)) (same t .reader .at) b) (stored t))
         ∙ data-octet b e
 
     module _ (bad : Bool) where
@@ -187,12 +186,6 @@ module _ (m : List ℕ) (s : State) (h : Holds m s) where
               (λ r. heardAs ((ey ∙ ap status after) r) s m (after r) b)
               ∙ sym (heard-other s m b bad (sym (ep ∙ ap isIgnored ex ∙ (λ r. isIgnored (status (same r .reader)))) ∙ e))
 
-          -- the whole state is unpacked
-          pub leaves-other : (u t : State) (n out : List ℕ) → u ≡ s → Steps (heardAs y u m next b) t n → out ≡ kept t n
-              → out ≡ packedAfter (heard s m b bad)
-          leaves-other u t n out eu h k =
-              k ∙ (λ r. kept (h .states r) (h .leaves r)) ∙ (λ r. packedAfter (heardAs y (eu r) m next b)) ∙ ap packedAfter heard-so
-
-          -- nothing waits
+          -- what becomes of it
           pub leaves-turn : (out : List ℕ) → ((b : ℕ) → out ≡ packedAfter (heardAs y s m next b)) → out ≡ packedAfter (heard s m b bad)
           leaves-turn out k = k b ∙ ap packedAfter heard-so

@@ -1,34 +1,37 @@
--- A reply leaves octet by octet: the buffers that it is read from lie in the memory, and where nothing waits only a part of
--- the state is packed again.
+-- A gap, and a reply that leaves octet by octet: the buffers that it is read from lie in the memory, one part of the state is written, and
+-- then the line is settled.
 use Prim.Native.Nat.{ℕ, _+_, _-_, _≤_}
 use native.Mathlib.Omega.{arith}
 use mathlib.Core.Path.{_≡_, refl, sym, ap, _∙_}
-use mathlib.Core.Bool.{Bool, true, false, _||_}
+use mathlib.Core.Bool.{Bool, true, false}
 use mathlib.Core.List.{List}
 use lib.Dec.{eqb}
 use lib.ListN.{length}
 use Rattle.buffers.specs.Roles.{fillOf}
 use Rattle.buffers.specs.Roles as role
-use Rattle.telegram.specs.declared.sender.Sender.{Sender}
+use Rattle.telegram.specs.declared.reader.Reader.{Reader}
 use Rattle.telegram.specs.declared.sender.Sent.{Sent}
 use Rattle.telegram.specs.Reading.{start}
 use Rattle.telegram.specs.Sending.{left, sent}
+use Rattle.telegram.proofs.Counts.{start-counts, sent-counts}
 use Rattle.state.specs.declared.state.Incoming.{Incoming}
 use Rattle.state.specs.declared.state.Reply.{Reply}
 use Rattle.state.specs.declared.state.State.{State}
 use Rattle.state.specs.Layout.{outputRow, inputRow, diagnosisRow, outputsAt, inputsAt, diagnosisAt}
-use Rattle.state.specs.Memory.{kept, Holds}
+use Rattle.state.specs.Memory.{kept, Holds, Changes}
+use Rattle.state.specs.Sound.{Sound}
+use Rattle.state.specs.Unpack.{unpacked}
 use Rattle.state.specs.With.{withIncoming, withSender}
-use Rattle.rules.specs.Diagnosis.{delayed}
-use Rattle.steps.specs.Stepped.{Stepped, Steps, packedAfter}
+use Rattle.steps.specs.Stepped.{packedAfter}
 use Rattle.steps.specs.Outcome.{settle}
 use Rattle.steps.specs.Replies.{ownPlace, contentAt, isExchange, datumAt, askedFor}
 use Rattle.steps.specs.Reading.{readOn, readBy}
-use Rattle.steps.specs.Bus.{paused, sendTold, sendLeft}
-use Rattle.steps.proofs.NothingWaits.{idle}
+use Rattle.steps.specs.Bus.{paused, sentBy, sendTold, sendLeft}
+use Rattle.steps.proofs.SoundWith.{sound-read-by, sound-reply}
 use Rattle.steps.proofs.KeepsSafe.{own-in, buffer-room}
 use Rattle.steps.proofs.Holding.{holds-safe}
 use Rattle.state.proofs.Damage.{fronted-same}
+use Rattle.outcomes.proofs.Settled.{holds-front, settled-front}
 
 -- ---- the buffers that a reply is read from
 
@@ -61,30 +64,24 @@ datum-inside s m r x k e f g h i =
     ap (λ (q : Reply). contentAt (q .drawn) s m (k - 2)) e
     ∙ behind-points s m k (ap (λ (q : Reply). isExchange (q .drawn)) (sym e) ∙ sym f ∙ g) h i
 
--- ---- the state packed again
+-- ---- a gap
 
--- a step was made and its state packed
-pub packs : (r : Stepped) (t : State) (n x : List ℕ) → Steps r t n → x ≡ kept t n → x ≡ packedAfter r
-packs r t n x h e = e ∙ (λ i. kept (h .states i) (h .leaves i))
+module _ (m : List ℕ) (s : State) (h : Holds m s) where
+  -- the reader begins anew
+  module _ (old i : Incoming) (r : Reader) (n : List ℕ) (same : old ≡ s .incoming) (starts : r ≡ start) (read : i ≡ readOn old r)
+      (k : Changes m n (λ u. withIncoming u i)) where
+    paused-front : n ≡ kept (readBy s start) m
+    paused-front = k s (fronted-same m s h) ∙ (λ t. kept (withIncoming s ((read ∙ (λ u. readOn (same u) (starts u))) t)) m)
 
--- nothing waits
-quiet : (m : List ℕ) (s : State) (w : Bool) (n : List ℕ) → w ≡ delayed (s .control) || s .control .noted → w ≡ false
-    → n ≡ kept s m → n ≡ packedAfter (settle s m)
-quiet m s w n e f g = g ∙ ap packedAfter (sym (idle s m (sym e ∙ f)))
+    paused-sound : Sound (readBy s start)
+    paused-sound = sound-read-by s (h .sound) start start-counts
 
--- and a gap changes the telegram that is coming alone,
-pub quiet-gap : (m : List ℕ) (s : State) (w : Bool) (i : Incoming) (n : List ℕ)
-    → w ≡ delayed (s .control) || s .control .noted → w ≡ false → i ≡ readOn (s .incoming) start
-    → n ≡ kept (withIncoming s i) m → n ≡ packedAfter (paused s m)
-unfolding paused
-quiet-gap m s w i n e f g k =
-    quiet m (readBy s start) w n e f (k ∙ ap (λ (j : Incoming). kept (withIncoming s j) m) g)
+    pub holds-paused : Holds n (unpacked n)
+    holds-paused = holds-front (readBy s start) m n paused-sound (h .room) paused-front
 
--- an octet that leaves the sender alone
-pub quiet-on : (m : List ℕ) (s : State) (w : Bool) (x : Sender) (n : List ℕ)
-    → w ≡ delayed (s .control) || s .control .noted → w ≡ false
-    → n ≡ kept (withSender s x) m → n ≡ packedAfter (settle (withSender s x) m)
-quiet-on m s w x n e f k = quiet m (withSender s x) w n e f k
+    pub leaves-paused : {out : List ℕ} → out ≡ packedAfter (settle (unpacked n) n) → out ≡ packedAfter (paused s m)
+    unfolding paused
+    leaves-paused {out} e = settled-front (readBy s start) m n paused-sound (h .room) paused-front out e
 
 -- ---- send
 
@@ -95,9 +92,28 @@ unfolding sendTold sendLeft
 nothing-left m s h e = rw e (refl, fronted-same m s h)
 
 -- an octet leaves
-pub octet-left : (m : List ℕ) (s : State) (x : Sent) (n : List ℕ) → left (s .reply .sender) ≡ true
-    → x ≡ sent (s .reply .sender) (askedFor s m) → n ≡ packedAfter (settle (withSender s (x .sender)) m)
-    → (x .octet ≡ sendTold s m) × (n ≡ packedAfter (sendLeft s m))
-unfolding sendTold sendLeft
-octet-left m s x n e f g =
-    rw e (ap (λ (y : Sent). y .octet) f, g ∙ ap (λ (y : Sent). packedAfter (settle (withSender s (y .sender)) m)) f)
+module _ (m : List ℕ) (s : State) (h : Holds m s) (reply : Reply) (x : Sent) (datum : ℕ) (n : List ℕ) (same : reply ≡ s .reply)
+    (asked : datum ≡ askedFor s m) (goes : x ≡ sent (reply .sender) datum) (k : Changes m n (λ u. withSender u (x .sender))) where
+  abbrev gone : Sent
+  gone = sent (s .reply .sender) (askedFor s m)
+
+  is-gone : x ≡ gone
+  is-gone = goes ∙ (λ i. sent (same i .sender) (asked i))
+
+  sent-front : n ≡ kept (withSender s (gone .sender)) m
+  sent-front = k s (fronted-same m s h) ∙ (λ i. kept (withSender s (is-gone i .sender)) m)
+
+  sent-sound : Sound (withSender s (gone .sender))
+  sent-sound =
+      sound-reply s (h .sound) (sentBy (s .reply) (gone .sender))
+      (record { counts = sent-counts (s .reply .sender) (askedFor s m) (h .sound .sending); place = h .sound .place })
+
+  pub holds-sent : Holds n (unpacked n)
+  holds-sent = holds-front (withSender s (gone .sender)) m n sent-sound (h .room) sent-front
+
+  pub octet-left : (is-left : Bool) → is-left ≡ left (reply .sender) → is-left ≡ true → {out : List ℕ} → out ≡ packedAfter (settle (unpacked n) n)
+      → (x .octet ≡ sendTold s m) × (out ≡ packedAfter (sendLeft s m))
+  unfolding sendTold sendLeft
+  octet-left t f e {out} g =
+      rw (sym (f ∙ (λ i. left (same i .sender))) ∙ e)
+      ((λ i. is-gone i .octet), settled-front (withSender s (gone .sender)) m n sent-sound (h .room) sent-front out g)

@@ -1,26 +1,26 @@
 -- What the short way of an octet over the memory looks at.
 use Prim.Native.Nat.{ℕ}
 use mathlib.Core.Path.{_≡_}
-use mathlib.Core.Bool.{Bool, false, not, _&&_, _||_}
+use mathlib.Core.Bool.{Bool, false, not, _&&_}
 use mathlib.Core.List.{List}
 use Rattle.telegram.specs.declared.reader.Reader.{Reader}
 use Rattle.telegram.specs.Reading.{status, takesData}
+use Rattle.telegram.specs.Counts.{ReadCounts}
 use Rattle.telegram.specs.declared.reader.Status.{Status}
 use Rattle.telegram.specs.declared.reader.Status.the-variants.{Inside}
 use Rattle.state.specs.declared.state.Incoming.{Incoming}
 use Rattle.state.specs.Memory.{Holds}
 use Rattle.state.specs.Unpack.{unpacked}
-use Rattle.rules.specs.Diagnosis.{delayed}
 use Rattle.steps.specs.Line.{isInside, begun}
 
 -- an octet is inner and no data, by the reader before it and after it
 abbrev pub isPlain : Reader → Reader → Bool
 isPlain r next = isInside (status r) && isInside (status next) && not (takesData r)
 
--- the octet begins, ends or breaks off a telegram, and nothing waits for that: what the short way of such an octet asks of the memory,
--- of the telegram that was coming and of what the octets are with it
-pub record Turns (m : List ℕ) (old : Incoming) (x : Status) : Type 0 where
+-- the octet begins, ends or breaks off a telegram: what the way of such an octet asks of the memory, of the telegram that was coming, of
+-- the reader after the octet and of what the octets are with it
+pub record Turns (m : List ℕ) (old : Incoming) (next : Reader) (x : Status) : Type 0 where
   pub holds : Holds m (unpacked m)
   pub was : old ≡ unpacked m .incoming
-  pub quiet : delayed (unpacked m .control) || unpacked m .control .noted ≡ false
+  pub counts : ReadCounts next
   pub begins : x ≡ Inside → begun (unpacked m) ≡ false

@@ -2,7 +2,6 @@
 // Every step leaves the memory as the step on the unpacked state (`reading`) would leave it, packed again.
 use crate::completing::complete;
 use crate::reading::is_ignored;
-use crate::reading::keep_octets;
 use crate::reading::read_on;
 use outcomes::line::is_inside;
 use outcomes::settling::settle_over;
@@ -10,8 +9,9 @@ use state::layout::configuration_at;
 use state::layout::outputs_at;
 use state::layout::parameters_at;
 use state::load;
-use state::saving::save_data;
+use state::saving::keep_octet;
 use state::saving::save_incoming;
+use state::saving::save_read;
 use state::saving::save_reply;
 use state::start::no_reply;
 use state::state::Incoming;
@@ -57,7 +57,7 @@ fn store_received(mem: &mut [u8], k: u8, b: u8)
     }
 }
 
-// A data octet: it is stored, and four octets of the state part are written.
+// A data octet: it is stored, and the reader counts it.
 fn hear_data(mem: &mut [u8], b: u8)
     requires { ⌜ (Holds (now mem) (unpacked (now mem))) × (takesData (unpacked (now mem) .incoming .reader) ≡ true) ⌝ }
     ensures { λ _. ⌜ now (mem .exit) ≡ packedAfter (heard (unpacked (now (mem .entry))) (now (mem .entry)) b false) ⌝ }
@@ -66,14 +66,9 @@ fn hear_data(mem: &mut [u8], b: u8)
     let reader = old.reader;
     let k = reader.at;
     store_received(mem, k, b);
-    let next = keep_octets(old, reader.take_data(b), k, b);
-    save_data(
-        next.reader.at,
-        next.reader.sum,
-        next.first,
-        next.second,
-        mem,
-    );
+    let next = reader.take_data(b);
+    save_read(next.at, next.sum, mem);
+    keep_octet(k, b, mem);
 }
 
 // Whether an octet is inner and no data, by the reader before it and after it.
@@ -137,15 +132,10 @@ pub fn hear_octet(mem: &mut [u8], b: u8, bad: bool)
     requires { ⌜ Holds (now mem) (unpacked (now mem)) ⌝ }
     ensures { λ _. ⌜ now (mem .exit) ≡ packedAfter (heard (unpacked (now (mem .entry))) (now (mem .entry)) b bad) ⌝ }
 {
-    if bad {
-        hear_other(mem, b, true);
-        return;
-    }
-    let incoming = load::incoming(&mem[..]);
-    let reader = incoming.reader;
-    if reader.takes_data() {
+    let data = load::takes_data(&mem[..]);
+    if data & !bad {
         hear_data(mem, b);
         return;
     }
-    hear_other(mem, b, false);
+    hear_other(mem, b, bad);
 }

@@ -1,12 +1,12 @@
 -- `station::bus::send` meets its contract.
 use borrow.Author.Tests.{not-true, not-false}
-use Rattle.station.proofs.SentOverMemory.{nothing-left, octet-left}
+use Rattle.station.proofs.SentOverMemory.{nothing-left, holds-sent, octet-left}
 use borrow.Author.Needs.{needs}
 use Rattle.station.proofs.bus.send.Statement.{statement}
 use Rattle.station.proofs.bus.send.Tie as tie
 
 reply-requires : tie.Need-reply-requires
-reply-requires c κs = c .before .before .pre .long
+reply-requires c κs = search needs
 
 left-requires : tie.Need-left-requires
 left-requires c κs = search needs
@@ -21,13 +21,16 @@ returns c =
     at (not-true (c .before .left .result) (c .if1 .taken)))
 
 asked-for-requires : tie.Need-asked-for-requires
-asked-for-requires c κs = c .before .before .before .before .before .before .before .pre
+asked-for-requires c κs = search needs
 
 send-requires : tie.Need-send-requires
 send-requires c κs = search needs
 
-go-on-requires : tie.Need-go-on-requires
-go-on-requires c κs = c .before .before .before .before .before .before .before .before .before .before .pre
+save-sender-requires : tie.Need-save-sender-requires
+save-sender-requires c κs = search needs
+
+settle-over-requires : tie.Need-settle-over-requires
+settle-over-requires c κs = holds-sent _ _ (c .before .before .before .before .before .before .before .before .before .before .before .before .before .before .pre) _ _ _ _ (c .before .before .before .before .before .before .before .before .before .before .before .reply .ensures) (c .before .before .before .before .before .before .asked-for .ensures) (c .before .before .before .before .before .send .ensures) (c .before .before .before .save-sender .ensures)
 
 cast-result : tie.Need-cast-result
 cast-result c = search needs
@@ -37,19 +40,8 @@ same-length-2 c = search needs
 
 returns-2 : tie.Need-returns-2
 returns-2 c =
-    octet-left _ _ _ _
-    (rw (
-      c .before .before .before .before .before .before .before .before .before .left .ensures,
-      c .before .before .before .before .before .before .before .before .before .before .before .reply .ensures,
-    )
-    at (not-false (c .before .before .before .before .before .before .before .before .before .left .result)
-    (c .before .before .before .before .before .before .before .before .if1 .left)))
-    (rw (
-      c .before .before .before .before .before .send .ensures,
-      c .before .before .before .before .before .before .asked-for .ensures,
-      c .before .before .before .before .before .before .before .before .before .before .before .reply .ensures,
-    ))
-    (c .before .before .before .go-on .ensures)
+    octet-left _ _ (c .before .before .before .before .before .before .before .before .before .before .before .before .before .before .before .before .before .before .pre) _ _ _ _ (c .before .before .before .before .before .before .before .before .before .before .before .before .before .before .before .reply .ensures) (c .before .before .before .before .before .before .before .before .before .before .asked-for .ensures) (c .before .before .before .before .before .before .before .before .before .send .ensures) (c .before .before .before .before .before .before .before .save-sender .ensures)
+    _ (c .before .before .before .before .before .before .before .before .before .before .before .before .before .left .ensures) (not-false _ (c .before .before .before .before .before .before .before .before .before .before .before .before .if1 .left)) (c .before .before .before .settle-over .ensures)
 
 pub send-spec : {M : Type 1} → statement M
 send-spec =
@@ -61,7 +53,8 @@ send-spec =
     returns
     asked-for-requires
     send-requires
-    go-on-requires
+    save-sender-requires
+    settle-over-requires
     cast-result
     same-length-2
     returns-2)

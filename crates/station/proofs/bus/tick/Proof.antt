@@ -1,7 +1,5 @@
 -- `station::bus::tick` meets its contract.
 use Rattle.state.proofs.Damage.{fronted-same}
-use Rattle.steps.proofs.Holding.{holds-safe}
-use Rattle.station.proofs.SentOverMemory.{packs}
 use Rattle.station.proofs.Ticking.{tick-drops, tick-carries-over, tick-rests, tick-counts}
 use Rattle.state.specs.Unpack.{unpacked}
 use borrow.Author.Needs.{needs}
@@ -11,24 +9,17 @@ use Rattle.station.proofs.bus.tick.Tie as tie
 control-requires : tie.Need-control-requires
 control-requires c κs = search needs
 
-unpack-requires : tie.Need-unpack-requires
-unpack-requires c κs = search needs
-
-silence-requires : tie.Need-silence-requires
-silence-requires c κs = rw (c .before .unpack .ensures) (holds-safe _ _ (c .before .before .before .before .before .before .before .pre))
-
-save-requires : tie.Need-save-requires
-save-requires c κs = rw (c .before .before .before .silence .kept .1 .0) (c .before .before .before .before .before .before .before .before .before .before .before .pre .long)
+silence-line-requires : tie.Need-silence-line-requires
+silence-line-requires c κs = search needs
 
 same-length : tie.Need-same-length
 same-length c = search needs
 
 returns : tie.Need-returns
 returns c =
-    let d = c .before .before .before .before .before .before .before .before in
-    let m = d .before .before .before .before .before .before .args .mem .now in
-    rw (tick-drops (unpacked m) m _ (d .before .before .before .control .ensures) (d .before .before .if1 .taken))
-    (packs _ _ _ _ (rw (d .unpack .ensures) at (c .before .before .before .before .before .before .silence .ensures)) (c .before .before .save .ensures))
+    let d = c .before .before .before .before in
+    let m = d .before .before .before .before .args .mem .now in
+    rw (tick-drops (unpacked m) m _ (d .before .control .ensures) (d .if1 .taken)) (c .before .before .silence-line .ensures)
 
 counts-requires : tie.Need-counts-requires
 counts-requires c κs = search needs
@@ -84,9 +75,7 @@ tick-spec =
     tie.close
     (tie.spec
     control-requires
-    unpack-requires
-    silence-requires
-    save-requires
+    silence-line-requires
     same-length
     returns
     counts-requires

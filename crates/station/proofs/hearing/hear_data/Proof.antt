@@ -18,23 +18,20 @@ store-received-requires c κs = search needs
 take-data-requires : tie.Need-take-data-requires
 take-data-requires c κs = ap (λ (i : Incoming). takesData (i .reader)) (c .before .before .before .before .before .incoming .ensures) ∙ c .before .before .before .before .before .before .before .before .pre .1
 
-keep-octets-requires : tie.Need-keep-octets-requires
-keep-octets-requires c κs = search needs
+save-read-requires : tie.Need-save-read-requires
+save-read-requires c κs = search needs
 
-save-data-requires : tie.Need-save-data-requires
-save-data-requires c κs = search needs
+keep-octet-requires : tie.Need-keep-octet-requires
+keep-octet-requires c κs = search needs
 
 same-length : tie.Need-same-length
 same-length c = search needs
 
 returns : tie.Need-returns
 returns c =
-    let stored = c .before .before .before .before .before .before .before .before in
-    let read = stored .before .before .before in
-    let start = read .before .before .before in
-    let m = now (start .args .mem) in
-    leaves-data m (unpacked m) (start .pre .0) (start .args .b) (read .incoming .result) (read .incoming .ensures) (start .pre .1) _ _ _ _
-    (stored .store-received .ensures) (c .before .before .before .before .before .take-data .ensures) (c .before .before .before .before .keep-octets .ensures) (c .before .before .save-data .ensures)
+    let m = now (c .before .before .before .before .before .before .before .before .before .before .before .before .before .before .before .before .before .args .mem) in
+    leaves-data m (unpacked m) (c .before .before .before .before .before .before .before .before .before .before .before .before .before .before .before .before .before .pre .0) (c .before .before .before .before .before .before .before .before .before .before .before .before .before .before .before .before .before .args .b) (c .before .before .before .before .before .before .before .before .before .before .before .before .before .before .incoming .result) (c .before .before .before .before .before .before .before .before .before .before .before .before .before .before .incoming .ensures) (c .before .before .before .before .before .before .before .before .before .before .before .before .before .before .before .before .before .pre .1) _ _ _ _
+    (c .before .before .before .before .before .before .before .before .before .before .before .store-received .ensures) (c .before .before .before .before .before .before .before .before .take-data .ensures) (c .before .before .before .before .before .before .save-read .ensures) (c .before .before .keep-octet .ensures)
 
 pub hear-data-spec : {M : Type 1} → statement M
 hear-data-spec =
@@ -43,7 +40,7 @@ hear-data-spec =
     incoming-requires
     store-received-requires
     take-data-requires
-    keep-octets-requires
-    save-data-requires
+    save-read-requires
+    keep-octet-requires
     same-length
     returns)

@@ -1,12 +1,12 @@
--- `station::hearing::begin` meets its contract.
+-- `station::hearing::drop_reply` meets its contract.
 use mathlib.Core.Path.{_∙_}
 use denote.Ref.{now}
 use Rattle.state.specs.Memory.{kept}
 use Rattle.state.specs.With.{withIncoming, withReply}
 use Rattle.state.proofs.Written.{then}
 use borrow.Author.Needs.{needs}
-use Rattle.station.proofs.hearing.begin.Statement.{statement}
-use Rattle.station.proofs.hearing.begin.Tie as tie
+use Rattle.station.proofs.hearing.drop_reply.Statement.{statement}
+use Rattle.station.proofs.hearing.drop_reply.Tie as tie
 
 save-incoming-requires : tie.Need-save-incoming-requires
 save-incoming-requires c κs = search needs
@@ -30,8 +30,8 @@ returns c =
     (incoming .save-incoming .ensures) (reply .save-reply .ensures) s e
     ∙ (λ j. kept (withReply (withIncoming s (start .i)) (reply .before .before .no-reply .ensures j)) (now (start .mem)))
 
-pub begin-spec : {M : Type 1} → statement M
-begin-spec =
+pub drop-reply-spec : {M : Type 1} → statement M
+drop-reply-spec =
     tie.close
     (tie.spec
     save-incoming-requires
