@@ -10,6 +10,5 @@ pub mod EventsFollow
 pub mod Owner
 pub mod ModesKept
 pub mod LookedAt
-pub mod NoteStays
 pub mod GoodExchange
 pub mod Runs

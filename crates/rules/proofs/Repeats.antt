@@ -47,18 +47,16 @@ repeat-exactly g c r =
     let x = not (wantsNone r) in
     let v = fcvOf r in
     let m = eqb (masterOf r) (c .chain .master) in
-    let b = same-exactly (fcbOf r) (fcbIn (c .chain)) in
-    (
+    let b = same-exactly (fcbOf r) (fcbIn (c .chain)) in (
       λ e.
-        let all = and-right (acts g r) _ e in
-        let three = and-left (x && v && m) _ all in
-        let two = and-left (x && v) m three in
-        (
-          (λ i. and-left (acts g r) _ e i && and-left x v two i),
-          and-right x v two,
-          eqb-true (masterOf r) (c .chain .master) (and-right (x && v) m three),
-          b .0 (and-right (x && v && m) _ all),
-        ),
+          let all = and-right (acts g r) _ e in
+          let three = and-left (x && v && m) _ all in
+          let two = and-left (x && v) m three in (
+            (λ i. and-left (acts g r) _ e i && and-left x v two i),
+            and-right x v two,
+            eqb-true (masterOf r) (c .chain .master) (and-right (x && v) m three),
+            b .0 (and-right (x && v && m) _ all),
+          ),
       λ f. λ i. and-left (acts g r) x (f .0) i && (and-right (acts g r) x (f .0) i && f .1 i && eq-eqb (masterOf r) (c .chain .master) (f .2) i && b .1 (f .3) i),
     )
 

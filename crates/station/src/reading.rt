@@ -220,7 +220,7 @@ fn hear_inside(s: State, mem: &mut [u8], reader: Reader, b: u8) -> State
 }
 
 // An octet by what the octets are with it; reader: after it.
-pub fn hear_as(status: Status, s: State, mem: &mut [u8], reader: Reader, b: u8) -> State
+fn hear_as(status: Status, s: State, mem: &mut [u8], reader: Reader, b: u8) -> State
     requires { ⌜ Safe s (now mem) ⌝ }
     ensures { λ t. ⌜ Steps (heardAs status s (now (mem .entry)) reader b) t (now (mem .exit)) ⌝ }
 {

@@ -5,7 +5,6 @@ pub mod Behind
 pub mod Holding
 pub mod Guarded
 pub mod OutcomeServed
-pub mod NothingNewWaits
 pub mod SetsCounted
 pub mod SoundWith
 pub mod KeepsSound
