@@ -89,6 +89,18 @@ fn silence(s: State, mem: &mut [u8]) -> State
     settle(t, mem)
 }
 
+// The same over the memory. The clear waits, so that the line is settled without a look whether something does.
+fn silence_over(mem: &mut [u8])
+    requires { ⌜ Holds (now mem) (unpacked (now mem)) ⌝ }
+    ensures { λ _. ⌜ now (mem .exit) ≡ packedAfter (settle (withReply (readBy (unpacked (now (mem .entry))) (silencedReader (begun (unpacked (now (mem .entry)))) (unpacked (now (mem .entry)) .incoming .reader))) noReply) (now (mem .entry))) ⌝ }
+{
+    let old = load::incoming(&mem[..]);
+    let reader = old.reader;
+    let inside = is_inside(reader.status());
+    drop_reply(mem, read_on(old, silenced_reader(inside, reader)));
+    settle_waiting(mem);
+}
+
 // A Tick: 10 ms. Nearly always the watchdog counts down or is off.
 pub fn elapse(mut s: State, mem: &mut [u8]) -> State
     requires { ⌜ Safe s (now mem) ⌝ }
@@ -109,18 +121,6 @@ pub fn elapse(mut s: State, mem: &mut [u8]) -> State
     carry_out(s, mem, ticked(busy(s), s.control), 0)
 }
 
-// The same over the memory.
-fn silence_line(mem: &mut [u8])
-    requires { ⌜ Holds (now mem) (unpacked (now mem)) ⌝ }
-    ensures { λ _. ⌜ now (mem .exit) ≡ packedAfter (settle (withReply (readBy (unpacked (now (mem .entry))) (silencedReader (begun (unpacked (now (mem .entry)))) (unpacked (now (mem .entry)) .incoming .reader))) noReply) (now (mem .entry))) ⌝ }
-{
-    let old = load::incoming(&mem[..]);
-    let reader = old.reader;
-    let inside = is_inside(reader.status());
-    drop_reply(mem, read_on(old, silenced_reader(inside, reader)));
-    settle_waiting(mem);
-}
-
 // A Tick over the memory: nearly always only the ticks that remain are packed.
 pub fn tick(mem: &mut [u8])
     requires { ⌜ Holds (now mem) (unpacked (now mem)) ⌝ }
@@ -128,7 +128,7 @@ pub fn tick(mem: &mut [u8])
 {
     let control = load::control(&mem[..]);
     if control.noted {
-        silence_line(mem);
+        silence_over(mem);
         return;
     }
     if !counts(control) {

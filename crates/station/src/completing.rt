@@ -1,6 +1,7 @@
-// The last octet of a telegram over the memory that holds the state, where nothing waits for the end of the line's business. A good
-// Data_Exchange, which nearly every telegram to the station is, a telegram that does not act, which is nearly every other one on the
-// line, Slave_Diag, which a master sends more often than the rest, and a repeat, which changes the watchdog alone, have ways of their own.
+// The last octet of a telegram over the memory that holds the state; what waits for the end of the line's business is the caller's. A
+// good Data_Exchange, which nearly every telegram to the station is, a telegram that does not act, which is nearly every other one on
+// the line, Slave_Diag, which a master sends more often than the rest, and a repeat, which changes the watchdog alone, have ways of
+// their own.
 use crate::reading::prm_at;
 use crate::reading::request_by;
 use crate::replies::draw;

@@ -1,4 +1,4 @@
-// The bus's octet over the memory that holds the state: nearly every octet reads and writes only the parts of the state that it needs.
+// The bus's octet over the memory that holds the state: an octet reads and writes only the parts of the state that it needs.
 // Every step leaves the memory as the step on the unpacked state (`reading`) would leave it, packed again.
 use crate::completing::complete;
 use crate::reading::is_ignored;

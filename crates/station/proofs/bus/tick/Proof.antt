@@ -9,8 +9,8 @@ use Rattle.station.proofs.bus.tick.Tie as tie
 control-requires : tie.Need-control-requires
 control-requires c κs = search needs
 
-silence-line-requires : tie.Need-silence-line-requires
-silence-line-requires c κs = search needs
+silence-over-requires : tie.Need-silence-over-requires
+silence-over-requires c κs = search needs
 
 same-length : tie.Need-same-length
 same-length c = search needs
@@ -19,7 +19,7 @@ returns : tie.Need-returns
 returns c =
     let d = c .before .before .before .before in
     let m = d .before .before .before .before .args .mem .now in
-    rw (tick-drops (unpacked m) m _ (d .before .control .ensures) (d .if1 .taken)) (c .before .before .silence-line .ensures)
+    rw (tick-drops (unpacked m) m _ (d .before .control .ensures) (d .if1 .taken)) (c .before .before .silence-over .ensures)
 
 counts-requires : tie.Need-counts-requires
 counts-requires c κs = search needs
@@ -75,7 +75,7 @@ tick-spec =
     tie.close
     (tie.spec
     control-requires
-    silence-line-requires
+    silence-over-requires
     same-length
     returns
     counts-requires

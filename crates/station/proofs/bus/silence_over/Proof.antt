@@ -1,8 +1,8 @@
--- `station::bus::silence_line` meets its contract.
+-- `station::bus::silence_over` meets its contract.
 use Rattle.station.proofs.Ticking.{holds-silenced, leaves-silenced}
 use borrow.Author.Needs.{needs}
-use Rattle.station.proofs.bus.silence_line.Statement.{statement}
-use Rattle.station.proofs.bus.silence_line.Tie as tie
+use Rattle.station.proofs.bus.silence_over.Statement.{statement}
+use Rattle.station.proofs.bus.silence_over.Tie as tie
 
 incoming-requires : tie.Need-incoming-requires
 incoming-requires c κs = search needs
@@ -31,8 +31,8 @@ same-length c = search needs
 returns : tie.Need-returns
 returns c = leaves-silenced _ _ (c .before .before .before .before .before .before .before .before .before .before .before .before .before .before .before .before .pre) _ _ _ _ _ _ (c .before .before .before .before .before .before .before .before .before .before .before .before .before .incoming .ensures) (c .before .before .before .before .before .before .before .before .before .before .before .status .ensures) (c .before .before .before .before .before .before .before .before .before .before .is-inside .ensures) (c .before .before .before .before .before .before .before .before .silenced-reader .ensures) (c .before .before .before .before .before .before .before .read-on .ensures) (c .before .before .before .before .before .before .drop-reply .ensures) (c .before .before .settle-waiting .ensures)
 
-pub silence-line-spec : {M : Type 1} → statement M
-silence-line-spec =
+pub silence-over-spec : {M : Type 1} → statement M
+silence-over-spec =
     tie.close
     (tie.spec
     incoming-requires
