@@ -15,7 +15,7 @@ use Rattle.state.specs.Sound.{Sound}
 use Rattle.state.specs.Unpack.{unpacked}
 use Rattle.state.proofs.Choice.{by-test}
 use Rattle.state.proofs.Damage.{fronted-same, holds-unpacked, kept-holds}
-use Rattle.state.proofs.Front.{kept-drop, kept-length}
+use Rattle.state.proofs.Front.{kept-drop}
 use Rattle.rules.specs.declared.outcome.Outcome.{Outcome}
 use Rattle.rules.specs.Control.{withChain}
 use Rattle.rules.specs.Diagnosis.{isDelayed, delayed, diagnosed, caughtUp}
@@ -23,45 +23,47 @@ use Rattle.rules.specs.Line.{clearing, clearNoted}
 use Rattle.rules.specs.Phases.{drawing}
 use Rattle.rules.specs.Retries.{onChain}
 use Rattle.rules.proofs.Served.{clear-noted-quiet, chain-stays}
-use Rattle.steps.specs.Safe.{Safe}
-use Rattle.steps.specs.Stepped.{packedAfter, unchanged}
+use Rattle.steps.specs.Stepped.{packedAfter}
 use Rattle.steps.specs.Line.{busy, diagnosisLeaves}
 use Rattle.steps.specs.Outcome.{carried, diagnosisChanged, afterReply, settle}
-use Rattle.steps.proofs.Behind.{behind, safe-long, alike-packs, alike-carried, alike-settle}
+use Rattle.steps.proofs.Behind.{behind, alike-packs, alike-carried, alike-settle}
 use Rattle.steps.proofs.Holding.{holds-safe, sound-safe}
-use Rattle.steps.proofs.KeepsSafe.{safe-length, safe-after-reply}
+use Rattle.steps.proofs.KeepsSafe.{safe-after-reply}
 use Rattle.steps.proofs.KeepsSound.{sound-after-reply}
 use Rattle.steps.proofs.NothingWaits.{idle}
 
--- ---- a memory n with the state t in front of m
+-- ---- a memory with a state in front of another one
 
-module _ (t : State) (m n : List ℕ) (sound : Sound t) (room : endOf (t .setup) ≤ length m) (front : n ≡ kept t m) where
-  -- it holds that state
-  holds-kept : Holds n t
-  holds-kept = subst (λ (l : List ℕ). Holds l t) (sym front) (kept-holds t m sound room)
+-- the sound state t stands in n, and behind it n is m, which has room for its buffers
+pub record Fronts (t : State) (m n : List ℕ) : Type 0 where
+  pub sound : Sound t
+  pub room : endOf (t .setup) ≤ length m
+  pub front : n ≡ kept t m
 
-  pub unpacks-kept : unpacked n ≡ t
-  unpacks-kept = holds-unpacked n t holds-kept
+module _ {t : State} {m n : List ℕ} (f : Fronts t m n) where
+  -- n holds that state
+  holds : Holds n t
+  holds = subst (λ (l : List ℕ). Holds l t) (sym (f .front)) (kept-holds t m (f .sound) (f .room))
+
+  unpacks : unpacked n ≡ t
+  unpacks = holds-unpacked n t holds
 
   pub holds-front : Holds n (unpacked n)
-  holds-front = subst (Holds n) (sym unpacks-kept) holds-kept
+  holds-front = subst (Holds n) (sym unpacks) holds
 
-  -- and behind it n is m
+  -- and is m behind it
   same-behind : behind n ≡ behind m
-  same-behind = ap behind front ∙ kept-drop t m stateLength (omega arith)
-
-  safe-before : Safe t m
-  safe-before = sound-safe m t sound room
+  same-behind = ap behind (f .front) ∙ kept-drop t m stateLength (omega arith)
 
   -- so an outcome carried out on n is that on m,
   carried-front : (o : Outcome) → packedAfter (carried t n o 0) ≡ packedAfter (carried t m o 0)
-  carried-front o = alike-packs (alike-carried t n m (holds-safe n t holds-kept) safe-before same-behind o 0)
+  carried-front o = alike-packs (alike-carried t n m (holds-safe n t holds) (sound-safe m t (f .sound) (f .room)) same-behind o 0)
 
   -- and so is the line settled
-  pub settled-front : (out : List ℕ) → out ≡ packedAfter (settle (unpacked n) n) → out ≡ packedAfter (settle t m)
-  settled-front out e =
-      e ∙ ap (λ (s : State). packedAfter (settle s n)) unpacks-kept
-      ∙ alike-packs (alike-settle t n m (holds-safe n t holds-kept) safe-before same-behind)
+  pub settled-front : {out : List ℕ} → out ≡ packedAfter (settle (unpacked n) n) → out ≡ packedAfter (settle t m)
+  settled-front e =
+      e ∙ ap (λ (s : State). packedAfter (settle s n)) unpacks
+      ∙ alike-packs (alike-settle t n m (holds-safe n t holds) (sound-safe m t (f .sound) (f .room)) same-behind)
 
 -- ---- what waits
 
@@ -115,14 +117,8 @@ module _ (s : State) (m : List ℕ) where
       (λ _. refl) (λ _. refl)
 
   module _ (h : Holds m s) {n : List ℕ} (caught : n ≡ kept (afterReply s) m) where
-    sound : Sound (afterReply s)
-    sound = sound-after-reply s (h .sound)
-
-    room : endOf (afterReply s .setup) ≤ length m
-    room = safe-after-reply s m (holds-safe m s h) .room
-
-    pub holds-caught : Holds n (unpacked n)
-    holds-caught = holds-front (afterReply s) m n sound room caught
+    pub caught-fronts : Fronts (afterReply s) m n
+    caught-fronts = record { sound = sound-after-reply s (h .sound); room = safe-after-reply s m (holds-safe m s h) .room; front = caught }
 
     -- the diagnosis first, then the clear
     pub settles : {out : List ℕ} → out ≡ packedAfter (carried (unpacked n) n (clearNoted (busy (unpacked n)) (unpacked n .control)) 0)
@@ -130,6 +126,6 @@ module _ (s : State) (m : List ℕ) where
     unfolding settle
     settles e =
         e
-        ∙ ap (λ (t : State). packedAfter (carried t n (clearNoted (busy t) (t .control)) 0)) (unpacks-kept (afterReply s) m n sound room caught)
-        ∙ carried-front (afterReply s) m n sound room caught (clearNoted (busy (afterReply s)) (afterReply s .control))
+        ∙ ap (λ (t : State). packedAfter (carried t n (clearNoted (busy t) (t .control)) 0)) (unpacks caught-fronts)
+        ∙ carried-front caught-fronts (clearNoted (busy (afterReply s)) (afterReply s .control))
         ∙ ap (λ (b : Bool). packedAfter (carried (afterReply s) m (clearNoted b (afterReply s .control)) 0)) same-busy

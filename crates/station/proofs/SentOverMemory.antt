@@ -19,19 +19,17 @@ use Rattle.state.specs.declared.state.Reply.{Reply}
 use Rattle.state.specs.declared.state.State.{State}
 use Rattle.state.specs.Layout.{outputRow, inputRow, diagnosisRow, outputsAt, inputsAt, diagnosisAt}
 use Rattle.state.specs.Memory.{kept, Holds, Changes}
-use Rattle.state.specs.Sound.{Sound}
-use Rattle.state.specs.Unpack.{unpacked}
 use Rattle.state.specs.With.{withIncoming, withSender}
 use Rattle.steps.specs.Stepped.{packedAfter}
 use Rattle.steps.specs.Outcome.{settle}
 use Rattle.steps.specs.Replies.{ownPlace, contentAt, isExchange, datumAt, askedFor}
 use Rattle.steps.specs.Reading.{readOn, readBy}
-use Rattle.steps.specs.Bus.{paused, sentBy, sendTold, sendLeft}
+use Rattle.steps.specs.Bus.{sentBy, sendTold, sendLeft}
 use Rattle.steps.proofs.SoundWith.{sound-read-by, sound-reply}
 use Rattle.steps.proofs.KeepsSafe.{own-in, buffer-room}
 use Rattle.steps.proofs.Holding.{holds-safe}
 use Rattle.state.proofs.Damage.{fronted-same}
-use Rattle.outcomes.proofs.Settled.{holds-front, settled-front}
+use Rattle.outcomes.proofs.Settled.{Fronts}
 
 -- ---- the buffers that a reply is read from
 
@@ -66,22 +64,14 @@ datum-inside s m r x k e f g h i =
 
 -- ---- a gap
 
-module _ (m : List ℕ) (s : State) (h : Holds m s) where
-  -- the reader begins anew
-  module _ (old i : Incoming) (r : Reader) (n : List ℕ) (same : old ≡ s .incoming) (starts : r ≡ start) (read : i ≡ readOn old r)
-      (k : Changes m n (λ u. withIncoming u i)) where
-    paused-front : n ≡ kept (readBy s start) m
-    paused-front = k s (fronted-same m s h) ∙ (λ t. kept (withIncoming s ((read ∙ (λ u. readOn (same u) (starts u))) t)) m)
-
-    paused-sound : Sound (readBy s start)
-    paused-sound = sound-read-by s (h .sound) start start-counts
-
-    pub holds-paused : Holds n (unpacked n)
-    holds-paused = holds-front (readBy s start) m n paused-sound (h .room) paused-front
-
-    pub leaves-paused : {out : List ℕ} → out ≡ packedAfter (settle (unpacked n) n) → out ≡ packedAfter (paused s m)
-    unfolding paused
-    leaves-paused {out} e = settled-front (readBy s start) m n paused-sound (h .room) paused-front out e
+-- the reader begins anew
+pub paused-fronts : (m : List ℕ) (s : State) → Holds m s → {old i : Incoming} {r : Reader} {n : List ℕ} → old ≡ s .incoming → r ≡ start → i ≡ readOn old r
+    → Changes m n (λ u. withIncoming u i) → Fronts (readBy s start) m n
+paused-fronts m s h same starts read k = record {
+  sound = sound-read-by s (h .sound) start start-counts;
+  room = h .room;
+  front = k s (fronted-same m s h) ∙ (λ t. kept (withIncoming s ((read ∙ (λ u. readOn (same u) (starts u))) t)) m);
+}
 
 -- ---- send
 
@@ -92,28 +82,24 @@ unfolding sendTold sendLeft
 nothing-left m s h e = rw e (refl, fronted-same m s h)
 
 -- an octet leaves
-module _ (m : List ℕ) (s : State) (h : Holds m s) (reply : Reply) (x : Sent) (datum : ℕ) (n : List ℕ) (same : reply ≡ s .reply)
-    (asked : datum ≡ askedFor s m) (goes : x ≡ sent (reply .sender) datum) (k : Changes m n (λ u. withSender u (x .sender))) where
+module _ (m : List ℕ) (s : State) {reply : Reply} {x : Sent} {datum : ℕ} (same : reply ≡ s .reply) (asked : datum ≡ askedFor s m)
+    (goes : x ≡ sent (reply .sender) datum) where
   abbrev gone : Sent
   gone = sent (s .reply .sender) (askedFor s m)
 
   is-gone : x ≡ gone
   is-gone = goes ∙ (λ i. sent (same i .sender) (asked i))
 
-  sent-front : n ≡ kept (withSender s (gone .sender)) m
-  sent-front = k s (fronted-same m s h) ∙ (λ i. kept (withSender s (is-gone i .sender)) m)
+  pub sent-fronts : Holds m s → {n : List ℕ} → Changes m n (λ u. withSender u (x .sender)) → Fronts (withSender s (gone .sender)) m n
+  sent-fronts h k = record {
+    sound =
+        sound-reply s (h .sound) (sentBy (s .reply) (gone .sender))
+        (record { counts = sent-counts (s .reply .sender) (askedFor s m) (h .sound .sending); place = h .sound .place });
+    room = h .room;
+    front = k s (fronted-same m s h) ∙ (λ i. kept (withSender s (is-gone i .sender)) m);
+  }
 
-  sent-sound : Sound (withSender s (gone .sender))
-  sent-sound =
-      sound-reply s (h .sound) (sentBy (s .reply) (gone .sender))
-      (record { counts = sent-counts (s .reply .sender) (askedFor s m) (h .sound .sending); place = h .sound .place })
-
-  pub holds-sent : Holds n (unpacked n)
-  holds-sent = holds-front (withSender s (gone .sender)) m n sent-sound (h .room) sent-front
-
-  pub octet-left : (is-left : Bool) → is-left ≡ left (reply .sender) → is-left ≡ true → {out : List ℕ} → out ≡ packedAfter (settle (unpacked n) n)
+  pub octet-left : {t : Bool} → t ≡ left (reply .sender) → t ≡ true → {out : List ℕ} → out ≡ packedAfter (settle (withSender s (gone .sender)) m)
       → (x .octet ≡ sendTold s m) × (out ≡ packedAfter (sendLeft s m))
   unfolding sendTold sendLeft
-  octet-left t f e {out} g =
-      rw (sym (f ∙ (λ i. left (same i .sender))) ∙ e)
-      ((λ i. is-gone i .octet), settled-front (withSender s (gone .sender)) m n sent-sound (h .room) sent-front out g)
+  octet-left f e g = rw (sym (f ∙ (λ i. left (same i .sender))) ∙ e) ((λ i. is-gone i .octet), g)

@@ -13,18 +13,16 @@ use Rattle.state.specs.declared.control.Control.{Control}
 use Rattle.state.specs.declared.state.Incoming.{Incoming}
 use Rattle.state.specs.declared.state.State.{State}
 use Rattle.state.specs.Memory.{kept, Holds, Changes}
-use Rattle.state.specs.Sound.{Sound}
 use Rattle.state.specs.Start.{noReply}
-use Rattle.state.specs.Unpack.{unpacked}
 use Rattle.state.specs.With.{withIncoming, withReply, withTicks}
 use Rattle.state.proofs.Choice.{either}
 use Rattle.state.proofs.Damage.{fronted-same}
-use Rattle.outcomes.proofs.Settled.{holds-front, settled-front}
+use Rattle.outcomes.proofs.Settled.{Fronts}
 use Rattle.rules.specs.declared.outcome.Outcome.{Outcome}
 use Rattle.rules.specs.Line.{counts, ticked}
 use Rattle.rules.specs.Retries.{onChain}
 use Rattle.rules.proofs.Served.{ticked-quiet, chain-stays}
-use Rattle.steps.specs.Stepped.{Stepped, unchanged, packedAfter}
+use Rattle.steps.specs.Stepped.{Stepped, unchanged}
 use Rattle.steps.specs.Line.{isInside, begun, busy}
 use Rattle.steps.specs.Outcome.{carried, settle}
 use Rattle.steps.specs.Reading.{readOn, readBy, beginning}
@@ -75,26 +73,17 @@ module _ (s : State) (m : List ℕ) (x : Control) (same : x ≡ s .control) wher
           let ticks : s .control .watchdog .remaining ≡ x .watchdog .remaining = λ i. sym same i .watchdog .remaining in
           by-noted false none ∙ rw (counting false e, ticks, lt-leb _ _ h)
 
--- ---- telegram and reply dropped over the memory, and then the line is settled
+-- ---- telegram and reply dropped over the memory
 
 -- r: the reader that the Tick leaves, n: the memory before the line is settled
-module _ (m : List ℕ) (s : State) (h : Holds m s) (old i : Incoming) (x : Status) (inside : Bool) (r : Reader) (n : List ℕ) (same : old ≡ s .incoming)
-    (told : x ≡ status (old .reader)) (tested : inside ≡ isInside x) (drops : r ≡ silencedReader inside (old .reader)) (read : i ≡ readOn old r)
-    (k : Changes m n (λ u. withReply (withIncoming u i) noReply)) where
-  abbrev silent : Reader
-  silent = silencedReader (begun s) (s .incoming .reader)
-
-  is-silent : r ≡ silent
-  is-silent = drops ∙ (λ t. silencedReader ((tested ∙ ap isInside told ∙ (λ u. isInside (status (same u .reader)))) t) (same t .reader))
-
-  silenced-front : n ≡ kept (beginning s silent) m
-  silenced-front = k s (fronted-same m s h) ∙ (λ t. kept (withReply (withIncoming s ((read ∙ (λ u. readOn (same u) (is-silent u))) t)) noReply) m)
-
-  silenced-sound : Sound (beginning s silent)
-  silenced-sound = sound-beginning s silent (h .sound) (either ReadCounts (begun s) off-counts (h .sound .reading))
-
-  pub holds-silenced : Holds n (unpacked n)
-  holds-silenced = holds-front (beginning s silent) m n silenced-sound (h .room) silenced-front
-
-  pub leaves-silenced : {out : List ℕ} → out ≡ packedAfter (settle (unpacked n) n) → out ≡ packedAfter (settle (beginning s silent) m)
-  leaves-silenced {out} e = settled-front (beginning s silent) m n silenced-sound (h .room) silenced-front out e
+pub silenced-fronts : (m : List ℕ) (s : State) → Holds m s → {old i : Incoming} {x : Status} {inside : Bool} {r : Reader} {n : List ℕ} → old ≡ s .incoming
+    → x ≡ status (old .reader) → inside ≡ isInside x → r ≡ silencedReader inside (old .reader) → i ≡ readOn old r
+    → Changes m n (λ u. withReply (withIncoming u i) noReply) → Fronts (beginning s (silencedReader (begun s) (s .incoming .reader))) m n
+silenced-fronts m s h same told tested drops read k =
+    let inside-is = tested ∙ ap isInside told ∙ (λ u. isInside (status (same u .reader))) in
+    let silent = drops ∙ (λ t. silencedReader (inside-is t) (same t .reader)) in
+    record {
+      sound = sound-beginning s _ (h .sound) (either ReadCounts (begun s) off-counts (h .sound .reading));
+      room = h .room;
+      front = k s (fronted-same m s h) ∙ (λ t. kept (withReply (withIncoming s ((read ∙ (λ u. readOn (same u) (silent u))) t)) noReply) m);
+    }

@@ -1,9 +1,8 @@
 -- Octets that begin, end or break off a telegram, over the memory: the parts are written, and then the line is settled.
-use Prim.Native.Nat.{ℕ, _≤_}
+use Prim.Native.Nat.{ℕ}
 use mathlib.Core.Path.{_≡_, refl, sym, ap, _∙_}
 use mathlib.Core.Bool.{Bool, true, false, cond, not, _&&_}
 use mathlib.Core.List.{List}
-use lib.ListN.{length}
 use Rattle.telegram.specs.declared.reader.Reader.{Reader}
 use Rattle.telegram.specs.declared.reader.Status.{Status}
 use Rattle.telegram.specs.declared.reader.Status.the-variants.{Fresh, Inside, Complete, Broken}
@@ -12,15 +11,13 @@ use Rattle.telegram.proofs.Run.{no-true}
 use Rattle.telegram.proofs.Counts.{off-counts, after-counts}
 use Rattle.state.specs.declared.state.Incoming.{Incoming}
 use Rattle.state.specs.declared.state.State.{State}
-use Rattle.state.specs.Layout.{endOf}
 use Rattle.state.specs.Memory.{kept, Holds, Changes}
-use Rattle.state.specs.Sound.{Sound}
 use Rattle.state.specs.Start.{noReply}
 use Rattle.state.specs.Unpack.{unpacked}
 use Rattle.state.specs.With.{withIncoming, withReply}
 use Rattle.state.proofs.Damage.{fronted-same}
-use Rattle.outcomes.proofs.Settled.{holds-front, settled-front}
-use Rattle.steps.specs.Stepped.{Stepped, packedAfter}
+use Rattle.outcomes.proofs.Settled.{Fronts}
+use Rattle.steps.specs.Stepped.{packedAfter}
 use Rattle.steps.specs.Line.{isInside, begun}
 use Rattle.steps.specs.Outcome.{settle}
 use Rattle.steps.specs.Reading.{readOn, readBy, storedAs, requestBy, outcomeOf, answered, completed, beginning, heardAs}
@@ -41,65 +38,46 @@ module _ (m : List ℕ) (i : Incoming) (next : Reader) (y : Status) (turns : Tur
   front : m ≡ kept s m
   front = fronted-same m s (turns .holds)
 
-  read : (x : Reader) (j : Incoming) → j ≡ readOn i x → j ≡ readOn (s .incoming) x
-  read x j e = e ∙ (λ r. readOn (turns .was r) x)
+  read : {x : Reader} {j : Incoming} → j ≡ readOn i x → j ≡ readOn (s .incoming) x
+  read {x} e = e ∙ (λ r. readOn (turns .was r) x)
 
   -- no octet at all
   pub leaves-fresh : (b : ℕ) → m ≡ packedAfter (heardAs Fresh s m next b)
   leaves-fresh b = front
 
-  -- n: the memory before the line is settled
-  module _ (j : Incoming) (n : List ℕ) where
+  -- j: what is written of the telegram, n: the memory before the line is settled
+  module _ {j : Incoming} {n : List ℕ} where
     -- a beginning
-    module _ (ej : j ≡ readOn i next) (k : Changes m n (λ u. withReply (withIncoming u j) noReply)) where
-      begun-front : n ≡ kept (beginning s next) m
-      begun-front = k s front ∙ (λ r. kept (withReply (withIncoming s (read next j ej r)) noReply) m)
-
-      begun-sound : Sound (beginning s next)
-      begun-sound = sound-beginning s next (turns .holds .sound) (turns .counts)
-
-      pub holds-begun : Holds n (unpacked n)
-      holds-begun = holds-front (beginning s next) m n begun-sound (turns .holds .room) begun-front
-
-      pub leaves-begun : y ≡ Inside → (out : List ℕ) → out ≡ packedAfter (settle (unpacked n) n) → (b : ℕ) → out ≡ packedAfter (heardAs Inside s m next b)
-      leaves-begun e out f b =
-          settled-front (beginning s next) m n begun-sound (turns .holds .room) begun-front out f
-          ∙ ap (λ (t : Bool). packedAfter (cond t (storedAs (datumOf (s .incoming .reader)) s m next b) (settle (beginning s next) m))) (sym (turns .begins e))
+    pub begun-fronts : j ≡ readOn i next → Changes m n (λ u. withReply (withIncoming u j) noReply) → Fronts (beginning s next) m n
+    begun-fronts e k = record {
+      sound = sound-beginning s next (turns .holds .sound) (turns .counts);
+      room = turns .holds .room;
+      front = k s front ∙ (λ r. kept (withReply (withIncoming s (read e r)) noReply) m);
+    }
 
     -- a last octet
-    module _ (ej : j ≡ readOn i next)
-        (k : n ≡ packedAfter (answered (withIncoming s j) m (outcomeOf s m (requestBy (j .reader))) (requestBy (j .reader)))) where
-      completed-front : n ≡ packedAfter (completed s m next)
-      unfolding outcomeOf
-      completed-front =
-          k ∙ (λ r. let x = read next j ej r in packedAfter (answered (withIncoming s x) m (outcomeOf s m (requestBy (x .reader))) (requestBy (x .reader))))
-
-      completed-sound : Sound (completed s m next .state)
-      completed-sound = sound-completed s m next (turns .holds .sound) (turns .counts)
-
-      completed-room : endOf (completed s m next .state .setup) ≤ length (completed s m next .memory)
-      completed-room = safe-completed s m next (holds-safe m s (turns .holds)) .room
-
-      pub holds-completed : Holds n (unpacked n)
-      holds-completed = holds-front (completed s m next .state) (completed s m next .memory) n completed-sound completed-room completed-front
-
-      pub leaves-completed : (out : List ℕ) → out ≡ packedAfter (settle (unpacked n) n) → (b : ℕ) → out ≡ packedAfter (heardAs Complete s m next b)
-      leaves-completed out f b =
-          settled-front (completed s m next .state) (completed s m next .memory) n completed-sound completed-room completed-front out f
+    pub completed-fronts : j ≡ readOn i next
+        → n ≡ packedAfter (answered (withIncoming s j) m (outcomeOf s m (requestBy (j .reader))) (requestBy (j .reader)))
+        → Fronts (completed s m next .state) (completed s m next .memory) n
+    unfolding outcomeOf
+    completed-fronts e k = record {
+      sound = sound-completed s m next (turns .holds .sound) (turns .counts);
+      room = safe-completed s m next (holds-safe m s (turns .holds)) .room;
+      front = k ∙ (λ r. let x = read e r in packedAfter (answered (withIncoming s x) m (outcomeOf s m (requestBy (x .reader))) (requestBy (x .reader))));
+    }
 
     -- one that breaks it off
-    module _ (x : Reader) (ex : x ≡ off) (ej : j ≡ readOn i x) (k : Changes m n (λ u. withIncoming u j)) where
-      broken-front : n ≡ kept (readBy s off) m
-      broken-front = k s front ∙ (λ r. kept (withIncoming s (read x j ej r)) m) ∙ (λ r. kept (withIncoming s (readOn (s .incoming) (ex r))) m)
+    pub broken-fronts : {x : Reader} → x ≡ off → j ≡ readOn i x → Changes m n (λ u. withIncoming u j) → Fronts (readBy s off) m n
+    broken-fronts ex e k = record {
+      sound = sound-read-by s (turns .holds .sound) off off-counts;
+      room = turns .holds .room;
+      front = k s front ∙ (λ r. kept (withIncoming s (read (e ∙ (λ q. readOn i (ex q))) r)) m);
+    }
 
-      broken-sound : Sound (readBy s off)
-      broken-sound = sound-read-by s (turns .holds .sound) off off-counts
-
-      pub holds-broken : Holds n (unpacked n)
-      holds-broken = holds-front (readBy s off) m n broken-sound (turns .holds .room) broken-front
-
-      pub leaves-broken : (out : List ℕ) → out ≡ packedAfter (settle (unpacked n) n) → (b : ℕ) → out ≡ packedAfter (heardAs Broken s m next b)
-      leaves-broken out f b = settled-front (readBy s off) m n broken-sound (turns .holds .room) broken-front out f
+  -- a beginning settled
+  pub leaves-begun : y ≡ Inside → {out : List ℕ} → out ≡ packedAfter (settle (beginning s next) m) → (b : ℕ) → out ≡ packedAfter (heardAs Inside s m next b)
+  leaves-begun e f b =
+      f ∙ ap (λ (t : Bool). packedAfter (cond t (storedAs (datumOf (s .incoming .reader)) s m next b) (settle (beginning s next) m))) (sym (turns .begins e))
 
 -- ---- which octets these are
 

@@ -1,4 +1,4 @@
--- What the short way of an octet over the memory looks at.
+-- What the ways of an octet over the memory look at.
 use Prim.Native.Nat.{ℕ}
 use mathlib.Core.Path.{_≡_}
 use mathlib.Core.Bool.{Bool, false, not, _&&_}

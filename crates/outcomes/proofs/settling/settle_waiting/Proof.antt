@@ -1,7 +1,7 @@
 -- `outcomes::settling::settle_waiting` meets its contract.
 use denote.Ref.{now}
 use Rattle.state.specs.Unpack.{unpacked}
-use Rattle.outcomes.proofs.Settled.{holds-caught, settles}
+use Rattle.outcomes.proofs.Settled.{holds-front, caught-fronts, settles}
 use borrow.Author.Needs.{needs}
 use Rattle.outcomes.proofs.settling.settle_waiting.Statement.{statement}
 use Rattle.outcomes.proofs.settling.settle_waiting.Tie as tie
@@ -12,7 +12,7 @@ catch-up-requires c κs = search needs
 clear-noted-in-requires : tie.Need-clear-noted-in-requires
 clear-noted-in-requires c κs =
     let m = now (c .before .before .before .before .before .before .args .mem) in
-    holds-caught (unpacked m) m (c .before .before .before .before .before .before .pre) (c .before .before .before .catch-up .ensures)
+    holds-front (caught-fronts (unpacked m) m (c .before .before .before .before .before .before .pre) (c .before .before .before .catch-up .ensures))
 
 same-length : tie.Need-same-length
 same-length c = search needs

@@ -1,5 +1,7 @@
 -- `station::bus::gap` meets its contract.
-use Rattle.station.proofs.SentOverMemory.{holds-paused, leaves-paused}
+use Rattle.outcomes.proofs.Settled.{holds-front, settled-front}
+use Rattle.station.proofs.SentOverMemory.{paused-fronts}
+use Rattle.steps.specs.Bus.{paused}
 use borrow.Author.Needs.{needs}
 use Rattle.station.proofs.bus.gap.Statement.{statement}
 use Rattle.station.proofs.bus.gap.Tie as tie
@@ -17,13 +19,19 @@ save-incoming-requires : tie.Need-save-incoming-requires
 save-incoming-requires c κs = search needs
 
 settle-over-requires : tie.Need-settle-over-requires
-settle-over-requires c κs = holds-paused _ _ (c .before .before .before .before .before .before .before .before .before .before .pre) _ _ _ _ (c .before .before .before .before .before .before .before .incoming .ensures) (c .before .before .before .before .before .before .start .ensures) (c .before .before .before .before .before .read-on .ensures) (c .before .before .before .save-incoming .ensures)
+settle-over-requires c κs =
+    holds-front
+    (paused-fronts _ _ (c .before .before .before .before .before .before .before .before .before .before .pre) (c .before .before .before .before .before .before .before .incoming .ensures) (c .before .before .before .before .before .before .start .ensures) (c .before .before .before .before .before .read-on .ensures) (c .before .before .before .save-incoming .ensures))
 
 same-length : tie.Need-same-length
 same-length c = search needs
 
 returns : tie.Need-returns
-returns c = leaves-paused _ _ (c .before .before .before .before .before .before .before .before .before .before .before .before .before .pre) _ _ _ _ (c .before .before .before .before .before .before .before .before .before .before .incoming .ensures) (c .before .before .before .before .before .before .before .before .before .start .ensures) (c .before .before .before .before .before .before .before .before .read-on .ensures) (c .before .before .before .before .before .before .save-incoming .ensures) (c .before .before .settle-over .ensures)
+unfolding paused
+returns c =
+    settled-front
+    (paused-fronts _ _ (c .before .before .before .before .before .before .before .before .before .before .before .before .before .pre) (c .before .before .before .before .before .before .before .before .before .before .incoming .ensures) (c .before .before .before .before .before .before .before .before .before .start .ensures) (c .before .before .before .before .before .before .before .before .read-on .ensures) (c .before .before .before .before .before .before .save-incoming .ensures))
+    (c .before .before .settle-over .ensures)
 
 pub gap-spec : {M : Type 1} → statement M
 gap-spec =

@@ -1,6 +1,7 @@
 -- `station::bus::send` meets its contract.
 use borrow.Author.Tests.{not-true, not-false}
-use Rattle.station.proofs.SentOverMemory.{nothing-left, holds-sent, octet-left}
+use Rattle.outcomes.proofs.Settled.{holds-front, settled-front}
+use Rattle.station.proofs.SentOverMemory.{nothing-left, sent-fronts, octet-left}
 use borrow.Author.Needs.{needs}
 use Rattle.station.proofs.bus.send.Statement.{statement}
 use Rattle.station.proofs.bus.send.Tie as tie
@@ -30,7 +31,9 @@ save-sender-requires : tie.Need-save-sender-requires
 save-sender-requires c κs = search needs
 
 settle-over-requires : tie.Need-settle-over-requires
-settle-over-requires c κs = holds-sent _ _ (c .before .before .before .before .before .before .before .before .before .before .before .before .before .before .pre) _ _ _ _ (c .before .before .before .before .before .before .before .before .before .before .before .reply .ensures) (c .before .before .before .before .before .before .asked-for .ensures) (c .before .before .before .before .before .send .ensures) (c .before .before .before .save-sender .ensures)
+settle-over-requires c κs =
+    holds-front
+    (sent-fronts _ _ (c .before .before .before .before .before .before .before .before .before .before .before .reply .ensures) (c .before .before .before .before .before .before .asked-for .ensures) (c .before .before .before .before .before .send .ensures) (c .before .before .before .before .before .before .before .before .before .before .before .before .before .before .pre) (c .before .before .before .save-sender .ensures))
 
 cast-result : tie.Need-cast-result
 cast-result c = search needs
@@ -40,8 +43,10 @@ same-length-2 c = search needs
 
 returns-2 : tie.Need-returns-2
 returns-2 c =
-    octet-left _ _ (c .before .before .before .before .before .before .before .before .before .before .before .before .before .before .before .before .before .before .pre) _ _ _ _ (c .before .before .before .before .before .before .before .before .before .before .before .before .before .before .before .reply .ensures) (c .before .before .before .before .before .before .before .before .before .before .asked-for .ensures) (c .before .before .before .before .before .before .before .before .before .send .ensures) (c .before .before .before .before .before .before .before .save-sender .ensures)
-    _ (c .before .before .before .before .before .before .before .before .before .before .before .before .before .left .ensures) (not-false _ (c .before .before .before .before .before .before .before .before .before .before .before .before .if1 .left)) (c .before .before .before .settle-over .ensures)
+    octet-left _ _ (c .before .before .before .before .before .before .before .before .before .before .before .before .before .before .before .reply .ensures) (c .before .before .before .before .before .before .before .before .before .before .asked-for .ensures) (c .before .before .before .before .before .before .before .before .before .send .ensures) (c .before .before .before .before .before .before .before .before .before .before .before .before .before .left .ensures) (not-false _ (c .before .before .before .before .before .before .before .before .before .before .before .before .if1 .left))
+    (settled-front
+    (sent-fronts _ _ (c .before .before .before .before .before .before .before .before .before .before .before .before .before .before .before .reply .ensures) (c .before .before .before .before .before .before .before .before .before .before .asked-for .ensures) (c .before .before .before .before .before .before .before .before .before .send .ensures) (c .before .before .before .before .before .before .before .before .before .before .before .before .before .before .before .before .before .before .pre) (c .before .before .before .before .before .before .before .save-sender .ensures))
+    (c .before .before .before .settle-over .ensures))
 
 pub send-spec : {M : Type 1} → statement M
 send-spec =

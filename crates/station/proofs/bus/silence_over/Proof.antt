@@ -1,5 +1,6 @@
 -- `station::bus::silence_over` meets its contract.
-use Rattle.station.proofs.Ticking.{holds-silenced, leaves-silenced}
+use Rattle.outcomes.proofs.Settled.{holds-front, settled-front}
+use Rattle.station.proofs.Ticking.{silenced-fronts}
 use borrow.Author.Needs.{needs}
 use Rattle.station.proofs.bus.silence_over.Statement.{statement}
 use Rattle.station.proofs.bus.silence_over.Tie as tie
@@ -23,13 +24,18 @@ drop-reply-requires : tie.Need-drop-reply-requires
 drop-reply-requires c κs = search needs
 
 settle-waiting-requires : tie.Need-settle-waiting-requires
-settle-waiting-requires c κs = holds-silenced _ _ (c .before .before .before .before .before .before .before .before .before .before .before .before .before .pre) _ _ _ _ _ _ (c .before .before .before .before .before .before .before .before .before .before .incoming .ensures) (c .before .before .before .before .before .before .before .before .status .ensures) (c .before .before .before .before .before .before .before .is-inside .ensures) (c .before .before .before .before .before .silenced-reader .ensures) (c .before .before .before .before .read-on .ensures) (c .before .before .before .drop-reply .ensures)
+settle-waiting-requires c κs =
+    holds-front
+    (silenced-fronts _ _ (c .before .before .before .before .before .before .before .before .before .before .before .before .before .pre) (c .before .before .before .before .before .before .before .before .before .before .incoming .ensures) (c .before .before .before .before .before .before .before .before .status .ensures) (c .before .before .before .before .before .before .before .is-inside .ensures) (c .before .before .before .before .before .silenced-reader .ensures) (c .before .before .before .before .read-on .ensures) (c .before .before .before .drop-reply .ensures))
 
 same-length : tie.Need-same-length
 same-length c = search needs
 
 returns : tie.Need-returns
-returns c = leaves-silenced _ _ (c .before .before .before .before .before .before .before .before .before .before .before .before .before .before .before .before .pre) _ _ _ _ _ _ (c .before .before .before .before .before .before .before .before .before .before .before .before .before .incoming .ensures) (c .before .before .before .before .before .before .before .before .before .before .before .status .ensures) (c .before .before .before .before .before .before .before .before .before .before .is-inside .ensures) (c .before .before .before .before .before .before .before .before .silenced-reader .ensures) (c .before .before .before .before .before .before .before .read-on .ensures) (c .before .before .before .before .before .before .drop-reply .ensures) (c .before .before .settle-waiting .ensures)
+returns c =
+    settled-front
+    (silenced-fronts _ _ (c .before .before .before .before .before .before .before .before .before .before .before .before .before .before .before .before .pre) (c .before .before .before .before .before .before .before .before .before .before .before .before .before .incoming .ensures) (c .before .before .before .before .before .before .before .before .before .before .before .status .ensures) (c .before .before .before .before .before .before .before .before .before .before .is-inside .ensures) (c .before .before .before .before .before .before .before .before .silenced-reader .ensures) (c .before .before .before .before .before .before .before .read-on .ensures) (c .before .before .before .before .before .before .drop-reply .ensures))
+    (c .before .before .settle-waiting .ensures)
 
 pub silence-over-spec : {M : Type 1} → statement M
 silence-over-spec =

@@ -1,5 +1,6 @@
 -- `station::hearing::turn` meets its contract.
-use Rattle.station.proofs.TurnedOverMemory.{leaves-fresh, holds-begun, leaves-begun, holds-completed, leaves-completed, holds-broken, leaves-broken}
+use Rattle.outcomes.proofs.Settled.{holds-front, settled-front}
+use Rattle.station.proofs.TurnedOverMemory.{leaves-fresh, begun-fronts, leaves-begun, completed-fronts, broken-fronts}
 use borrow.Author.Needs.{needs}
 use Rattle.station.proofs.hearing.turn.Statement.{statement}
 use Rattle.station.proofs.hearing.turn.Tie as tie
@@ -17,7 +18,9 @@ drop-reply-requires : tie.Need-drop-reply-requires
 drop-reply-requires c κs = search needs
 
 settle-over-requires : tie.Need-settle-over-requires
-settle-over-requires c κs = holds-begun _ _ _ _ (c .before .before .before .before .before .before .before .before .before .pre) _ _ (c .before .before .before .before .read-on .ensures) (c .before .before .before .drop-reply .ensures)
+settle-over-requires c κs =
+    holds-front
+    (begun-fronts _ _ _ _ (c .before .before .before .before .before .before .before .before .before .pre) (c .before .before .before .before .read-on .ensures) (c .before .before .before .drop-reply .ensures))
 
 enum-told-3 : tie.Need-enum-told-3
 enum-told-3 c = search needs
@@ -29,7 +32,9 @@ complete-requires : tie.Need-complete-requires
 complete-requires c κs = search needs
 
 settle-over-requires-2 : tie.Need-settle-over-requires-2
-settle-over-requires-2 c κs = holds-completed _ _ _ _ (c .before .before .before .before .before .before .before .before .before .pre) _ _ (c .before .before .before .before .read-on2 .ensures) (c .before .before .before .complete .ensures)
+settle-over-requires-2 c κs =
+    holds-front
+    (completed-fronts _ _ _ _ (c .before .before .before .before .before .before .before .before .before .pre) (c .before .before .before .before .read-on2 .ensures) (c .before .before .before .complete .ensures))
 
 enum-told-4 : tie.Need-enum-told-4
 enum-told-4 c = search needs
@@ -44,7 +49,9 @@ save-incoming-requires : tie.Need-save-incoming-requires
 save-incoming-requires c κs = search needs
 
 settle-over-requires-3 : tie.Need-settle-over-requires-3
-settle-over-requires-3 c κs = holds-broken _ _ _ _ (c .before .before .before .before .before .before .before .before .before .before .pre) _ _ _ (c .before .before .before .before .before .before .off .ensures) (c .before .before .before .before .before .read-on3 .ensures) (c .before .before .before .save-incoming .ensures)
+settle-over-requires-3 c κs =
+    holds-front
+    (broken-fronts _ _ _ _ (c .before .before .before .before .before .before .before .before .before .before .pre) (c .before .before .before .before .before .before .off .ensures) (c .before .before .before .before .before .read-on3 .ensures) (c .before .before .before .save-incoming .ensures))
 
 returns : tie.Need-returns
 returns c = λ b. rw (c .enum-told .given .1) (leaves-fresh _ _ _ _ (c .before .before .before .pre) b)
@@ -55,7 +62,11 @@ same-length c = search needs
 returns-2 : tie.Need-returns-2
 returns-2 c =
     let told = c .before .before .before .before .before .before .before .before .before .enum-told2 .given .1 in
-    λ b. rw told (leaves-begun _ _ _ _ (c .before .before .before .before .before .before .before .before .before .before .before .before .pre) _ _ (c .before .before .before .before .before .before .before .read-on .ensures) (c .before .before .before .before .before .before .drop-reply .ensures) told _ (c .before .before .settle-over .ensures) b)
+    λ b. rw told
+    (leaves-begun _ _ _ _ (c .before .before .before .before .before .before .before .before .before .before .before .before .pre) told
+    (settled-front
+    (begun-fronts _ _ _ _ (c .before .before .before .before .before .before .before .before .before .before .before .before .pre) (c .before .before .before .before .before .before .before .read-on .ensures) (c .before .before .before .before .before .before .drop-reply .ensures))
+    (c .before .before .settle-over .ensures)) b)
 
 same-length-2 : tie.Need-same-length-2
 same-length-2 c = search needs
@@ -63,7 +74,9 @@ same-length-2 c = search needs
 returns-3 : tie.Need-returns-3
 returns-3 c =
     λ b. rw (c .before .before .before .before .before .before .before .before .before .enum-told3 .given .1)
-    (leaves-completed _ _ _ _ (c .before .before .before .before .before .before .before .before .before .before .before .before .pre) _ _ (c .before .before .before .before .before .before .before .read-on2 .ensures) (c .before .before .before .before .before .before .complete .ensures) _ (c .before .before .settle-over2 .ensures) b)
+    (settled-front
+    (completed-fronts _ _ _ _ (c .before .before .before .before .before .before .before .before .before .before .before .before .pre) (c .before .before .before .before .before .before .before .read-on2 .ensures) (c .before .before .before .before .before .before .complete .ensures))
+    (c .before .before .settle-over2 .ensures))
 
 same-length-3 : tie.Need-same-length-3
 same-length-3 c = search needs
@@ -71,7 +84,9 @@ same-length-3 c = search needs
 returns-4 : tie.Need-returns-4
 returns-4 c =
     λ b. rw (c .before .before .before .before .before .before .before .before .before .before .enum-told4 .given .1)
-    (leaves-broken _ _ _ _ (c .before .before .before .before .before .before .before .before .before .before .before .before .before .pre) _ _ _ (c .before .before .before .before .before .before .before .before .before .off .ensures) (c .before .before .before .before .before .before .before .before .read-on3 .ensures) (c .before .before .before .before .before .before .save-incoming .ensures) _ (c .before .before .settle-over3 .ensures) b)
+    (settled-front
+    (broken-fronts _ _ _ _ (c .before .before .before .before .before .before .before .before .before .before .before .before .before .pre) (c .before .before .before .before .before .before .before .before .before .off .ensures) (c .before .before .before .before .before .before .before .before .read-on3 .ensures) (c .before .before .before .before .before .before .save-incoming .ensures))
+    (c .before .before .settle-over3 .ensures))
 
 pub turn-spec : {M : Type 1} → statement M
 turn-spec =
