@@ -10,7 +10,6 @@ use Rattle.buffers.specs.Events.{diagnosisEvent, outputsEvent, parametersEvent,
 use Rattle.state.specs.declared.control.Control.{Control}
 use Rattle.state.specs.declared.state.Drawn.the-variants.{Nothing}
 use Rattle.state.specs.Sound.{Within}
-use Rattle.rules.specs.declared.request.Occupied.{Occupied}
 use Rattle.rules.specs.declared.outcome.OutputsDeed.{OutputsDeed}
 use Rattle.rules.specs.declared.outcome.OutputsDeed.the-variants as outputs-deed
 use Rattle.rules.specs.declared.outcome.SetDeed.{SetDeed}

@@ -14,7 +14,7 @@ use Rattle.state.specs.Memory.{kept, Holds}
 use Rattle.state.specs.Sound.{Sound}
 use Rattle.state.specs.Unpack.{unpacked}
 use Rattle.state.proofs.Choice.{by-test}
-use Rattle.state.proofs.Damage.{fronted-same, holds-unpacked, kept-holds}
+use Rattle.state.proofs.Damage.{holds-unpacked, kept-holds}
 use Rattle.state.proofs.Front.{kept-drop}
 use Rattle.rules.specs.declared.outcome.Outcome.{Outcome}
 use Rattle.rules.specs.Control.{withChain}

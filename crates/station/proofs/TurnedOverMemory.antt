@@ -5,7 +5,7 @@ use mathlib.Core.Bool.{Bool, true, false, cond, not, _&&_}
 use mathlib.Core.List.{List}
 use Rattle.telegram.specs.declared.reader.Reader.{Reader}
 use Rattle.telegram.specs.declared.reader.Status.{Status}
-use Rattle.telegram.specs.declared.reader.Status.the-variants.{Fresh, Inside, Complete, Broken}
+use Rattle.telegram.specs.declared.reader.Status.the-variants.{Fresh, Inside}
 use Rattle.telegram.specs.Reading.{off, readerAfter, status, takesData, datumOf}
 use Rattle.telegram.proofs.Run.{no-true}
 use Rattle.telegram.proofs.Counts.{off-counts, after-counts}

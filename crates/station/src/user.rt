@@ -25,20 +25,14 @@ use state::saving::save_events;
 use state::saving::save_inputs;
 use state::saving::save_outputs;
 use state::state::Outputs;
-ghost use Prim.Native.Nat.{_≤_};
 ghost use mathlib.Core.Bool.{cond};
 ghost use mathlib.Core.Path.{_≡_};
 ghost use lib.Dec.{leb};
-ghost use lib.ListN.{length};
-ghost use Rattle.state.specs.declared.state.State.{State};
 ghost use Rattle.state.specs.Answer.{Meets};
-ghost use Rattle.state.specs.Layout.{stateLength};
-ghost use Rattle.state.specs.Memory.{kept, Holds};
+ghost use Rattle.state.specs.Memory.{Holds};
 ghost use Rattle.state.specs.Unpack.{unpacked};
-ghost use Rattle.rules.specs.Control.{withChain};
 ghost use Rattle.steps.specs.Stepped.{Tells};
 ghost use Rattle.steps.specs.Step.{packed};
-ghost use Rattle.steps.specs.Outcome.{diagnosisChanged};
 ghost use Rattle.steps.specs.User.{absent, kindAt, takeOutputs, readOctet, writeOctet, handOver, newDiagnosis, judgeParameters, judgeConfiguration, acknowledgeEvents, leaveMaster};
 
 // New outputs: 1, or 2 where the station published zeros.
