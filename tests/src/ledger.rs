@@ -595,6 +595,7 @@ impl Ledger {
         if telegram.destination & 0x7F == EVERYBODY {
             return self.serve_everybody(telegram);
         }
+        self.traces.watchdog_counted = self.watchdog_has_counted();
         let refilled = self.refill(telegram);
         match telegram.control & 0x0F {
             4 | 6 => self.serve_unacknowledged(telegram),
@@ -677,6 +678,11 @@ impl Ledger {
             }
             None => false,
         }
+    }
+
+    fn watchdog_has_counted(&self) -> bool {
+        let watchdog = self.watchdog.as_ref();
+        watchdog.is_some_and(|watchdog| watchdog.left < watchdog.period)
     }
 
     fn note_refilled(&mut self) {

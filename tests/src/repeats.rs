@@ -2,7 +2,7 @@
 
 use crate::draft::{self, Draft};
 use crate::line::{self, Line, MASTER, STATION};
-use crate::telegram::{self, Form};
+use crate::telegram::Form;
 
 const OTHER_MASTER: u8 = 3;
 const EVENT_PARAMETERS: i64 = 1 << 11;
@@ -378,15 +378,14 @@ fn the_data_of_a_repeat_is_never_shown() {
     assert_eq!(line.put(&line::exchange(0x11).counted(false)).len(), 10);
 }
 
-/// Its beginning drops a reply; the clear that is noted goes with its end where it draws nothing, and stays noted under
-/// what it draws.
+/// A clear that is noted goes with its end where it draws nothing, and stays noted under what it draws.
 #[test]
-fn a_repeat_is_a_telegram_on_the_line() {
+fn the_end_of_a_repeat_lets_a_noted_clear_go() {
     let nothing = Draft {
         control: 0x40,
         ..status()
     };
-    for (draft, owned) in [(nothing, false), (status(), true)] {
+    for (draft, draws) in [(nothing, false), (status(), true)] {
         let mut line = in_exchange();
         let octets = draft.counted(false).octets();
         line.put(&draft.counted(false));
@@ -397,9 +396,27 @@ fn a_repeat_is_a_telegram_on_the_line() {
                 assert_eq!(line.call("leave"), 0);
             }
         }
-        assert_eq!(line.call("take"), if owned { 0 } else { 2 });
+        assert_eq!(line.call("take"), if draws { 0 } else { 2 });
         line.rest_of_reply();
-        assert_eq!(line.call("take"), if owned { 2 } else { 0 });
+        assert_eq!(line.call("take"), if draws { 2 } else { 0 });
     }
-    assert_eq!(telegram::sd1(2, 5, 3), RS);
+}
+
+/// Its first octet, not its last, drops the reply of which one octet was sent, and then it is drawn whole again.
+#[test]
+fn the_beginning_of_a_repeat_drops_a_reply() {
+    let mut line = in_exchange();
+    let again = status().counted(true);
+    line.send(&again);
+    assert_eq!(line.call("send"), 0x10);
+    let octets = again.octets();
+    line.call("gap");
+    assert_eq!(line.call("send"), STATUS[1] as i64);
+    let (last, before) = octets.split_last().unwrap();
+    for octet in before {
+        assert_eq!(line.call(&format!("octet {octet:02X}")), 0);
+        assert_eq!(line.call("send"), 256);
+    }
+    assert_eq!(line.call(&format!("octet {last:02X}")), 0);
+    assert_eq!(line.rest_of_reply(), STATUS);
 }

@@ -2,9 +2,10 @@
 //! says that bit 5, the frame count bit (FCB), counts. A master changes the FCB with each new request and leaves it as
 //! it was where it missed the reply and asks again.
 
-use crate::ledger::{source, Drawn, Ledger, News, Phase, FLAG_STAT_DIAG};
+use crate::draft::{CHK_CFG, MASTER_POINT, READ_INPUTS, READ_OUTPUTS, SET_PRM};
+use crate::ledger::{source, Drawn, Ledger, News, Phase, Sets, FLAG_STAT_DIAG};
 use crate::outcome::Outcome;
-use crate::telegram::{Form, Telegram};
+use crate::telegram::Telegram;
 
 const FRAME_COUNT_VALID: u8 = 0x10;
 const FRAME_COUNT: u8 = 0x20;
@@ -36,6 +37,19 @@ fn frame_count(telegram: &Telegram) -> bool {
     telegram.control & FRAME_COUNT != 0
 }
 
+/// It asks for a service that draws RS outside DATA_EXCH.
+fn needs_exchange(telegram: &Telegram) -> bool {
+    sends_and_requests(telegram)
+        && telegram.extended().is_none_or(|asked| {
+            let reads = [READ_INPUTS, READ_OUTPUTS].contains(&asked.dsap);
+            reads && asked.ssap == MASTER_POINT && asked.data.is_empty()
+        })
+}
+
+fn sends_and_requests(telegram: &Telegram) -> bool {
+    [12, 13].contains(&(telegram.control & 0x0F))
+}
+
 /// The rule.
 impl Ledger {
     /// For requests alone: every acting telegram but those with function 4 or 6, which leave the chain as it is.
@@ -47,10 +61,11 @@ impl Ledger {
                 self.traces.reply_is_repeat = true;
             }
             _ => {
+                let phase = self.phase;
                 self.note_new_request(telegram);
                 self.serve_request(telegram);
                 self.count(telegram);
-                self.traces.reply_is_repeat = false;
+                self.begin_traces(telegram, phase);
             }
         }
     }
@@ -89,17 +104,46 @@ impl Ledger {
 /// What the table of outcomes is told by. No rule looks at it.
 #[derive(Clone, Default)]
 pub struct Traces {
-    /// The request that began the chain, and the phase that it met.
+    /// The last request that is no repeat, and the phase that it met.
     request: Option<(Telegram, Phase)>,
+    /// It left a set to be judged.
+    left_a_set: bool,
     /// What came since that leaves the chain as it is: reached if a repeat follows.
     since: Vec<Outcome>,
-    /// Master and FCB of the last chain that ended: what is reached if they come again now, which is no repeat.
+    /// Master and FCB of a chain that ended: what is reached if they come again as the next that counts, which is no
+    /// repeat.
     ended: Option<(u8, bool, Outcome)>,
+    /// The watchdog had counted before the telegram that is being served, so that a refill can be seen.
+    pub watchdog_counted: bool,
     pub reply_is_repeat: bool,
 }
 
 /// What the chain has to outlive.
 impl Ledger {
+    /// What the request itself did is not what came since.
+    fn begin_traces(&mut self, telegram: &Telegram, phase: Phase) {
+        self.traces.left_a_set = self.is_newest_set(telegram);
+        self.traces.request = Some((telegram.clone(), phase));
+        self.traces.since.clear();
+        self.traces.reply_is_repeat = false;
+    }
+
+    fn is_newest_set(&self, telegram: &Telegram) -> bool {
+        telegram.extended().is_some_and(|asked| {
+            let newest = |sets: &Sets| sets.waiting.clone().or(sets.shown.clone());
+            let sets = self.sets_of(asked.dsap);
+            sets.and_then(newest).as_deref() == Some(asked.data)
+        })
+    }
+
+    fn sets_of(&self, dsap: u8) -> Option<&Sets> {
+        match dsap {
+            SET_PRM => Some(&self.parameters),
+            CHK_CFG => Some(&self.configuration),
+            _ => None,
+        }
+    }
+
     pub fn trace(&mut self, outcome: Outcome) {
         if self.chain.is_some() && !self.traces.since.contains(&outcome) {
             self.traces.since.push(outcome);
@@ -191,10 +235,8 @@ impl Ledger {
         }
     }
 
-    /// Told only where ticks were counted, so that a refill can be seen.
     fn note_watchdog(&mut self, telegram: &Telegram) {
-        let counted = self.traces.since.contains(&Outcome::RepeatAfterTick);
-        if counted && self.watchdog.is_some() {
+        if self.traces.watchdog_counted {
             self.note(match self.is_owner(telegram) {
                 true => Outcome::RepeatRefills,
                 false => Outcome::RepeatRefillsNot,
@@ -220,56 +262,59 @@ impl Ledger {
         }
     }
 
+    /// Whether a new request would show other data here, or let it wait.
     fn note_acknowledged_again(&mut self, telegram: &Telegram, owner: bool) {
-        let sets = [&self.parameters.shown, &self.configuration.shown];
-        let open = sets.map(Option::is_some).contains(&true);
-        let other_data = telegram
-            .extended()
-            .is_some_and(|now| sets.iter().all(|set| set.as_deref() != Some(now.data)));
+        let shows_other = telegram.extended().is_some_and(|asked| {
+            let shown = self
+                .sets_of(asked.dsap)
+                .and_then(|sets| sets.shown.as_ref());
+            asked.ssap == MASTER_POINT && shown.is_some_and(|set| set != asked.data)
+        });
+        let none_open = self.parameters.shown.is_none() && self.configuration.shown.is_none();
+        let closed = self.traces.left_a_set && none_open;
         self.note_if(!owner, Outcome::RepeatE5NotOwner);
-        self.note_if(open && other_data, Outcome::RepeatE5SetStays);
-        self.note_if(!open, Outcome::RepeatE5Judged);
+        self.note_if(shows_other, Outcome::RepeatE5SetStays);
+        self.note_if(closed, Outcome::RepeatE5Judged);
     }
 
     fn note_rs_again(&mut self) {
-        let earlier = self.traces.request.as_ref();
-        let was_outside = earlier.is_some_and(|(_, phase)| *phase != Phase::DataExch);
+        let Some((earlier, phase)) = &self.traces.request else {
+            return;
+        };
+        let lacked_exchange = needs_exchange(earlier) && *phase != Phase::DataExch;
         let now_inside = self.phase == Phase::DataExch;
-        self.note_if(was_outside && now_inside, Outcome::RepeatRsInExchange);
+        self.note_if(lacked_exchange && now_inside, Outcome::RepeatRsInExchange);
     }
 
     /// Where a new Data_Exchange would bring inputs, publish or hold back.
     fn note_exchange_again(&mut self, telegram: &Telegram) {
         let inputs_wait = self.inputs.next_is_new && !self.freeze.on;
-        let not_taken = self.outputs.news == News::FromMaster;
         self.note(match self.diag_flag {
             true => Outcome::RepeatExchangeDiagFlag,
             false => Outcome::RepeatExchangePlain,
         });
         self.note_if(inputs_wait, Outcome::RepeatExchangeNewInputs);
-        self.note(match (self.sync.on, self.holds_back(), not_taken) {
+        self.note(match (self.sync.on, self.holds_back(), self.outputs.news) {
             (true, true, _) => Outcome::RepeatExchangeHeldBack,
-            (true, false, _) => Outcome::RepeatExchangePublished,
-            (false, _, true) => Outcome::RepeatExchangeNotTaken,
-            (false, _, false) => Outcome::RepeatExchangeTaken,
+            (true, false, _) => Outcome::RepeatExchangeInSync,
+            (false, _, News::FromMaster) => Outcome::RepeatExchangeNotTaken,
+            (false, _, News::ZerosByStation) => Outcome::RepeatExchangeCleared,
+            (false, _, News::Nothing) => Outcome::RepeatExchangeTaken,
         });
         let could_be_accepted = telegram.extended().is_none()
-            && telegram.form != Form::Sd1
+            && sends_and_requests(telegram)
             && telegram.data.len() == self.values.outputs as usize;
         if could_be_accepted {
-            self.note_other_outputs(telegram);
+            self.note_other_outputs(&telegram.data);
         }
     }
 
-    fn note_other_outputs(&mut self, telegram: &Telegram) {
-        match &self.outputs.held_back {
-            Some(outputs) if *outputs != telegram.data => {
-                self.note(Outcome::RepeatHeldBackOtherOutputs)
-            }
-            None if self.outputs.next != telegram.data && self.outputs.held != telegram.data => {
-                self.note(Outcome::RepeatOtherOutputs)
-            }
-            _ => {}
+    fn note_other_outputs(&mut self, outputs: &[u8]) {
+        let not_held_back = self.outputs.held_back.as_deref() != Some(outputs);
+        let not_published = self.outputs.next != outputs && self.outputs.held != outputs;
+        match self.sync.on {
+            true => self.note_if(not_held_back, Outcome::RepeatHeldBackOtherOutputs),
+            false => self.note_if(not_published, Outcome::RepeatOtherOutputs),
         }
     }
 }
@@ -293,18 +338,19 @@ impl Ledger {
             (None, true) => self.note(Outcome::CountBegins),
             (None, false) => self.note(Outcome::CountNotValid),
         }
-        self.traces.since.clear();
-        self.traces.request = Some((telegram.clone(), self.phase));
     }
 
     fn note_after_an_end(&mut self, telegram: &Telegram) {
-        if let Some((master, bit, outcome)) = self.traces.ended {
+        if !has_frame_count(telegram) {
+            return;
+        }
+        if let Some((master, bit, outcome)) = self.traces.ended.take() {
             let same = source(telegram) == master && frame_count(telegram) == bit;
-            self.note_if(same && has_frame_count(telegram), outcome);
+            self.note_if(same, outcome);
         }
     }
 
-    /// Remembered until the next end: only a request that would have been a repeat is told.
+    /// Remembered until the next request that counts: only one that would have been a repeat is told.
     fn end_chain(&mut self, outcome: Outcome) {
         self.traces.ended = self
             .chain

@@ -2,7 +2,7 @@
 use Rattle.telegram.proofs.Framing.{framing}
 use Rattle.telegram.proofs.FirstOctets.{first-octets}
 use Rattle.telegram.proofs.Sends.{sending}
-use Rattle.rules.proofs.Repeats.{repeat-exactly}
+use Rattle.rules.proofs.Repeats.{repeat-exactly, none-repeated}
 use Rattle.ledger.specs.Demand2.{Demand2}
 use Rattle.ledger.proofs.ByGrammar.{by-grammar, sd4-without-effect}
 use Rattle.ledger.proofs.Hearing.{hears, dialogue}
@@ -10,7 +10,7 @@ use Rattle.ledger.proofs.History.{deeds-make, withheld-told, clear-last
 use Rattle.ledger.proofs.EventsFollow.{events-open, publishing-raises}
 use Rattle.ledger.proofs.ModesKept.{modes-always}
 use Rattle.ledger.proofs.RequestKept.{chain-kept, chain-goes-on, start-has-none}
-use Rattle.ledger.proofs.Repeats.{repeat-is, e5-again, set-prm-once, no-deed-again}
+use Rattle.ledger.proofs.Repeats.{repeat-is, drawn-again, e5-again, set-prm-once, no-deed-again}
 use Rattle.ledger.proofs.Fit.{replies-read}
 use Rattle.ledger.proofs.Octets.{sent-octets}
 
@@ -32,8 +32,10 @@ demand-2 = record {
   repeat-exactly = repeat-exactly;
   repeat-is = repeat-is;
   start-has-none = start-has-none;
+  none-repeated = none-repeated;
   chain-kept = chain-kept;
   chain-goes-on = chain-goes-on;
+  drawn-again = drawn-again;
   e5-again = e5-again;
   set-prm-once = set-prm-once;
   no-deed-again = no-deed-again;

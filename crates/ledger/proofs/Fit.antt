@@ -3,7 +3,7 @@ use Prim.Native.Nat.{ℕ, _≤_, _<_}
 use native.Mathlib.Nat.{mod-lt}
 use native.Mathlib.Omega.{arith}
 use mathlib.Core.Path.{_≡_, refl, ap, _∙_}
-use mathlib.Core.Bool.{Bool, true, false, cond, not, _&&_, _||_}
+use mathlib.Core.Bool.{Bool, true, false, cond, not, _&&_}
 use mathlib.Core.List.{List, [], _∷_, _++_, append-assoc}
 use mathlib.Core.Logic.{inl, inr}
 use lib.Dec.{eqb, leb}
@@ -28,8 +28,7 @@ use Rattle.rules.specs.declared.outcome.SetDeed.the-variants as set-deed
 use Rattle.rules.specs.declared.outcome.Outcome.{Outcome}
 use Rattle.state.specs.Sound.{Within, DiagnosisCounted}
 use Rattle.state.specs.Well.{within}
-use Rattle.rules.specs.Control.{bit}
-use Rattle.rules.specs.Requests.{masterOf, toStation, toAll, acts, serviceOf}
+use Rattle.rules.specs.Requests.{masterOf, acts, serviceOf}
 use Rattle.rules.specs.Diagnosis.{delayed, diagnosed, delaying, caughtUp}
 use Rattle.rules.specs.Line.{ticked}
 use Rattle.ledger.specs.Lists.{some, Outputs, takenOutputs, Inputs, handedOver, writtenInput, Sets, Diagnoses, exchangedDiagnoses, writtenDiagnosis, Buffers, withOutputs, withInputs, withDiagnoses}
@@ -43,6 +42,7 @@ use Rattle.ledger.specs.ReadBack.{StartTakes, OutputsFit, InputsFit, Set
 use Rattle.ledger.proofs.Settling.{settle-line}
 use Rattle.ledger.proofs.ByCases.{take-cases, read-cases, write-cases, diagnosis-cases, parameters-cases, configuration-cases}
 use Rattle.ledger.proofs.Hearing.{last-heard}
+use Rattle.rules.proofs.Headed.{acts-master}
 use Rattle.rules.proofs.Served.{Publishes, Receives, Lawful, Quiet, clear-quiet, clear-noted-quiet, ticked-quiet, parameters-quiet, configuration-quiet, Served, served}
 use Rattle.state.proofs.Choice.{by-test, and-left, and-right}
 use Rattle.state.proofs.Tests.{none-or-some, within-and}
@@ -184,15 +184,7 @@ module _ {l : Ledger} (f : Fit l) (t : Telegram) where
       on-line outcome-fit (completed l t .line)
       (reply-left (drawnBy l t) drawn-valid)
 
--- the master of a telegram that acts is at most 126
-pub acts-master : (s : Setup) (r : Request) → acts s r ≡ true → masterOf r ≤ 126
-acts-master s r e =
-    let x : Bool = toStation s r || toAll r in
-    let y : Bool = leb (masterOf r) 126 in
-    let z : Bool = not (bit (r .fc) 7) in
-    leb-true (masterOf r) 126 (and-right x y (and-left (x && y) z (and-left (x && y && z) (bit (r .fc) 6) e)))
-
--- and a telegram that draws something acts
+-- a telegram that draws something acts, so its master is at most 126
 draws-master : (l : Ledger) (t : Telegram) → ¬ (outcomeOf l (requestBy t) (payloadOf t) .drawn ≡ drawn.Nothing) → masterOf (requestBy t) ≤ 126
 unfolding serviceOf
 draws-master l t n = go (acts (l .setup) (requestBy t)) refl

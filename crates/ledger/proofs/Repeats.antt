@@ -1,4 +1,4 @@
--- A request that is sent again (specs/Repeats.antt): its repeat draws E5 again, and nothing else comes of it.
+-- A request that is sent again (specs/Repeats.antt): its repeat draws again what it drew, and of one that drew E5 nothing else comes.
 use Prim.Native.Nat.{ℕ}
 use mathlib.Core.Path.{_≡_, refl, sym, ap, subst, _∙_}
 use mathlib.Core.Bool.{Bool, true, false, cond, _&&_}
@@ -30,11 +30,11 @@ use Rattle.ledger.specs.Bus.{requestBy, dataBy, outcomeOf, answered, com
 use Rattle.ledger.specs.Calls.{step, after}
 use Rattle.ledger.specs.Hearing.{hear, begunBy}
 use Rattle.ledger.specs.History.{clears, deedsBy}
-use Rattle.ledger.specs.Repeats.{again, RepeatIs, SentAgain, afterGap, NothingNew, E5Again, SetPrmOnce, NoDeedAgain}
+use Rattle.ledger.specs.Repeats.{again, RepeatIs, SentAgain, behind, DrawnAgain, afterGap, NothingNew, E5Again, SetPrmOnce, NoDeedAgain}
 use Rattle.ledger.proofs.Settling.{settle-line, settle-setup}
 use Rattle.ledger.proofs.Kept.{step-kept, after-kept}
 use Rattle.ledger.proofs.Hearing.{unfinished, completed-on, inner-heard, begun-heard, hears}
-use Rattle.ledger.proofs.RequestKept.{chain-goes-on, Waits, settle-waits, step-waits, after-waits}
+use Rattle.ledger.proofs.RequestKept.{settle-chain, after-chain, chain-goes-on, Waits, settle-waits, step-waits, after-waits}
 
 -- ---------------------------------------------------------------------------------------------------
 -- A busy line with nothing delayed.
@@ -133,32 +133,49 @@ gap-line : (l : Ledger) → step l gap .ledger .line ≡ gapped (l .line)
 unfolding paused
 gap-line l = settle-line (withLine l (gapped (l .line)))
 
--- after a new request that drew E5 the chain is the one that its repeat asks for
-request-waits : (l : Ledger) (t u : Telegram) → SentAgain l t u → outcomeOf l (requestBy t) (payloadOf t) .drawn ≡ Acknowledge
-    → Waits (e5Chain u) (settle (completed l t))
-unfolding answered
-request-waits l t u s d =
-    settle-waits (completed l t)
-    (chain-goes-on l t .new-goes-in (s .first-asks) (s .first-new)
-    ∙ (λ i. cond (s .first-counts i) (chainOf (sym (s .same-master) i) (sym (s .same-bit) i) (d i)) noChain))
-    (ap diagnoses d)
+module _ (l : Ledger) (t u : Telegram) (s : SentAgain l t u) where
+  -- what t drew
+  abbrev first-drawn : Drawn
+  first-drawn = outcomeOf l (requestBy t) (payloadOf t) .drawn
 
--- the setup after it, the calls cs and a gap
-setup-stays : (l : Ledger) (t : Telegram) (cs : List Call) → afterGap l t cs .setup ≡ l .setup
+  -- after t the chain is the one that its repeat asks for
+  goes-in : completed l t .control .chain ≡ chainOf (masterOf (requestBy u)) (fcbOf (requestBy u)) first-drawn
+  goes-in =
+      chain-goes-on l t .new-goes-in (s .first-asks) (s .first-new)
+      ∙ (λ i. cond (s .first-counts i) (chainOf (sym (s .same-master) i) (sym (s .same-bit) i) first-drawn) noChain)
+
+  -- and nothing is delayed if that was E5
+  request-waits : first-drawn ≡ Acknowledge → Waits (e5Chain u) (settle (completed l t))
+  unfolding answered
+  request-waits d =
+      settle-waits (completed l t) (goes-in ∙ ap (chainOf (masterOf (requestBy u)) (fcbOf (requestBy u))) d) (ap diagnoses d)
+
+  -- u is a request for every station with that setup
+  asks-on : (p : Ledger) → p .setup ≡ l .setup → isRequest (p .setup) (requestBy u) ≡ true
+  asks-on p e = ap (λ (x : Setup). isRequest x (requestBy u)) e ∙ s .second-asks
+
+-- the setup after t and the calls cs
+setup-stays : (l : Ledger) (t : Telegram) (cs : List Call) → behind l t cs .setup ≡ l .setup
 unfolding answered
-setup-stays l t cs =
-    let m = settle (completed l t) in
-    step-kept (after m cs) gap .0 ∙ after-kept m cs .0 ∙ settle-setup (completed l t)
+setup-stays l t cs = after-kept (settle (completed l t)) cs .0 ∙ settle-setup (completed l t)
+
+-- a request that drew anything
+pub drawn-again : DrawnAgain
+drawn-again l t u cs s n =
+    let k = completed l t in
+    let p = behind l t cs in
+    let h = after-chain (settle k) cs n ∙ settle-chain k ∙ goes-in l t u s in
+    repeat-is p u (is-repeat (p .setup) (p .control) (requestBy u) (first-drawn l t u s) (asks-on l t u s p (setup-stays l t cs)) (s .second-counts) h)
+    ∙ ap (λ (d : Drawn). again d p u) (ap drawnIn h ∙ drawn-in (masterOf (requestBy u)) (fcbOf (requestBy u)) (first-drawn l t u s))
 
 -- a request that drew E5
 pub e5-again : E5Again
 e5-again l t u cs s d n =
-    let k = settle (completed l t) in
-    let m = after k cs in
+    let m = behind l t cs in
     let x = ap diagnoses (e5-drawn u) in
-    nothing-new (afterGap l t cs) u (s .second-valid) (step-waits x m gap refl (after-waits x k cs n (request-waits l t u s d)))
+    nothing-new (afterGap l t cs) u (s .second-valid) (step-waits x m gap refl (after-waits x (settle (completed l t)) cs n (request-waits l t u s d)))
     (ap (λ (x : Line). x .ignored) (gap-line m)) (ap (λ (x : Line). x .telegram) (gap-line m))
-    (ap (λ (x : Setup). isRequest x (requestBy u)) (setup-stays l t cs) ∙ s .second-asks) (s .second-counts)
+    (asks-on l t u s (afterGap l t cs) (step-kept m gap .0 ∙ setup-stays l t cs)) (s .second-counts)
 
 -- among them every Set_Prm that no other master's ownership refuses
 pub set-prm-once : SetPrmOnce

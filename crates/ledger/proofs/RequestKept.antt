@@ -57,7 +57,7 @@ quiet-chain : {g : Setup} {c : Control} {o : Outcome} → Quiet g c Unit o → o
 quiet-chain q = ⊎-elim (λ e. e) (λ x. absurd (x .0)) (q .chain-comes)
 
 -- a delayed diagnosis and a noted clear
-settle-chain : (l : Ledger) → SameChain l (settle l)
+pub settle-chain : (l : Ledger) → SameChain l (settle l)
 unfolding settle afterReply diagnosed
 settle-chain l =
     quiet-chain (clear-noted-quiet (afterReply l .setup) (afterReply l .control) (busy l) (λ _. tt))
@@ -99,6 +99,11 @@ chain-kept l events e = refl
 chain-kept l (acknowledge mask) e = refl
 chain-kept l pending e = refl
 chain-kept l leave e = quiet-chain (clear-quiet (l .setup) (l .control) (busy l) (λ _. tt))
+
+-- a list of calls
+pub after-chain : (l : Ledger) (cs : List Call) → NoNewRequest l cs → SameChain l (after l cs)
+after-chain l [] n = refl
+after-chain l (c ∷ cs) n = after-chain (step l c .ledger) cs (n .1) ∙ chain-kept l c (n .0)
 
 -- a request
 pub chain-goes-on : (l : Ledger) (t : Telegram) → ChainGoesOn l t

@@ -11,7 +11,7 @@ use Rattle.ledger.specs.ReadBack.{ReadingBack}
 use Rattle.ledger.specs.Octets.{SentOctets}
 use Rattle.ledger.specs.EventsFollow.{EventsOpen, PublishingRaises}
 use Rattle.ledger.specs.ModesKept.{ModesAlways}
-use Rattle.ledger.specs.Repeats.{RepeatExactly, RepeatIs, StartHasNone, ChainKept, ChainGoesOn, E5Again, SetPrmOnce, NoDeedAgain}
+use Rattle.ledger.specs.Repeats.{RepeatExactly, RepeatIs, StartHasNone, NoneRepeated, ChainKept, ChainGoesOn, DrawnAgain, E5Again, SetPrmOnce, NoDeedAgain}
 
 pub record Demand2 : Type 0 where
   -- of every list of octets the reader tells what the grammar says
@@ -46,10 +46,14 @@ pub record Demand2 : Type 0 where
   pub repeat-is : RepeatIs
   -- at first there is no request to repeat
   pub start-has-none : StartHasNone
+  -- and without one nothing is a repeat
+  pub none-repeated : NoneRepeated
   -- nothing but a new request touches the chain
   pub chain-kept : ChainKept
   -- which goes into it or ends it; a repeat leaves it
   pub chain-goes-on : (l : Ledger) (t : Telegram) → ChainGoesOn l t
+  -- whatever a request drew is drawn again when it is sent again
+  pub drawn-again : DrawnAgain
   -- a request that drew E5 and is sent again draws E5, and nothing else comes of it
   pub e5-again : E5Again
   -- so a Set_Prm's event comes once

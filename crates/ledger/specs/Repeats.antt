@@ -95,6 +95,10 @@ NoNewRequest l (c ∷ cs) = (completesNewRequest l c ≡ false) × NoNewRequest 
 abbrev pub StartHasNone : Type 0
 StartHasNone = (s : Setup) (slice : List ℕ) → fresh s slice .control .chain ≡ noChain
 
+-- and where there is none, nothing is a repeat
+abbrev pub NoneRepeated : Type 0
+NoneRepeated = (g : Setup) (c : Control) (r : Request) → c .chain ≡ noChain → isRepeat g c r ≡ false
+
 -- nothing but a new request touches the chain
 abbrev pub ChainKept : Type 0
 ChainKept = (l : Ledger) (c : Call) → completesNewRequest l c ≡ false → step l c .ledger .control .chain ≡ l .control .chain
@@ -119,9 +123,24 @@ pub record SentAgain (l : Ledger) (t u : Telegram) : Type 0 where
   pub same-master : masterOf (requestBy u) ≡ masterOf (requestBy t)
   pub same-bit : fcbOf (requestBy u) ≡ fcbOf (requestBy t)
 
--- the ledger after the last octet of t (ByGrammar.antt: HeardAsFramed .whole), the calls cs and a gap
+-- the ledger after the last octet of t (ByGrammar.antt: HeardAsFramed .whole) and the calls cs
+abbrev pub behind : Ledger → Telegram → List Call → Ledger
+behind l t cs = after (settle (completed l t)) cs
+
+-- no call of cs completes a new request there
+abbrev pub NoneBetween : Ledger → Telegram → List Call → Type 0
+NoneBetween l t cs = NoNewRequest (settle (completed l t)) cs
+
+-- whatever t drew is drawn again: u, complete after any calls between that complete no new request (its own octets but the last are among
+-- them), is a repeat that draws it
+abbrev pub DrawnAgain : Type 0
+DrawnAgain =
+    (l : Ledger) (t u : Telegram) (cs : List Call) → SentAgain l t u → NoneBetween l t cs
+    → completed (behind l t cs) u ≡ again (outcomeOf l (requestBy t) (payloadOf t) .drawn) (behind l t cs) u
+
+-- and a gap after these calls
 abbrev pub afterGap : Ledger → Telegram → List Call → Ledger
-afterGap l t cs = step (after (settle (completed l t)) cs) gap .ledger
+afterGap l t cs = step (behind l t cs) gap .ledger
 
 -- of the ledger p after the gap: u is heard whole with no call between, octet by octet
 pub record NothingNew (p : Ledger) (u : Telegram) : Type 0 where
@@ -140,15 +159,13 @@ pub record NothingNew (p : Ledger) (u : Telegram) : Type 0 where
 abbrev pub E5Again : Type 0
 E5Again =
     (l : Ledger) (t u : Telegram) (cs : List Call) → SentAgain l t u
-    → outcomeOf l (requestBy t) (payloadOf t) .drawn ≡ drawn.Acknowledge → NoNewRequest (settle (completed l t)) cs
-    → NothingNew (afterGap l t cs) u
+    → outcomeOf l (requestBy t) (payloadOf t) .drawn ≡ drawn.Acknowledge → NoneBetween l t cs → NothingNew (afterGap l t cs) u
 
 -- "the vat program gets the event twice" no more: a Set_Prm that no other master's ownership refuses, and its repeat
 abbrev pub SetPrmOnce : Type 0
 SetPrmOnce =
     (l : Ledger) (t u : Telegram) (cs : List Call) → SentAgain l t u → serviceOf (l .setup) (requestBy t) ≡ SetPrm
-    → otherOwns (l .control) (masterOf (requestBy t)) ≡ false → NoNewRequest (settle (completed l t)) cs
-    → NothingNew (afterGap l t cs) u
+    → otherOwns (l .control) (masterOf (requestBy t)) ≡ false → NoneBetween l t cs → NothingNew (afterGap l t cs) u
 
 -- "the outputs of a repeated Data_Exchange count as accepted a single time": a repeat has no deed but that of a noted clear at its end
 abbrev pub NoDeedAgain : Type 0

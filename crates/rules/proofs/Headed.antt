@@ -1,17 +1,18 @@
 -- What the header of a telegram is, by the service that it asks for.
 use Prim.Native.Nat.{ℕ, _≤_, _<_}
 use mathlib.Core.Path.{_≡_}
-use mathlib.Core.Bool.{not}
-use lib.Dec.{eqb}
+use mathlib.Core.Bool.{Bool, true, not, _&&_, _||_}
+use lib.Dec.{eqb, leb}
 use borrow.Author.Tests.{leb-true, leb-false, eqb-true, not-true, not-false}
 use Rattle.telegram.specs.declared.Kind.{Kind}
 use Rattle.telegram.specs.declared.Kind.the-variants.{Sd1, Sd2, Sd3, Sd4}
 use Rattle.state.specs.declared.setup.Setup.{Setup}
-use Rattle.state.proofs.Choice.{by-test}
+use Rattle.state.proofs.Choice.{by-test, and-left, and-right}
 use Rattle.rules.specs.declared.request.Request.{Request}
 use Rattle.rules.specs.declared.request.Service.{Service}
 use Rattle.rules.specs.declared.request.Service.the-variants.{Nothing, Status, Reject, GlobalControl, DataExchange, SetPrm, ChkCfg, SlaveDiag, GetCfg, ReadInputs, ReadOutputs}
-use Rattle.rules.specs.Requests.{acts, extended, functionOf, sendsAndRequests, wantsAcknowledgement, wantsNone, globalForm, statusBy, pointOf, requestOf, functionService, serviceOf}
+use Rattle.rules.specs.Control.{bit}
+use Rattle.rules.specs.Requests.{masterOf, toStation, toAll, acts, extended, functionOf, sendsAndRequests, wantsAcknowledgement, wantsNone, globalForm, statusBy, pointOf, requestOf, functionService, serviceOf}
 
 -- it came without extension
 abbrev pub Plain : Request → Type 0
@@ -75,3 +76,11 @@ module _ (r : Request) where
   pub headed : (g : Setup) → Headed (serviceOf g r) r
   unfolding Says serviceOf
   headed g = by-test Says (acts g r) _ _ (λ _. function-headed) (λ _. tt)
+
+-- the master of a telegram that acts is at most 126
+pub acts-master : (s : Setup) (r : Request) → acts s r ≡ true → masterOf r ≤ 126
+acts-master s r e =
+    let x : Bool = toStation s r || toAll r in
+    let y : Bool = leb (masterOf r) 126 in
+    let z : Bool = not (bit (r .fc) 7) in
+    leb-true (masterOf r) 126 (and-right x y (and-left (x && y) z (and-left (x && y && z) (bit (r .fc) 6) e)))

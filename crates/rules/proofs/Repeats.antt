@@ -1,4 +1,6 @@
 -- The chain after a telegram, and which telegram is a repeat by it.
+use Prim.Native.Nat.{_≤_}
+use native.Mathlib.Omega.{arith}
 use mathlib.Core.Path.{_≡_, refl, sym, ap, _∙_}
 use mathlib.Core.Bool.{Bool, true, false, cond, not, _&&_, _||_, and-true}
 use mathlib.Core.Logic.{_↔_, _⊎_, inl, inr}
@@ -10,7 +12,7 @@ use Rattle.state.specs.declared.control.Control.{Control}
 use Rattle.state.specs.declared.chain.Chain.{Chain}
 use Rattle.state.specs.declared.state.Drawn.{Drawn}
 use Rattle.state.specs.declared.state.Drawn.the-variants.{Nothing, Acknowledge}
-use Rattle.state.specs.Chain.{chainOf, fcbIn, drawnIn}
+use Rattle.state.specs.Chain.{chainOf, noChain, fcbIn, drawnIn}
 use Rattle.state.specs.Well.{within}
 use Rattle.state.proofs.SetCodes.{fcb-in}
 use Rattle.state.proofs.Choice.{by-test, either, and-left, and-right}
@@ -23,8 +25,9 @@ use Rattle.rules.specs.declared.request.Service.the-variants.{SetPrm}
 use Rattle.rules.specs.declared.outcome.Outcome.{Outcome}
 use Rattle.rules.specs.Control.{bit}
 use Rattle.rules.specs.Requests.{masterOf, wantsNone, acts, refilled, serviceOf}
-use Rattle.rules.specs.Retries.{isRequest, fcvOf, fcbOf, same, isRepeat, chainBy, chained, repeated}
+use Rattle.rules.specs.Retries.{asks, isRequest, fcvOf, fcbOf, same, isRepeat, chainBy, chained, repeated}
 use Rattle.rules.specs.Services.{otherOwns, otherIdent, wantsWatchdog, badFactors, setPrm, serve, outcomeBy}
+use Rattle.rules.proofs.Headed.{acts-master}
 use Rattle.rules.proofs.Alike.{refilled-alike}
 use Rattle.rules.proofs.ByCases.{refilled-same}
 use Rattle.rules.proofs.Unasked.{unasked-silent}
@@ -65,6 +68,19 @@ pub is-repeat : (g : Setup) (c : Control) (r : Request) (d : Drawn) → isReques
     → c .chain ≡ chainOf (masterOf r) (fcbOf r) d → isRepeat g c r ≡ true
 is-repeat g c r d a v h =
     repeat-exactly g c r .1 (a, v, ap (λ (k : Chain). k .master) (sym h), sym (ap fcbIn h ∙ fcb-in (masterOf r) (fcbOf r) d))
+
+-- where there is no chain nothing is one: what acts comes from a master's address
+pub none-repeated : (g : Setup) (c : Control) (r : Request) → c .chain ≡ noChain → isRepeat g c r ≡ false
+none-repeated g c r e = go (isRepeat g c r) refl
+  where
+    go : (t : Bool) → isRepeat g c r ≡ t → t ≡ false
+    go false _ = refl
+    go true f =
+        let x = repeat-exactly g c r .0 f in
+        let m : masterOf r ≤ 126 = acts-master g r (and-left (acts g r) (asks r) (x .0)) in
+        let n : masterOf r ≡ 127 = x .2 ∙ ap (λ (h : Chain). h .master) e in
+        let no : ⊥ = omega arith in
+        absurd no
 
 -- ---- the chain
 

@@ -12,10 +12,9 @@ use Rattle.state.specs.declared.control.Modes.{Modes}
 use Rattle.state.specs.declared.chain.Chain.{Chain}
 use Rattle.state.specs.declared.control.Control.{Control}
 use Rattle.state.specs.declared.state.Drawn.{Drawn}
-use Rattle.state.specs.declared.state.Drawn.the-variants.{Nothing}
 use Rattle.state.specs.Sound.{Within}
 use Rattle.state.specs.Chain.{chainOf, noChain, drawnIn}
-use Rattle.state.proofs.SetCodes.{drawn-in, chain-below}
+use Rattle.state.proofs.SetCodes.{drawn-in, none-drawn, chain-below}
 use Rattle.state.proofs.Choice.{by-test, either, or-first, or-second, or-either}
 use Rattle.rules.specs.declared.request.Request.{Request}
 use Rattle.rules.specs.declared.request.Data.{Data}
@@ -309,7 +308,7 @@ module _ {g : Setup} {c : Control} {withheld : Bool} {r : Request} {o : Outcome}
   -- a repeat may draw the held outputs if the request drew them
   by-request : (t : Bool) → isOutputs (drawnIn (cond t (chainOf (masterOf r) (fcbOf r) (o .drawn)) noChain)) ≡ true → Stays
   by-request true e = within (v .draws-within (sym (ap isOutputs (drawn-in (masterOf r) (fcbOf r) (o .drawn))) ∙ e))
-  by-request false e = no-true (sym (ap isOutputs (drawn-in 127 false Nothing)) ∙ e)
+  by-request false e = no-true (sym (ap isOutputs none-drawn) ∙ e)
 
   by-chain : isOutputs (drawnIn (chainAfter g (o .control .chain) r (o .drawn))) ≡ true → Stays
   by-chain =

@@ -10,11 +10,12 @@ use Rattle.buffers.specs.Number.{numberOf, placesOf, numberOf4}
 use Rattle.buffers.proofs.Numbers.{number-below, number-places, places-number, places4-number}
 use Rattle.state.specs.declared.control.Modes.{Modes}
 use Rattle.state.specs.declared.state.Drawn.{Drawn}
+use Rattle.state.specs.declared.state.Drawn.the-variants.{Nothing}
 use Rattle.state.specs.declared.state.Outputs.{Outputs}
 use Rattle.state.specs.Number.{drawnNumber, drawnNumbered}
 use Rattle.state.specs.Image.{bitOf, modesOf, marksOf, inputsCode}
 use Rattle.state.specs.Unpack.{odd, bitAt, modesIn, outputsIn, inputsIn}
-use Rattle.state.specs.Chain.{chainOf, fcbIn, drawnIn}
+use Rattle.state.specs.Chain.{chainOf, noChain, fcbIn, drawnIn}
 use Rattle.state.proofs.Numbers.{drawn-back, drawn-le}
 use Rattle.state.proofs.Bits.{bit-le, bit-in, odd-bit, marked, sum-marks}
 
@@ -130,6 +131,10 @@ module _ (master : ℕ) (fcb : Bool) (d : Drawn) where
   -- the code is at most 17
   pub chain-below : chainOf master fcb d .code ≤ 17
   chain-below = second-below (drawnNumber d) (bitOf fcb) 8 (drawn-le d) (bit-le fcb)
+
+-- no chain holds nothing
+pub none-drawn : drawnIn noChain ≡ Nothing
+none-drawn = drawn-in 127 false Nothing
 
 -- the number of what was drawn
 pub drawn-below : (n : ℕ) (d : Drawn) → n ≡ drawnNumber d → n ≤ 8

@@ -10,7 +10,7 @@ use Rattle.state.specs.Unpack.{odd}
 
 -- a request of this master, with this frame count bit, that drew d
 abbrev pub chainOf : ℕ → Bool → Drawn → Chain
-chainOf master fcb d = record { master = master; code = 2 * drawnNumber d + bitOf fcb }
+chainOf master fcb d = record { code = 2 * drawnNumber d + bitOf fcb; master = master }
 
 -- its frame count bit
 abbrev pub fcbIn : Chain → Bool

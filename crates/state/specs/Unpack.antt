@@ -85,7 +85,7 @@ controlIn l =
       noted = bitAt (getD l 3 0) 4;
       diagnosis = diagnosisIn l;
       modes = modesIn (getD l 27 0);
-      chain = record { master = getD l 55 0; code = getD l 54 0 };
+      chain = record { code = getD l 54 0; master = getD l 55 0 };
     }
 
 -- the output set of its roles and its marks

@@ -1,5 +1,5 @@
 // The chain of a master's requests: the last one, with which the next is compared. What it drew and its frame count bit are one octet, so
-// that loading the control part decodes nothing of it.
+// that loading the control part decodes nothing of it. Its fields are in the order of the image, so that both move as one half word.
 use crate::image::bit;
 use crate::number::drawn_number;
 use crate::number::drawn_numbered;
@@ -8,10 +8,10 @@ ghost use mathlib.Core.Path.{_≡_};
 ghost use Rattle.state.specs.Chain.{chainOf, noChain, fcbIn, drawnIn};
 
 pub struct Chain {
-    // the address of the master that sent it, or NO_MASTER
-    pub master: u8,
     // the number of what it drew, doubled, and its frame count bit
     pub code: u8,
+    // the address of the master that sent it, or NO_MASTER
+    pub master: u8,
 }
 
 impl Chain {
@@ -23,7 +23,7 @@ impl Chain {
         ensures { λ r. ⌜ r ≡ chainOf master fcb drawn ⌝ }
     {
         let code = 2 * drawn_number(drawn) + bit(fcb);
-        Chain { master, code }
+        Chain { code, master }
     }
 
     // No request that a telegram could repeat.
@@ -31,8 +31,8 @@ impl Chain {
         ensures { λ r. ⌜ r ≡ noChain ⌝ }
     {
         Chain {
-            master: Chain::NO_MASTER,
             code: 0,
+            master: Chain::NO_MASTER,
         }
     }
 

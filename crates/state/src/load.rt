@@ -135,8 +135,8 @@ pub fn chain(mem: &[u8]) -> Chain
     ensures { λ r. ⌜ r ≡ unpacked (now (mem .entry)) .control .chain ⌝ }
 {
     Chain {
-        master: mem[55],
         code: mem[54],
+        master: mem[55],
     }
 }
 
