@@ -1,5 +1,6 @@
 -- `rules::retries::repeats` meets its contract.
 use Prim.Native.Nat.{ℕ}
+use native.Mathlib.Omega.{arith}
 use mathlib.Core.Path.{_≡_, sym, ap, _∙_}
 use mathlib.Core.Bool.{Bool, true, false, _&&_, and-true, and-false}
 use lib.Dec.{eqb}
@@ -45,8 +46,10 @@ returns-2 : tie.Need-returns-2
 returns-2 c =
     let asked = c .before .before .before .before .before .before in
     let x = asked .before .args in
+    let found = c .if2 .taken in
+    let other : asked .master-of .result ≡ x .chain .master → ⊥ = λ e. omega arith in
     middle-fails (request (x .r)) (eqb (masterOf (x .r)) (x .chain .master)) (same (fcbOf (x .r)) (fcbIn (x .chain)))
-    (ap (λ (n : ℕ). eqb n (x .chain .master)) (sym (asked .master-of .ensures)) ∙ ne-eqb _ _ (c .if2 .taken))
+    (ap (λ (n : ℕ). eqb n (x .chain .master)) (sym (asked .master-of .ensures)) ∙ ne-eqb _ _ other)
 
 asks-requires : tie.Need-asks-requires
 asks-requires c κs = search needs
@@ -56,9 +59,11 @@ returns-3 c =
     let tested = c .before .before .before .before in
     let asked = tested .before .before .before .before in
     let x = asked .before .args in
+    let found = c .before .before .if2 .left in
+    let equal : asked .master-of .result ≡ x .chain .master = omega arith in
     (λ i. c .before .asks .ensures i && fcvOf (x .r))
     ∙ both-hold (request (x .r)) (eqb (masterOf (x .r)) (x .chain .master)) (same (fcbOf (x .r)) (fcbIn (x .chain)))
-    (ap (λ (n : ℕ). eqb n (x .chain .master)) (sym (asked .master-of .ensures)) ∙ eq-eqb _ _ (c .before .before .if2 .left))
+    (ap (λ (n : ℕ). eqb n (x .chain .master)) (sym (asked .master-of .ensures)) ∙ eq-eqb _ _ equal)
     (sym (tested .before .same .ensures ∙ ap (same (fcbOf (x .r))) (tested .before .before .fcb .ensures)) ∙ not-false _ (tested .if1 .left))
 
 pub repeats-spec : {M : Type 1} → statement M
