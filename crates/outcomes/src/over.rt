@@ -25,12 +25,13 @@ ghost use Rattle.state.specs.Memory.{kept, Holds};
 ghost use Rattle.state.specs.Unpack.{unpacked};
 ghost use Rattle.state.specs.With.{withOutputs, withInputs, withParameters, withConfiguration};
 ghost use Rattle.rules.specs.Retries.{onChain};
+ghost use Rattle.steps.specs.Safe.{Safe};
 ghost use Rattle.steps.specs.Stepped.{packedAfter};
 ghost use Rattle.steps.specs.Outcome.{onOutputs, onInputs, onSets, onMemory, carried};
 
 // Zeros in the outputs' next buffer.
 fn clear_next(mem: &mut [u8])
-    requires { ⌜ Holds (now mem) (unpacked (now mem)) ⌝ }
+    requires { ⌜ Safe (unpacked (now mem)) (now mem) ⌝ }
     ensures { λ _. ⌜ now (mem .exit) ≡ onMemory OutputsDeed.Zeros (unpacked (now (mem .entry))) (now (mem .entry)) ⌝ }
 {
     let setup = load::setup(&mem[..]);
@@ -41,7 +42,7 @@ fn clear_next(mem: &mut [u8])
 
 // The buffers, where the deed asks for it.
 fn carry_buffers(deed: OutputsDeed, mem: &mut [u8])
-    requires { ⌜ Holds (now mem) (unpacked (now mem)) ⌝ }
+    requires { ⌜ Safe (unpacked (now mem)) (now mem) ⌝ }
     ensures { λ _. ⌜ now (mem .exit) ≡ onMemory deed (unpacked (now (mem .entry))) (now (mem .entry)) ⌝ }
 {
     match deed {
@@ -104,8 +105,9 @@ fn put_configuration(deed: SetDeed, sets: Sets, count: u8, mem: &mut [u8])
     }
 }
 
-// An outcome carried out: the buffers first, where the deed asks for it, then each part of the state. The chain, which requests alone
-// change, is left as it is.
+// An outcome carried out: the control part but for the chain, which requests alone change, then the buffers, where the deed asks for it,
+// then each set. The control part comes first, so that nobody has to keep it while the rest is done, and a set is read only where it is
+// written.
 pub fn carry_over(mem: &mut [u8], o: Outcome, count: u8)
     requires { ⌜ Holds (now mem) (unpacked (now mem)) ⌝ }
     ensures { λ _. ⌜ now (mem .exit) ≡ packedAfter (carried (unpacked (now (mem .entry))) (now (mem .entry)) (onChain o (unpacked (now (mem .entry)) .control .chain)) count) ⌝ }
@@ -114,14 +116,10 @@ pub fn carry_over(mem: &mut [u8], o: Outcome, count: u8)
     let on_inputs = o.inputs;
     let on_parameters = o.parameters;
     let on_configuration = o.configuration;
-    let outputs = load::outputs(&mem[..]);
-    let inputs = load::inputs(&mem[..]);
-    let parameters = load::parameters(&mem[..]);
-    let configuration = load::configuration(&mem[..]);
-    carry_buffers(on_outputs, mem);
-    put_outputs(on_outputs, outputs, mem);
-    put_inputs(on_inputs, inputs, mem);
-    put_parameters(on_parameters, parameters, count, mem);
-    put_configuration(on_configuration, configuration, count, mem);
     save_control(o.control, mem);
+    carry_buffers(on_outputs, mem);
+    put_outputs(on_outputs, load::outputs(&mem[..]), mem);
+    put_inputs(on_inputs, load::inputs(&mem[..]), mem);
+    put_parameters(on_parameters, load::parameters(&mem[..]), count, mem);
+    put_configuration(on_configuration, load::configuration(&mem[..]), count, mem);
 }

@@ -16,3 +16,4 @@ pub mod Wiped
 pub mod LaidOut
 pub mod Damage
 pub mod Written
+pub mod PartsRead
