@@ -1,8 +1,10 @@
 -- A request that is sent again (specs/Repeats.antt): its repeat draws again what it drew, and of one that drew E5 nothing else comes.
-use Prim.Native.Nat.{ℕ}
+use Prim.Native.Nat.{ℕ, _/_, _%_}
 use mathlib.Core.Path.{_≡_, refl, sym, ap, subst, _∙_}
-use mathlib.Core.Bool.{Bool, true, false, cond, _&&_}
+use mathlib.Core.Bool.{Bool, true, false, cond, not, _&&_, _||_}
 use mathlib.Core.List.{List, [], _∷_, _++_, append-nil, append-assoc}
+use lib.Dec.{eqb}
+use borrow.Author.Tests.{eqb-true, eqb-false, eq-eqb, ne-eqb, not-true}
 use Rattle.telegram.specs.declared.reader.Status.the-variants.{Inside}
 use Rattle.telegram.specs.Telegram.{Telegram, kindOf, octetsOf, payloadOf, Valid}
 use Rattle.telegram.specs.Reading.{run, status}
@@ -12,14 +14,16 @@ use Rattle.state.specs.declared.setup.Setup.{Setup}
 use Rattle.state.specs.declared.state.Drawn.{Drawn}
 use Rattle.state.specs.declared.state.Drawn.the-variants.{Nothing, Acknowledge}
 use Rattle.state.specs.Chain.{chainOf, noChain, drawnIn}
+use Rattle.state.proofs.Choice.{and-left, and-right, or-left, or-right}
 use Rattle.state.proofs.SetCodes.{drawn-in}
+use Rattle.rules.specs.declared.request.Request.{Request}
 use Rattle.rules.specs.declared.outcome.Outcome.{Outcome}
 use Rattle.rules.specs.Call.{Call, gap}
 use Rattle.rules.specs.Diagnosis.{isDelayed, delayed}
 use Rattle.rules.specs.Line.{clearing}
 use Rattle.rules.specs.Phases.{drawing}
 use Rattle.rules.specs.Replies.{diagnoses}
-use Rattle.rules.specs.Requests.{masterOf}
+use Rattle.rules.specs.Requests.{masterOf, acts}
 use Rattle.rules.specs.Retries.{isRequest, fcvOf, fcbOf, isRepeat}
 use Rattle.rules.proofs.Alike.{refilled-alike}
 use Rattle.rules.proofs.ByCases.{refilled-same}
@@ -30,11 +34,30 @@ use Rattle.ledger.specs.Bus.{requestBy, dataBy, outcomeOf, answered, com
 use Rattle.ledger.specs.Calls.{step, after}
 use Rattle.ledger.specs.Hearing.{hear, begunBy}
 use Rattle.ledger.specs.History.{clears, deedsBy}
-use Rattle.ledger.specs.Repeats.{again, RepeatIs, SentAgain, behind, DrawnAgain, afterGap, NothingNew, E5Again, SetPrmOnce, NoDeedAgain}
+use Rattle.ledger.specs.Repeats.{InOctets, again, RepeatIs, SentAgain, behind, DrawnAgain, afterGap, NothingNew, E5Again, SetPrmOnce, NoDeedAgain}
 use Rattle.ledger.proofs.Settling.{settle-line, settle-setup}
 use Rattle.ledger.proofs.Kept.{step-kept, after-kept}
 use Rattle.ledger.proofs.Hearing.{unfinished, completed-on, inner-heard, begun-heard, hears}
-use Rattle.ledger.proofs.RequestKept.{settle-chain, after-chain, chain-goes-on, Waits, settle-waits, step-waits, after-waits}
+use Rattle.ledger.proofs.RequestKept.{after-chain, chain-goes-on, Waits, settle-waits, step-waits, after-waits}
+
+-- ---------------------------------------------------------------------------------------------------
+-- The words.
+
+-- a request's octets
+pub in-octets : (g : Setup) (r : Request) → InOctets g r
+in-octets g r =
+    let f = r .fc % 16 in
+    record {
+      request-is = (
+        λ e.
+            let none = not-true _ (and-right (acts g r) _ e) in
+            (and-left (acts g r) _ e, eqb-false f 4 (or-left (eqb f 4) (eqb f 6) none), eqb-false f 6 (or-right (eqb f 4) (eqb f 6) none)),
+        λ x. λ i. x .0 i && not (ne-eqb f 4 (x .1) i || ne-eqb f 6 (x .2) i),
+      );
+      counts-is = (eqb-true (r .fc / 16 % 2) 1, eq-eqb (r .fc / 16 % 2) 1);
+      bit-is = (eqb-true (r .fc / 32 % 2) 1, eq-eqb (r .fc / 32 % 2) 1);
+      master-is = refl;
+    }
 
 -- ---------------------------------------------------------------------------------------------------
 -- A busy line with nothing delayed.
@@ -139,7 +162,7 @@ module _ (l : Ledger) (t u : Telegram) (s : SentAgain l t u) where
   first-drawn = outcomeOf l (requestBy t) (payloadOf t) .drawn
 
   -- after t the chain is the one that its repeat asks for
-  goes-in : completed l t .control .chain ≡ chainOf (masterOf (requestBy u)) (fcbOf (requestBy u)) first-drawn
+  goes-in : settle (completed l t) .control .chain ≡ chainOf (masterOf (requestBy u)) (fcbOf (requestBy u)) first-drawn
   goes-in =
       chain-goes-on l t .new-goes-in (s .first-asks) (s .first-new)
       ∙ (λ i. cond (s .first-counts i) (chainOf (sym (s .same-master) i) (sym (s .same-bit) i) first-drawn) noChain)
@@ -162,9 +185,8 @@ setup-stays l t cs = after-kept (settle (completed l t)) cs .0 ∙ settle-setup 
 -- a request that drew anything
 pub drawn-again : DrawnAgain
 drawn-again l t u cs s n =
-    let k = completed l t in
     let p = behind l t cs in
-    let h = after-chain (settle k) cs n ∙ settle-chain k ∙ goes-in l t u s in
+    let h = after-chain (settle (completed l t)) cs n ∙ goes-in l t u s in
     repeat-is p u (is-repeat (p .setup) (p .control) (requestBy u) (first-drawn l t u s) (asks-on l t u s p (setup-stays l t cs)) (s .second-counts) h)
     ∙ ap (λ (d : Drawn). again d p u) (ap drawnIn h ∙ drawn-in (masterOf (requestBy u)) (fcbOf (requestBy u)) (first-drawn l t u s))
 

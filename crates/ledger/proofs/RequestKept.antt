@@ -1,4 +1,5 @@
--- What becomes of the chain by every call (specs/Repeats.antt), and that no diagnosis is or can be delayed by calls that complete no new request.
+-- What becomes of the chain by every call (specs/Repeats.antt), and that behind a request that drew no Slave_Diag's reply no diagnosis is or can be
+-- delayed by calls that complete no new request.
 use Prim.Native.Nat.{ℕ}
 use mathlib.Core.Path.{_≡_, refl, sym, ap, _∙_}
 use mathlib.Core.Bool.{Bool, false, not, _&&_, and-true}
@@ -57,7 +58,7 @@ quiet-chain : {g : Setup} {c : Control} {o : Outcome} → Quiet g c Unit o → o
 quiet-chain q = ⊎-elim (λ e. e) (λ x. absurd (x .0)) (q .chain-comes)
 
 -- a delayed diagnosis and a noted clear
-pub settle-chain : (l : Ledger) → SameChain l (settle l)
+settle-chain : (l : Ledger) → SameChain l (settle l)
 unfolding settle afterReply diagnosed
 settle-chain l =
     quiet-chain (clear-noted-quiet (afterReply l .setup) (afterReply l .control) (busy l) (λ _. tt))
@@ -108,10 +109,16 @@ after-chain l (c ∷ cs) n = after-chain (step l c .ledger) cs (n .1) ∙ chain-
 -- a request
 pub chain-goes-on : (l : Ledger) (t : Telegram) → ChainGoesOn l t
 unfolding answered
-chain-goes-on l t = record {
-  new-goes-in = request-chain (l .setup) (l .control) (occupied l) (requestBy t) (dataBy (payloadOf t));
-  repeat-leaves = repeat-chain (l .setup) (l .control) (occupied l) (requestBy t) (dataBy (payloadOf t));
-}
+chain-goes-on l t =
+    let stays = settle-chain (completed l t) in
+    let g = l .setup in
+    let c = l .control in
+    let r = requestBy t in
+    let octets = dataBy (payloadOf t) in
+    record {
+      new-goes-in = λ a n. stays ∙ request-chain g c (occupied l) r octets a n;
+      repeat-leaves = λ e. stays ∙ repeat-chain g c (occupied l) r octets e;
+    }
 
 -- Start
 pub start-has-none : StartHasNone
@@ -216,8 +223,8 @@ abbrev pub Waits : Chain → Ledger → Type 0
 Waits h l = (l .control .chain ≡ h) × Undelayed l
 
 -- settling
-pub settle-waits : {h : Chain} (l : Ledger) → l .control .chain ≡ h → l .line .diagnosing ≡ false → Waits h (settle l)
-settle-waits l e f = (settle-chain l ∙ e, settle-undelayed l f)
+pub settle-waits : {h : Chain} (l : Ledger) → settle l .control .chain ≡ h → l .line .diagnosing ≡ false → Waits h (settle l)
+settle-waits l e f = (e, settle-undelayed l f)
 
 module _ {h : Chain} (d : diagnoses (drawnIn h) ≡ false) where
   -- every call

@@ -27,6 +27,10 @@ exchange4D = 0x68 ∷ 0x04 ∷ 0x04 ∷ 0x68 ∷ 0x05 ∷ 0x02 ∷ 0x4D ∷ 0x11
 abbrev exchange5D : List ℕ
 exchange5D = 0x68 ∷ 0x04 ∷ 0x04 ∷ 0x68 ∷ 0x05 ∷ 0x02 ∷ 0x5D ∷ 0x11 ∷ 0x75 ∷ 0x16 ∷ []
 
+-- and the output 22
+abbrev exchange5DWith22 : List ℕ
+exchange5DWith22 = 0x68 ∷ 0x04 ∷ 0x04 ∷ 0x68 ∷ 0x05 ∷ 0x02 ∷ 0x5D ∷ 0x22 ∷ 0x86 ∷ 0x16 ∷ []
+
 -- with bit 5 set too, and the output 44
 abbrev exchange7DWith44 : List ℕ
 exchange7DWith44 = 0x68 ∷ 0x04 ∷ 0x04 ∷ 0x68 ∷ 0x05 ∷ 0x02 ∷ 0x7D ∷ 0x44 ∷ 0xC8 ∷ 0x16 ∷ []
@@ -87,9 +91,29 @@ diagnosisTold = 0x68 ∷ 0x0B ∷ 0x0B ∷ 0x68 ∷ 0x82 ∷ 0x85 ∷ 0x08 ∷ 0
 abbrev diagnosisToldTo3 : List ℕ
 diagnosisToldTo3 = 0x68 ∷ 0x0B ∷ 0x0B ∷ 0x68 ∷ 0x83 ∷ 0x85 ∷ 0x08 ∷ 0x3E ∷ 0x3C ∷ 0x02 ∷ 0x04 ∷ 0x00 ∷ 0x02 ∷ 0x80 ∷ 0xB3 ∷ 0xC5 ∷ 0x16 ∷ []
 
+-- in it, to master 3
+abbrev diagnosisToldInExchangeTo3 : List ℕ
+diagnosisToldInExchangeTo3 = 0x68 ∷ 0x0B ∷ 0x0B ∷ 0x68 ∷ 0x83 ∷ 0x85 ∷ 0x08 ∷ 0x3E ∷ 0x3C ∷ 0x00 ∷ 0x04 ∷ 0x00 ∷ 0x02 ∷ 0x80 ∷ 0xB3 ∷ 0xC3 ∷ 0x16 ∷ []
+
 -- with overflow and a seventh octet
 abbrev diagnosisTold7 : List ℕ
 diagnosisTold7 = 0x68 ∷ 0x0C ∷ 0x0C ∷ 0x68 ∷ 0x82 ∷ 0x85 ∷ 0x08 ∷ 0x3E ∷ 0x3C ∷ 0x00 ∷ 0x04 ∷ 0x80 ∷ 0x02 ∷ 0x80 ∷ 0xB3 ∷ 0xAA ∷ 0xEC ∷ 0x16 ∷ []
+
+-- the reply to Read_Inputs with the input 00
+abbrev inputsTold : List ℕ
+inputsTold = 0x68 ∷ 0x06 ∷ 0x06 ∷ 0x68 ∷ 0x82 ∷ 0x85 ∷ 0x08 ∷ 0x3E ∷ 0x38 ∷ 0x00 ∷ 0x85 ∷ 0x16 ∷ []
+
+-- sync, without a frame count bit
+abbrev sync46 : List ℕ
+sync46 = 0x68 ∷ 0x07 ∷ 0x07 ∷ 0x68 ∷ 0x85 ∷ 0x82 ∷ 0x46 ∷ 0x3A ∷ 0x3E ∷ 0x20 ∷ 0x00 ∷ 0xE5 ∷ 0x16 ∷ []
+
+-- the reply to a status request
+abbrev statusTold : List ℕ
+statusTold = 0x10 ∷ 0x02 ∷ 0x05 ∷ 0x00 ∷ 0x07 ∷ 0x16 ∷ []
+
+-- RS
+abbrev rs : List ℕ
+rs = 0x10 ∷ 0x02 ∷ 0x05 ∷ 0x03 ∷ 0x0A ∷ 0x16 ∷ []
 
 -- E5
 abbrev e5 : List ℕ
@@ -115,7 +139,7 @@ set-prm-again = written refl
 -- a request with FC bit 4 clear ends the chain
 bit-4-clear-ends : Answers started
     (does gap 0 ∷ hears setPrm5D ∷ sends e5 ∷ does send 256 ∷ does (judge-parameters 1) 0
-    ∷ does gap 0 ∷ hears (0x10 ∷ 0x05 ∷ 0x02 ∷ 0x49 ∷ 0x50 ∷ 0x16 ∷ []) ∷ sends (0x10 ∷ 0x02 ∷ 0x05 ∷ 0x00 ∷ 0x07 ∷ 0x16 ∷ []) ∷ does send 256
+    ∷ does gap 0 ∷ hears (0x10 ∷ 0x05 ∷ 0x02 ∷ 0x49 ∷ 0x50 ∷ 0x16 ∷ []) ∷ sends statusTold ∷ does send 256
     ∷ does gap 0 ∷ hears setPrm5D ∷ sends e5 ∷ does send 256 ∷ does events 0x0800 ∷ does (judge-parameters 1) 0
     ∷ does gap 0 ∷ hears setPrm6D ∷ sends e5 ∷ does send 256 ∷ does events 0x0800 ∷ does (judge-parameters 1) 0
     ∷ does gap 0 ∷ hears setPrm6D ∷ sends e5 ∷ does send 256 ∷ does events 0x0800 ∷ [])
@@ -141,10 +165,11 @@ functions-4-and-6-leave : Answers started
     ∷ does gap 0 ∷ hears chkCfg4D ∷ sends e5 ∷ does send 256 ∷ does (judge-parameters 1) 0 ∷ does (judge-configuration 1) 0 ∷ does events 0x0002
     ∷ does gap 0 ∷ hears exchange5D ∷ sends input00 ∷ does send 256 ∷ does take 1
     ∷ does gap 0 ∷ hears (0x68 ∷ 0x07 ∷ 0x07 ∷ 0x68 ∷ 0x85 ∷ 0x82 ∷ 0x76 ∷ 0x3A ∷ 0x3E ∷ 0x20 ∷ 0x00 ∷ 0x15 ∷ 0x16 ∷ []) ∷ does send 256
+    ∷ does gap 0 ∷ hears exchange5D ∷ sends input00 ∷ does send 256 ∷ does gap 0 ∷ hears sync46 ∷ does send 256 ∷ does take 0
     ∷ does gap 0 ∷ hears (0x68 ∷ 0x05 ∷ 0x05 ∷ 0x68 ∷ 0x85 ∷ 0x82 ∷ 0x4D ∷ 0x3C ∷ 0x3E ∷ 0xCE ∷ 0x16 ∷ []) ∷ sends (0x68 ∷ 0x0B ∷ 0x0B ∷ 0x68 ∷ 0x82 ∷ 0x85 ∷ 0x08 ∷ 0x3E ∷ 0x3C ∷ 0x00 ∷ 0x24 ∷ 0x00 ∷ 0x02 ∷ 0x80 ∷ 0xB3 ∷ 0xE2 ∷ 0x16 ∷ [])
     ∷ does send 256
-    ∷ does gap 0 ∷ hears (0x68 ∷ 0x04 ∷ 0x04 ∷ 0x68 ∷ 0x05 ∷ 0x02 ∷ 0x5D ∷ 0x22 ∷ 0x86 ∷ 0x16 ∷ []) ∷ sends input00 ∷ does send 256
-    ∷ does gap 0 ∷ hears (0x68 ∷ 0x07 ∷ 0x07 ∷ 0x68 ∷ 0x85 ∷ 0x82 ∷ 0x46 ∷ 0x3A ∷ 0x3E ∷ 0x20 ∷ 0x00 ∷ 0xE5 ∷ 0x16 ∷ []) ∷ does send 256 ∷ does take 1
+    ∷ does gap 0 ∷ hears exchange5DWith22 ∷ sends input00 ∷ does send 256
+    ∷ does gap 0 ∷ hears sync46 ∷ does send 256 ∷ does take 1
     ∷ does (read 1 0) 0x22
     ∷ does gap 0 ∷ hears (0x68 ∷ 0x04 ∷ 0x04 ∷ 0x68 ∷ 0x05 ∷ 0x03 ∷ 0x44 ∷ 0x01 ∷ 0x4D ∷ 0x16 ∷ []) ∷ does send 256
     ∷ does gap 0 ∷ hears (0x68 ∷ 0x04 ∷ 0x04 ∷ 0x68 ∷ 0x05 ∷ 0x02 ∷ 0x5D ∷ 0x33 ∷ 0x97 ∷ 0x16 ∷ []) ∷ sends input00 ∷ does send 256
@@ -155,13 +180,13 @@ functions-4-and-6-leave : Answers started
 unfolding computing
 functions-4-and-6-leave = written refl
 
--- a Data_Exchange sent again with other outputs: they are not taken, and the inputs are drawn again
+-- a Data_Exchange sent again with other outputs: they are not published, and the inputs are drawn again
 data-exchange-again : Answers started
     (entering ++ (does (write 4 0 0x21) 0 ∷ does hand-over 0
     ∷ does gap 0 ∷ hears exchange5D ∷ sends input21 ∷ does send 256 ∷ does take 1 ∷ does (acknowledge 65535) 0 ∷ does (write 4 0 0x22) 0
     ∷ does hand-over 0 ∷ does (new-diagnosis 6 0) 0 ∷ does (acknowledge 65535) 0
-    ∷ does gap 0 ∷ hears exchange5D ∷ sends (0x68 ∷ 0x04 ∷ 0x04 ∷ 0x68 ∷ 0x02 ∷ 0x05 ∷ 0x0A ∷ 0x21 ∷ 0x32 ∷ 0x16 ∷ []) ∷ does send 256 ∷ does events 0x0000
-    ∷ does take 0
+    ∷ does gap 0 ∷ hears exchange5DWith22 ∷ sends (0x68 ∷ 0x04 ∷ 0x04 ∷ 0x68 ∷ 0x02 ∷ 0x05 ∷ 0x0A ∷ 0x21 ∷ 0x32 ∷ 0x16 ∷ []) ∷ does send 256 ∷ does events 0x0000
+    ∷ does take 0 ∷ does (read 1 0) 0x11
     ∷ does gap 0 ∷ hears exchange7DWith11 ∷ sends (0x68 ∷ 0x04 ∷ 0x04 ∷ 0x68 ∷ 0x02 ∷ 0x05 ∷ 0x0A ∷ 0x22 ∷ 0x33 ∷ 0x16 ∷ []) ∷ does send 256 ∷ does events 0x2000
     ∷ does take 1 ∷ []))
 unfolding computing
@@ -183,8 +208,8 @@ slave-diag-again = written refl
 diagnosis-delayed-again : Answers started
     (does gap 0 ∷ hears slaveDiag5D ∷ sends (0x68 ∷ []) ∷ does (new-diagnosis 7 1) 0 ∷ refuses (new-diagnosis 7 1) Delayed
     ∷ does gap 0 ∷ hears slaveDiag5D ∷ sends (0x68 ∷ 0x0C ∷ 0x0C ∷ 0x68 ∷ 0x82 ∷ 0x85 ∷ 0x08 ∷ 0x3E ∷ 0x3C ∷ 0x0A ∷ 0x05 ∷ 0x00 ∷ 0xFF ∷ 0x80 ∷ 0xB3 ∷ 0x00 ∷ 0xCA ∷ 0x16 ∷ [])
-    ∷ does events 0x1000
-    ∷ does gap 0 ∷ hears slaveDiag5D ∷ sends (0x68 ∷ []) ∷ does (new-diagnosis 8 2) 0 ∷ refuses (new-diagnosis 8 2) Delayed ∷ does events 0x1000 ∷ [])
+    ∷ does events 0x1000 ∷ does (acknowledge 65535) 0
+    ∷ does gap 0 ∷ hears slaveDiag5D ∷ sends (0x68 ∷ []) ∷ does (new-diagnosis 8 2) 0 ∷ refuses (new-diagnosis 8 2) Delayed ∷ does events 0x0000 ∷ [])
 unfolding computing
 diagnosis-delayed-again = written refl
 
@@ -193,7 +218,7 @@ no-rs-again : Answers started
     (entering ++ (does (write 4 0 0x21) 0 ∷ does hand-over 0
     ∷ does gap 0 ∷ hears exchange5D ∷ sends input21 ∷ does send 256 ∷ does leave 0 ∷ does take 2 ∷ does (acknowledge 65535) 0
     ∷ does gap 0 ∷ hears exchange5D ∷ sends input21 ∷ does send 256 ∷ does events 0x0000 ∷ does take 0
-    ∷ does gap 0 ∷ hears exchange7DWith11 ∷ sends (0x10 ∷ 0x02 ∷ 0x05 ∷ 0x03 ∷ 0x0A ∷ 0x16 ∷ []) ∷ does send 256 ∷ []))
+    ∷ does gap 0 ∷ hears exchange7DWith11 ∷ sends rs ∷ does send 256 ∷ []))
 unfolding computing
 no-rs-again = written refl
 
@@ -216,6 +241,30 @@ octets-differ : Answers started
     ∷ does gap 0 ∷ hears (0x10 ∷ 0x05 ∷ 0x02 ∷ 0x73 ∷ 0x7A ∷ 0x16 ∷ []) ∷ sends input00 ∷ does send 256 ∷ []))
 unfolding computing
 octets-differ = written refl
+
+-- status, RS, nothing and Read_Inputs are drawn again, by requests of other functions and services, and RS also where it would be served now
+every-reply-again : Answers started
+    (does gap 0 ∷ hears (0x10 ∷ 0x05 ∷ 0x02 ∷ 0x59 ∷ 0x60 ∷ 0x16 ∷ []) ∷ sends statusTold ∷ does send 256
+    ∷ does gap 0 ∷ hears setPrm5D ∷ sends statusTold ∷ does send 256 ∷ does events 0x0000
+    ∷ does gap 0 ∷ hears (0x10 ∷ 0x05 ∷ 0x02 ∷ 0x73 ∷ 0x7A ∷ 0x16 ∷ []) ∷ sends rs ∷ does send 256
+    ∷ does gap 0 ∷ hears (0x10 ∷ 0x05 ∷ 0x02 ∷ 0x70 ∷ 0x77 ∷ 0x16 ∷ []) ∷ sends rs ∷ does send 256
+    ∷ does gap 0 ∷ hears (0x10 ∷ 0x05 ∷ 0x02 ∷ 0x50 ∷ 0x57 ∷ 0x16 ∷ []) ∷ does send 256
+    ∷ does gap 0 ∷ hears slaveDiag5D ∷ does send 256
+    ∷ does gap 0 ∷ hears setPrm4D ∷ sends e5 ∷ does send 256 ∷ does gap 0 ∷ hears chkCfg4D ∷ sends e5 ∷ does send 256 ∷ does (judge-parameters 1) 0
+    ∷ does gap 0 ∷ hears exchange5D ∷ sends rs ∷ does send 256 ∷ does (judge-configuration 1) 0
+    ∷ does gap 0 ∷ hears exchange5D ∷ sends rs ∷ does send 256 ∷ does take 0
+    ∷ does gap 0 ∷ hears (0x68 ∷ 0x05 ∷ 0x05 ∷ 0x68 ∷ 0x85 ∷ 0x82 ∷ 0x7D ∷ 0x38 ∷ 0x3E ∷ 0xFA ∷ 0x16 ∷ []) ∷ sends inputsTold ∷ does send 256 ∷ does leave 0
+    ∷ does gap 0 ∷ hears (0x68 ∷ 0x05 ∷ 0x05 ∷ 0x68 ∷ 0x85 ∷ 0x82 ∷ 0x7D ∷ 0x38 ∷ 0x3E ∷ 0xFA ∷ 0x16 ∷ []) ∷ sends inputsTold ∷ does send 256 ∷ [])
+unfolding computing
+every-reply-again = written refl
+
+-- a Global_Control acts whatever the chain: behind another master's request with its frame count bit counted
+control-behind-another : Answers started
+    (entering ++ (does gap 0 ∷ hears slaveDiag5DOf3 ∷ sends diagnosisToldInExchangeTo3 ∷ does send 256
+    ∷ does gap 0 ∷ hears (0x68 ∷ 0x07 ∷ 0x07 ∷ 0x68 ∷ 0x85 ∷ 0x82 ∷ 0x46 ∷ 0x3A ∷ 0x3E ∷ 0x02 ∷ 0x00 ∷ 0xC7 ∷ 0x16 ∷ []) ∷ does send 256
+    ∷ does take 2 ∷ does events 0x2102 ∷ []))
+unfolding computing
+control-behind-another = written refl
 
 -- the owner's repeat refills the watchdog
 refills-again : Answers started

@@ -3,6 +3,8 @@
 use Rattle.telegram.specs.Telegram.{Telegram}
 use Rattle.telegram.specs.Framing.{FramingPromise, FirstOctets}
 use Rattle.telegram.specs.Sending.{SendingPromise}
+use Rattle.state.specs.declared.setup.Setup.{Setup}
+use Rattle.rules.specs.declared.request.Request.{Request}
 use Rattle.ledger.specs.Ledger.{Ledger}
 use Rattle.ledger.specs.History.{DeedsMake, WithheldTold, ClearLast, TakesTold}
 use Rattle.ledger.specs.Hearing.{Hears, Dialogue}
@@ -11,7 +13,7 @@ use Rattle.ledger.specs.ReadBack.{ReadingBack}
 use Rattle.ledger.specs.Octets.{SentOctets}
 use Rattle.ledger.specs.EventsFollow.{EventsOpen, PublishingRaises}
 use Rattle.ledger.specs.ModesKept.{ModesAlways}
-use Rattle.ledger.specs.Repeats.{RepeatExactly, RepeatIs, StartHasNone, NoneRepeated, ChainKept, ChainGoesOn, DrawnAgain, E5Again, SetPrmOnce, NoDeedAgain}
+use Rattle.ledger.specs.Repeats.{InOctets, ChainUnseen, RepeatExactly, RepeatIs, StartHasNone, NoneRepeated, ChainKept, ChainGoesOn, DrawnAgain, E5Again, SetPrmOnce, NoDeedAgain}
 
 pub record Demand2 : Type 0 where
   -- of every list of octets the reader tells what the grammar says
@@ -40,6 +42,8 @@ pub record Demand2 : Type 0 where
   pub publishing-raises : PublishingRaises
   -- a mode is on in DATA_EXCH alone and where Set_Prm allowed it, and something is held back in sync alone
   pub modes-kept : ModesAlways
+  -- what is a request, its bits 4 and 5 and its master, in octets
+  pub in-octets : (g : Setup) (r : Request) → InOctets g r
   -- a repeat is exactly a request with FC bit 4 set and the last one's master and bit 5
   pub repeat-exactly : RepeatExactly
   -- a repeat refills the owner's watchdog and draws what the earlier request drew, nothing else
@@ -52,6 +56,8 @@ pub record Demand2 : Type 0 where
   pub chain-kept : ChainKept
   -- which goes into it or ends it; a repeat leaves it
   pub chain-goes-on : (l : Ledger) (t : Telegram) → ChainGoesOn l t
+  -- what is no repeat does not look at it
+  pub chain-unseen : ChainUnseen
   -- whatever a request drew is drawn again when it is sent again
   pub drawn-again : DrawnAgain
   -- a request that drew E5 and is sent again draws E5, and nothing else comes of it

@@ -1,4 +1,4 @@
--- The ledger's state (document 01, The ledger; document 02, Req 01), and the ledger of a freshly started station.
+-- The ledger's state (document 01, The ledger; document 02, Req 01, and Req 04 by the control part), and the ledger of a freshly started station.
 use Prim.Native.Nat.{ℕ}
 use mathlib.Core.Bool.{Bool, true, false, _&&_, _||_}
 use mathlib.Core.List.{List, []}

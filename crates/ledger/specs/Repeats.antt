@@ -1,6 +1,6 @@
--- A request that is sent again (document 02, Req 04): what its repeat draws, what becomes of the chain, and that the vat program notices
--- nothing of it.
-use Prim.Native.Nat.{ℕ}
+-- A request that is sent again (document 02, Req 04): which telegrams repeat one, what a repeat draws, what becomes of the chain, and that
+-- nothing else comes of a repeat.
+use Prim.Native.Nat.{ℕ, _/_, _%_}
 use mathlib.Core.Path.{_≡_}
 use mathlib.Core.Bool.{Bool, true, false, cond, not, _&&_}
 use mathlib.Core.List.{List, [], _∷_, _++_}
@@ -10,17 +10,21 @@ use Rattle.telegram.specs.declared.reader.Status.the-variants.{Fresh, Inside, C
 use Rattle.telegram.specs.Telegram.{Telegram, octetsOf, payloadOf, Valid}
 use Rattle.telegram.specs.Reading.{run, readerAfter, status}
 use Rattle.state.specs.declared.setup.Setup.{Setup}
+use Rattle.state.specs.declared.chain.Chain.{Chain}
 use Rattle.state.specs.declared.control.Control.{Control}
 use Rattle.state.specs.declared.state.Drawn.{Drawn}
 use Rattle.state.specs.declared.state.Drawn.the-variants as drawn
 use Rattle.state.specs.Chain.{chainOf, noChain, fcbIn, drawnIn}
 use Rattle.rules.specs.declared.request.Request.{Request}
+use Rattle.rules.specs.declared.request.Data.{Data}
+use Rattle.rules.specs.declared.request.Occupied.{Occupied}
 use Rattle.rules.specs.declared.request.Service.the-variants.{SetPrm}
 use Rattle.rules.specs.Call.{Call, octet, gap, send, tick, take, read, write, hand-over, new-diagnosis, judge-parameters, judge-configuration, events, acknowledge, pending, leave}
+use Rattle.rules.specs.Control.{withChain}
 use Rattle.rules.specs.Replies.{diagnoses}
-use Rattle.rules.specs.Requests.{masterOf, refilled, serviceOf}
-use Rattle.rules.specs.Retries.{isRequest, fcvOf, fcbOf, isRepeat}
-use Rattle.rules.specs.Services.{otherOwns}
+use Rattle.rules.specs.Requests.{masterOf, acts, refilled, serviceOf}
+use Rattle.rules.specs.Retries.{isRequest, fcvOf, fcbOf, isRepeat, onChain}
+use Rattle.rules.specs.Services.{otherOwns, outcomeBy}
 use Rattle.ledger.specs.Ledger.{Ledger, withControl, withLine, fresh}
 use Rattle.ledger.specs.Replies.{replyOf}
 use Rattle.ledger.specs.Outcome.{settle}
@@ -28,6 +32,16 @@ use Rattle.ledger.specs.Bus.{telegramOn, requestBy, outcomeOf, completed
 use Rattle.ledger.specs.Calls.{step, after}
 use Rattle.ledger.specs.Hearing.{hear}
 use Rattle.ledger.specs.History.{clears, telegramDeeds}
+
+-- the words for what a telegram is, in its octets
+pub record InOctets (g : Setup) (r : Request) : Type 0 where
+  -- a request acts, and its function is neither 4 nor 6
+  pub request-is : (isRequest g r ≡ true) ↔ ((acts g r ≡ true) × (r .fc % 16 ≡ 4 → ⊥) × (r .fc % 16 ≡ 6 → ⊥))
+  -- FC bit 4, and FC bit 5
+  pub counts-is : (fcvOf r ≡ true) ↔ (r .fc / 16 % 2 ≡ 1)
+  pub bit-is : (fcbOf r ≡ true) ↔ (r .fc / 32 % 2 ≡ 1)
+  -- SA's low 7 bits
+  pub master-is : masterOf r ≡ r .sa % 128
 
 -- a repeat is exactly a request with FC bit 4 set and the master and the bit 5 of the last one
 abbrev pub RepeatExactly : Type 0
@@ -103,14 +117,21 @@ NoneRepeated = (g : Setup) (c : Control) (r : Request) → c .chain ≡ noChain 
 abbrev pub ChainKept : Type 0
 ChainKept = (l : Ledger) (c : Call) → completesNewRequest l c ≡ false → step l c .ledger .control .chain ≡ l .control .chain
 
--- and what becomes of it by a request
+-- and what becomes of it by a request: after the last octet of t (ByGrammar.antt: HeardAsFramed .whole)
 pub record ChainGoesOn (l : Ledger) (t : Telegram) : Type 0 where
   -- a new one is what the next is compared with, or ends the chain if its FC bit 4 is clear
   pub new-goes-in : isRequest (l .setup) (requestBy t) ≡ true → isRepeat (l .setup) (l .control) (requestBy t) ≡ false
-      → completed l t .control .chain
+      → settle (completed l t) .control .chain
       ≡ cond (fcvOf (requestBy t)) (chainOf (masterOf (requestBy t)) (fcbOf (requestBy t)) (outcomeOf l (requestBy t) (payloadOf t) .drawn)) noChain
   -- a repeat leaves it
-  pub repeat-leaves : isRepeat (l .setup) (l .control) (requestBy t) ≡ true → completed l t .control .chain ≡ l .control .chain
+  pub repeat-leaves : isRepeat (l .setup) (l .control) (requestBy t) ≡ true → settle (completed l t) .control .chain ≡ l .control .chain
+
+-- nothing but a repeat looks at the chain: of a telegram that is none, Global_Control among them, the same comes with any other chain by which
+-- it is none either, but for the chain
+abbrev pub ChainUnseen : Type 0
+ChainUnseen =
+    (g : Setup) (c : Control) (h : Chain) (b : Occupied) (r : Request) (octets : Data) → isRepeat g c r ≡ false → isRepeat g (withChain c h) r ≡ false
+    → (k : Chain) → onChain (outcomeBy g (withChain c h) b r octets) k ≡ onChain (outcomeBy g c b r octets) k
 
 -- t is a request with FC bit 4 set that repeats none, and u is one with bit 4 set, that master and that bit 5; nothing else of u is looked at
 pub record SentAgain (l : Ledger) (t u : Telegram) : Type 0 where
@@ -123,7 +144,7 @@ pub record SentAgain (l : Ledger) (t u : Telegram) : Type 0 where
   pub same-master : masterOf (requestBy u) ≡ masterOf (requestBy t)
   pub same-bit : fcbOf (requestBy u) ≡ fcbOf (requestBy t)
 
--- the ledger after the last octet of t (ByGrammar.antt: HeardAsFramed .whole) and the calls cs
+-- the ledger after the last octet of t and the calls cs
 abbrev pub behind : Ledger → Telegram → List Call → Ledger
 behind l t cs = after (settle (completed l t)) cs
 

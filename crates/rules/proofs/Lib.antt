@@ -6,6 +6,7 @@ pub mod ByCases
 pub mod Unasked
 pub mod Served
 pub mod Repeats
+pub mod ChainUnseen
 pub mod EventsFollow
 pub mod Owner
 pub mod ModesKept

@@ -96,7 +96,7 @@ fn served_in(mem: &[u8], r: Request, service: Service) -> Outcome
     serve(service, setup, control, occupied, r, octets)
 }
 
-// If the telegram is a request, the next one is compared with it.
+// If the telegram is a request, the next one is compared with it, or with none where its frame count bit does not count.
 fn keep_request(mem: &mut [u8], r: Request, drawn: Drawn)
     requires { ⌜ stateLength ≤ length (now mem) ⌝ }
     ensures { λ _. ⌜ Changes (now (mem .entry)) (now (mem .exit)) (λ s. withChain s (cond (asks r) (chainBy r drawn) (s .control .chain))) ⌝ }
