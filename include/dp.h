@@ -96,7 +96,7 @@ enum dp_refusal {
 enum dp_event {
     DP_EVENT_DATA_EXCH = 1,      /* DATA_EXCH was entered or left */
     DP_EVENT_WATCHDOG = 3,       /* the watchdog expired */
-    DP_EVENT_CONTROL = 8,        /* Global_Control brought a new control octet; a repeated one acts without the event */
+    DP_EVENT_CONTROL = 8,        /* Global_Control brought a new control octet; the same one acts without the event */
     DP_EVENT_CONFIGURATION = 10, /* a configuration set is open; cleared by judging it or when it is dropped */
     DP_EVENT_PARAMETERS = 11,    /* a parameter set is open; likewise */
     DP_EVENT_DIAGNOSIS = 12,     /* the diagnosis buffers changed: a new diagnosis is in effect */

@@ -429,7 +429,6 @@ impl Ledger {
         self.reading = Reading::Begun(vec![octet]);
         if self.reply_is_unfinished() {
             self.note(Outcome::BeginDropsReply);
-            self.trace(Outcome::RepeatAfterDroppedReply);
             self.note_if(self.clear_noted, Outcome::NotedOverBeginning);
             self.note_if(
                 self.diagnosis.delayed.is_some(),
@@ -540,6 +539,7 @@ impl Ledger {
     }
 
     fn drop_reply(&mut self) {
+        self.trace(Outcome::RepeatAfterDroppedReply);
         self.reply.left.clear();
         self.carry_out_delayed_diagnosis();
     }
@@ -1437,6 +1437,7 @@ impl Ledger {
 
     /// Document 01, section "User calls", the tick of 10 ms.
     fn tick(&mut self) -> i64 {
+        self.trace(Outcome::RepeatAfterTick);
         if self.clear_noted {
             self.tick_carries_out_clear();
             return 0;
@@ -1449,7 +1450,6 @@ impl Ledger {
         if watchdog.left == 0 {
             self.watchdog_expired();
         } else {
-            self.trace(Outcome::RepeatAfterTick);
             self.note(Outcome::TickCounts);
         }
         0

@@ -262,7 +262,7 @@ outcomes! {
     RepeatRefills "repeat: the owner's, refills the watchdog"
     RepeatRefillsNot "repeat: another master's, watchdog counts on"
     RepeatE5NotOwner "repeat: E5, from no owner"
-    RepeatE5SetStays "repeat: E5, other data for the set that is shown"
+    RepeatE5SetStays "repeat: E5, from the owner, with other data for the set that is shown"
     RepeatE5Judged "repeat: E5, the set that the request left is closed by now"
     RepeatRsInExchange "repeat: RS for the phase, in DATA_EXCH by now"
     RepeatExchangeOutside "repeat: Data_Exchange, outside DATA_EXCH by now"

@@ -51,7 +51,7 @@ fn is_repeated_behind(between: impl Fn(&mut Line)) -> bool {
 }
 
 #[test]
-fn a_repeat_has_the_same_master_and_frame_count_bit() {
+fn a_repeat_has_the_same_frame_count_bit() {
     for bit in [false, true] {
         let mut line = Line::fresh();
         let set_prm = line::set_prm(draft::ALLOW_NONE);
@@ -202,8 +202,8 @@ fn nothing_else_ends_the_chain() {
     }));
 }
 
-/// One request with each thing that can be drawn, and what it draws a second time. The repeat is a status that would
-/// draw something else.
+/// One request with each thing that can be drawn, and what it draws again: by a status request, a Data_Exchange, a
+/// Chk_Cfg and one that would draw RS.
 #[test]
 fn the_earlier_service_replies_whatever_the_repeat_asks_for() {
     let chk_cfg = line::to_point(draft::CHK_CFG, vec![0x20]);
@@ -297,6 +297,7 @@ fn there_is_no_rs_for_phase_or_owner() {
         let mut line = in_exchange();
         let draft = draft.counted(true);
         let first = line.put(&draft);
+        assert_ne!(first.get(3), Some(&RS[3]));
         assert_eq!(line.call("leave"), 0);
         assert_eq!(line.put(&draft), first);
         assert_eq!(line.diagnosis(), (0x02, 0x05));

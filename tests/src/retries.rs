@@ -262,19 +262,31 @@ impl Ledger {
         }
     }
 
-    /// Whether a new request would show other data here, or let it wait.
     fn note_acknowledged_again(&mut self, telegram: &Telegram, owner: bool) {
-        let shows_other = telegram.extended().is_some_and(|asked| {
-            let shown = self
-                .sets_of(asked.dsap)
-                .and_then(|sets| sets.shown.as_ref());
-            asked.ssap == MASTER_POINT && shown.is_some_and(|set| set != asked.data)
-        });
+        let other_set = owner && self.is_other_set(telegram);
         let none_open = self.parameters.shown.is_none() && self.configuration.shown.is_none();
         let closed = self.traces.left_a_set && none_open;
         self.note_if(!owner, Outcome::RepeatE5NotOwner);
-        self.note_if(shows_other, Outcome::RepeatE5SetStays);
+        self.note_if(other_set, Outcome::RepeatE5SetStays);
         self.note_if(closed, Outcome::RepeatE5Judged);
+    }
+
+    /// Its octets are those of a Set_Prm or a Chk_Cfg with other data than the set that is shown.
+    fn is_other_set(&self, telegram: &Telegram) -> bool {
+        let Some(asked) = telegram.extended() else {
+            return false;
+        };
+        let shown = self
+            .sets_of(asked.dsap)
+            .and_then(|sets| sets.shown.as_ref());
+        let lengths = match asked.dsap {
+            SET_PRM => 7..=self.values.parameters,
+            _ => 1..=self.values.configuration,
+        };
+        sends_and_requests(telegram)
+            && asked.ssap == MASTER_POINT
+            && lengths.contains(&(asked.data.len() as u32))
+            && shown.is_some_and(|set| set != asked.data)
     }
 
     fn note_rs_again(&mut self) {
