@@ -126,8 +126,8 @@ pub record ChainGoesOn (l : Ledger) (t : Telegram) : Type 0 where
   -- a repeat leaves it
   pub repeat-leaves : isRepeat (l .setup) (l .control) (requestBy t) ≡ true → settle (completed l t) .control .chain ≡ l .control .chain
 
--- nothing but a repeat looks at the chain: of a telegram that is none, Global_Control among them, the same comes with any other chain by which
--- it is none either, but for the chain
+-- a telegram that is no repeat, Global_Control among them, does not look at the chain: the same comes of it with any other chain by which it
+-- is none either, but for the chain
 abbrev pub ChainUnseen : Type 0
 ChainUnseen =
     (g : Setup) (c : Control) (h : Chain) (b : Occupied) (r : Request) (octets : Data) → isRepeat g c r ≡ false → isRepeat g (withChain c h) r ≡ false
@@ -159,7 +159,7 @@ DrawnAgain =
     (l : Ledger) (t u : Telegram) (cs : List Call) → SentAgain l t u → NoneBetween l t cs
     → completed (behind l t cs) u ≡ again (outcomeOf l (requestBy t) (payloadOf t) .drawn) (behind l t cs) u
 
--- and a gap after these calls
+-- and after a gap behind these calls
 abbrev pub afterGap : Ledger → Telegram → List Call → Ledger
 afterGap l t cs = step (behind l t cs) gap .ledger
 

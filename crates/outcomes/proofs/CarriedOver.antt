@@ -70,9 +70,11 @@ module _ (m : List ℕ) (s : State) (o : Outcome) (count : ℕ) (h : Holds m s) 
   rest : unpacked n₀ ≡ withControl s (unpacked n₀ .control)
   rest = all-but-control s (s₀ .control) m n₀ (h .sound) e₀
 
+  -- and so do the buffers,
   same-body : behind n₀ ≡ behind m
   same-body = ap behind e₀ ∙ kept-drop s₀ m stateLength (omega arith)
 
+  -- in their room
   still-safe : Safe s n₀
   still-safe = sound-safe n₀ s (h .sound) (subst (λ (k : ℕ). endOf (s .setup) ≤ k) (sym (ap length e₀ ∙ kept-length s₀ m (h .long))) (h .room))
 
