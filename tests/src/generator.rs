@@ -661,20 +661,17 @@ impl Generator {
     /// The draft as a new request of its master, mostly with FCV set: then the FCB is not the one that would make it a
     /// repeat.
     fn as_new(&mut self, draft: &Draft) -> Draft {
-        let bit = self.random.chance(50);
         if !is_request(draft) {
             return draft.clone();
         }
-        if !self.random.chance(self.habits.counted) {
-            let control = draft.counted(bit).control & !draft::FCV;
-            return Draft {
-                control,
-                ..draft.clone()
-            };
+        if self.random.chance(self.habits.counted) {
+            return self.counted_as_new(draft);
         }
-        match self.ledger().chain {
-            Some(chain) if chain.master == draft.source => draft.counted(!chain.frame_count),
-            _ => draft.counted(bit),
+        let bit = self.random.chance(50);
+        let control = draft.counted(bit).control & !draft::FCV;
+        Draft {
+            control,
+            ..draft.clone()
         }
     }
 

@@ -2,13 +2,10 @@
 //! says that bit 5, the frame count bit (FCB), counts. A master changes the FCB with each new request and leaves it as
 //! it was where it missed the reply and asks again.
 
-use crate::draft::{CHK_CFG, MASTER_POINT, READ_INPUTS, READ_OUTPUTS, SET_PRM};
+use crate::draft::{CHK_CFG, FCB, FCV, MASTER_POINT, READ_INPUTS, READ_OUTPUTS, SET_PRM};
 use crate::ledger::{source, Drawn, Ledger, News, Phase, Sets, FLAG_STAT_DIAG};
 use crate::outcome::Outcome;
 use crate::telegram::Telegram;
-
-const FRAME_COUNT_VALID: u8 = 0x10;
-const FRAME_COUNT: u8 = 0x20;
 
 /// What a repeat is told by and what it draws: the last request with FCV set, as long as no request of another master
 /// and none with FCV clear follows it. "Nothing else ends it": neither a phase nor a tick nor a dropped reply.
@@ -30,11 +27,11 @@ impl Chain {
 }
 
 fn has_frame_count(telegram: &Telegram) -> bool {
-    telegram.control & FRAME_COUNT_VALID != 0
+    telegram.control & FCV != 0
 }
 
 fn frame_count(telegram: &Telegram) -> bool {
-    telegram.control & FRAME_COUNT != 0
+    telegram.control & FCB != 0
 }
 
 /// It asks for a service that draws RS outside DATA_EXCH.

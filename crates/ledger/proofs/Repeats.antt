@@ -34,7 +34,7 @@ use Rattle.ledger.specs.Bus.{requestBy, dataBy, outcomeOf, answered, com
 use Rattle.ledger.specs.Calls.{step, after}
 use Rattle.ledger.specs.Hearing.{hear, begunBy}
 use Rattle.ledger.specs.History.{clears, deedsBy}
-use Rattle.ledger.specs.Repeats.{InOctets, again, RepeatIs, SentAgain, behind, DrawnAgain, afterGap, NothingNew, E5Again, SetPrmOnce, NoDeedAgain}
+use Rattle.ledger.specs.Repeats.{InOctets, again, RepeatIs, SentAgain, afterCalls, DrawnAgain, afterGap, NothingNew, E5Again, SetPrmOnce, NoDeedAgain}
 use Rattle.ledger.proofs.Settling.{settle-line, settle-setup}
 use Rattle.ledger.proofs.Kept.{step-kept, after-kept}
 use Rattle.ledger.proofs.Hearing.{unfinished, completed-on, inner-heard, begun-heard, hears}
@@ -178,14 +178,14 @@ module _ (l : Ledger) (t u : Telegram) (s : SentAgain l t u) where
   asks-on p e = ap (λ (x : Setup). isRequest x (requestBy u)) e ∙ s .second-asks
 
 -- the setup after t and the calls cs
-setup-stays : (l : Ledger) (t : Telegram) (cs : List Call) → behind l t cs .setup ≡ l .setup
+setup-stays : (l : Ledger) (t : Telegram) (cs : List Call) → afterCalls l t cs .setup ≡ l .setup
 unfolding answered
 setup-stays l t cs = after-kept (settle (completed l t)) cs .0 ∙ settle-setup (completed l t)
 
 -- a request that drew anything
 pub drawn-again : DrawnAgain
 drawn-again l t u cs s n =
-    let p = behind l t cs in
+    let p = afterCalls l t cs in
     let h = after-chain (settle (completed l t)) cs n ∙ goes-in l t u s in
     repeat-is p u (is-repeat (p .setup) (p .control) (requestBy u) (first-drawn l t u s) (asks-on l t u s p (setup-stays l t cs)) (s .second-counts) h)
     ∙ ap (λ (d : Drawn). again d p u) (ap drawnIn h ∙ drawn-in (masterOf (requestBy u)) (fcbOf (requestBy u)) (first-drawn l t u s))
@@ -193,7 +193,7 @@ drawn-again l t u cs s n =
 -- a request that drew E5
 pub e5-again : E5Again
 e5-again l t u cs s d n =
-    let m = behind l t cs in
+    let m = afterCalls l t cs in
     let x = ap diagnoses (e5-drawn u) in
     nothing-new (afterGap l t cs) u (s .second-valid) (step-waits x m gap refl (after-waits x (settle (completed l t)) cs n (request-waits l t u s d)))
     (ap (λ (x : Line). x .ignored) (gap-line m)) (ap (λ (x : Line). x .telegram) (gap-line m))

@@ -13,7 +13,7 @@ use Rattle.ledger.proofs.Computing.{computing}
 abbrev started : Ledger
 started = fresh (station 1 1 10 4 10 2) (0x20 ∷ 0x21 ∷ [])
 
--- The telegrams and replies that come more than once, telegrams by their service and FC. The master is 2.
+-- Telegrams and replies, those that come more than once among them; telegrams by their service and FC. The master is 2.
 
 -- Chk_Cfg
 abbrev chkCfg4D : List ℕ
@@ -95,7 +95,7 @@ diagnosisToldTo3 = 0x68 ∷ 0x0B ∷ 0x0B ∷ 0x68 ∷ 0x83 ∷ 0x85 ∷ 0x08 �
 abbrev diagnosisToldInExchangeTo3 : List ℕ
 diagnosisToldInExchangeTo3 = 0x68 ∷ 0x0B ∷ 0x0B ∷ 0x68 ∷ 0x83 ∷ 0x85 ∷ 0x08 ∷ 0x3E ∷ 0x3C ∷ 0x00 ∷ 0x04 ∷ 0x00 ∷ 0x02 ∷ 0x80 ∷ 0xB3 ∷ 0xC3 ∷ 0x16 ∷ []
 
--- with overflow and a seventh octet
+-- to master 2, with overflow and a seventh octet
 abbrev diagnosisTold7 : List ℕ
 diagnosisTold7 = 0x68 ∷ 0x0C ∷ 0x0C ∷ 0x68 ∷ 0x82 ∷ 0x85 ∷ 0x08 ∷ 0x3E ∷ 0x3C ∷ 0x00 ∷ 0x04 ∷ 0x80 ∷ 0x02 ∷ 0x80 ∷ 0xB3 ∷ 0xAA ∷ 0xEC ∷ 0x16 ∷ []
 
@@ -103,7 +103,7 @@ diagnosisTold7 = 0x68 ∷ 0x0C ∷ 0x0C ∷ 0x68 ∷ 0x82 ∷ 0x85 ∷ 0x08 ∷ 
 abbrev inputsTold : List ℕ
 inputsTold = 0x68 ∷ 0x06 ∷ 0x06 ∷ 0x68 ∷ 0x82 ∷ 0x85 ∷ 0x08 ∷ 0x3E ∷ 0x38 ∷ 0x00 ∷ 0x85 ∷ 0x16 ∷ []
 
--- sync, without a frame count bit
+-- sync, FC bits 4 and 5 clear
 abbrev sync46 : List ℕ
 sync46 = 0x68 ∷ 0x07 ∷ 0x07 ∷ 0x68 ∷ 0x85 ∷ 0x82 ∷ 0x46 ∷ 0x3A ∷ 0x3E ∷ 0x20 ∷ 0x00 ∷ 0xE5 ∷ 0x16 ∷ []
 
@@ -242,8 +242,9 @@ octets-differ : Answers started
 unfolding computing
 octets-differ = written refl
 
--- status, RS, nothing and Read_Inputs are drawn again, by requests of other functions and services, and RS also where it would be served now
-every-reply-again : Answers started
+-- status, RS and nothing are drawn again by requests of other functions and services, RS also where the request would be served now, and the
+-- inputs outside DATA_EXCH
+status-rs-nothing-inputs-again : Answers started
     (does gap 0 ∷ hears (0x10 ∷ 0x05 ∷ 0x02 ∷ 0x59 ∷ 0x60 ∷ 0x16 ∷ []) ∷ sends statusTold ∷ does send 256
     ∷ does gap 0 ∷ hears setPrm5D ∷ sends statusTold ∷ does send 256 ∷ does events 0x0000
     ∷ does gap 0 ∷ hears (0x10 ∷ 0x05 ∷ 0x02 ∷ 0x73 ∷ 0x7A ∷ 0x16 ∷ []) ∷ sends rs ∷ does send 256
@@ -256,9 +257,9 @@ every-reply-again : Answers started
     ∷ does gap 0 ∷ hears (0x68 ∷ 0x05 ∷ 0x05 ∷ 0x68 ∷ 0x85 ∷ 0x82 ∷ 0x7D ∷ 0x38 ∷ 0x3E ∷ 0xFA ∷ 0x16 ∷ []) ∷ sends inputsTold ∷ does send 256 ∷ does leave 0
     ∷ does gap 0 ∷ hears (0x68 ∷ 0x05 ∷ 0x05 ∷ 0x68 ∷ 0x85 ∷ 0x82 ∷ 0x7D ∷ 0x38 ∷ 0x3E ∷ 0xFA ∷ 0x16 ∷ []) ∷ sends inputsTold ∷ does send 256 ∷ [])
 unfolding computing
-every-reply-again = written refl
+status-rs-nothing-inputs-again = written refl
 
--- a Global_Control acts whatever the chain: behind another master's request with its frame count bit counted
+-- a Global_Control acts though the chain is another master's
 control-behind-another : Answers started
     (entering ++ (does gap 0 ∷ hears slaveDiag5DOf3 ∷ sends diagnosisToldInExchangeTo3 ∷ does send 256
     ∷ does gap 0 ∷ hears (0x68 ∷ 0x07 ∷ 0x07 ∷ 0x68 ∷ 0x85 ∷ 0x82 ∷ 0x46 ∷ 0x3A ∷ 0x3E ∷ 0x02 ∷ 0x00 ∷ 0xC7 ∷ 0x16 ∷ []) ∷ does send 256
@@ -275,11 +276,11 @@ refills-again : Answers started
 unfolding computing
 refills-again = written refl
 
--- a clear leaves the chain
+-- a clear leaves the chain: behind it a request to no service point draws Get_Cfg's reply
 chain-survives-clear : Answers started
     (entering ++ (does gap 0 ∷ hears getCfg5D ∷ sends (0x68 ∷ []) ∷ does leave 0
     ∷ does gap 0 ∷ hears (0x10 ∷ []) ∷ does tick 0 ∷ does take 2
-    ∷ does gap 0 ∷ hears getCfg5D ∷ sends getCfgTold ∷ does send 256
-    ∷ does gap 0 ∷ hears (0x68 ∷ 0x05 ∷ 0x05 ∷ 0x68 ∷ 0x85 ∷ 0x82 ∷ 0x5D ∷ 0x60 ∷ 0x3E ∷ 0x02 ∷ 0x16 ∷ []) ∷ sends getCfgTold ∷ does send 256 ∷ []))
+    ∷ does gap 0 ∷ hears (0x68 ∷ 0x05 ∷ 0x05 ∷ 0x68 ∷ 0x85 ∷ 0x82 ∷ 0x5D ∷ 0x60 ∷ 0x3E ∷ 0x02 ∷ 0x16 ∷ []) ∷ sends getCfgTold ∷ does send 256
+    ∷ does gap 0 ∷ hears getCfg5D ∷ sends getCfgTold ∷ does send 256 ∷ []))
 unfolding computing
 chain-survives-clear = written refl

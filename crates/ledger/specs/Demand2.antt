@@ -46,7 +46,7 @@ pub record Demand2 : Type 0 where
   pub in-octets : (g : Setup) (r : Request) → InOctets g r
   -- a repeat is exactly a request with FC bit 4 set and the last one's master and bit 5
   pub repeat-exactly : RepeatExactly
-  -- a repeat refills the owner's watchdog and draws what the earlier request drew, nothing else
+  -- a repeat refills the owner's watchdog and draws what the earlier request drew, nothing else, but that it lets go what waits for its end
   pub repeat-is : RepeatIs
   -- at first there is no request to repeat
   pub start-has-none : StartHasNone

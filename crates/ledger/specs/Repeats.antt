@@ -33,7 +33,7 @@ use Rattle.ledger.specs.Calls.{step, after}
 use Rattle.ledger.specs.Hearing.{hear}
 use Rattle.ledger.specs.History.{clears, telegramDeeds}
 
--- the words for what a telegram is, in its octets
+-- request, FC bits 4 and 5, and master, by the octets FC and SA
 pub record InOctets (g : Setup) (r : Request) : Type 0 where
   -- a request acts, and its function is neither 4 nor 6
   pub request-is : (isRequest g r ≡ true) ↔ ((acts g r ≡ true) × (r .fc % 16 ≡ 4 → ⊥) × (r .fc % 16 ≡ 6 → ⊥))
@@ -50,7 +50,8 @@ RepeatExactly =
     → (isRepeat g c r ≡ true)
     ↔ ((isRequest g r ≡ true) × (fcvOf r ≡ true) × (masterOf r ≡ c .chain .master) × (fcbOf r ≡ fcbIn (c .chain)))
 
--- the ledger after a repeat that draws d: nothing but the owner's watchdog changes, and the reply comes from the state and lists as they stand
+-- the ledger after a repeat that draws d, before what waits for its end is settled: nothing but the owner's watchdog changes, and the reply
+-- comes from the state and lists as they stand
 abbrev pub again : Drawn → Ledger → Telegram → Ledger
 again d l t =
     withLine (withControl l (refilled (l .setup) (l .control) (requestBy t)))
@@ -145,23 +146,23 @@ pub record SentAgain (l : Ledger) (t u : Telegram) : Type 0 where
   pub same-bit : fcbOf (requestBy u) ≡ fcbOf (requestBy t)
 
 -- the ledger after the last octet of t and the calls cs
-abbrev pub behind : Ledger → Telegram → List Call → Ledger
-behind l t cs = after (settle (completed l t)) cs
+abbrev pub afterCalls : Ledger → Telegram → List Call → Ledger
+afterCalls l t cs = after (settle (completed l t)) cs
 
--- no call of cs completes a new request there
-abbrev pub NoneBetween : Ledger → Telegram → List Call → Type 0
-NoneBetween l t cs = NoNewRequest (settle (completed l t)) cs
+-- no call of cs, behind that octet, completes a new request
+abbrev pub NoNewBetween : Ledger → Telegram → List Call → Type 0
+NoNewBetween l t cs = NoNewRequest (settle (completed l t)) cs
 
 -- whatever t drew is drawn again: u, complete after any calls between that complete no new request (its own octets but the last are among
 -- them), is a repeat that draws it
 abbrev pub DrawnAgain : Type 0
 DrawnAgain =
-    (l : Ledger) (t u : Telegram) (cs : List Call) → SentAgain l t u → NoneBetween l t cs
-    → completed (behind l t cs) u ≡ again (outcomeOf l (requestBy t) (payloadOf t) .drawn) (behind l t cs) u
+    (l : Ledger) (t u : Telegram) (cs : List Call) → SentAgain l t u → NoNewBetween l t cs
+    → completed (afterCalls l t cs) u ≡ again (outcomeOf l (requestBy t) (payloadOf t) .drawn) (afterCalls l t cs) u
 
--- and after a gap behind these calls
+-- the ledger after the last octet of t, the calls cs and a gap
 abbrev pub afterGap : Ledger → Telegram → List Call → Ledger
-afterGap l t cs = step (behind l t cs) gap .ledger
+afterGap l t cs = step (afterCalls l t cs) gap .ledger
 
 -- of the ledger p after the gap: u is heard whole with no call between, octet by octet
 pub record NothingNew (p : Ledger) (u : Telegram) : Type 0 where
@@ -180,13 +181,13 @@ pub record NothingNew (p : Ledger) (u : Telegram) : Type 0 where
 abbrev pub E5Again : Type 0
 E5Again =
     (l : Ledger) (t u : Telegram) (cs : List Call) → SentAgain l t u
-    → outcomeOf l (requestBy t) (payloadOf t) .drawn ≡ drawn.Acknowledge → NoneBetween l t cs → NothingNew (afterGap l t cs) u
+    → outcomeOf l (requestBy t) (payloadOf t) .drawn ≡ drawn.Acknowledge → NoNewBetween l t cs → NothingNew (afterGap l t cs) u
 
 -- "the vat program gets the event twice" no more: a Set_Prm that no other master's ownership refuses, and its repeat
 abbrev pub SetPrmOnce : Type 0
 SetPrmOnce =
     (l : Ledger) (t u : Telegram) (cs : List Call) → SentAgain l t u → serviceOf (l .setup) (requestBy t) ≡ SetPrm
-    → otherOwns (l .control) (masterOf (requestBy t)) ≡ false → NoneBetween l t cs → NothingNew (afterGap l t cs) u
+    → otherOwns (l .control) (masterOf (requestBy t)) ≡ false → NoNewBetween l t cs → NothingNew (afterGap l t cs) u
 
 -- "the outputs of a repeated Data_Exchange count as accepted a single time": a repeat has no deed but that of a noted clear at its end
 abbrev pub NoDeedAgain : Type 0

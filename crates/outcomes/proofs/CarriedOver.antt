@@ -50,7 +50,7 @@ buffers-front outputs-deed.Zeros s m safe =
     let room = buffer-room s m outputRow k safe (safe .outputs .within role.next (omega arith)) in
     pasted-take m _ _ stateLength (inside (s .setup) outputRow k 0 (safe .outputs .within role.next (omega arith)) (omega arith) .0) (omega arith)
 
--- and which buffer it is does not hang on the control part
+-- and which buffer it is does not depend on the control part
 buffers-apart : (d : OutputsDeed) (s : State) (c : Control) (m : List ℕ) → onMemory d (withControl s c) m ≡ onMemory d s m
 buffers-apart outputs-deed.Keep s c m = refl
 buffers-apart outputs-deed.Publish s c m = refl

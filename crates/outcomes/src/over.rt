@@ -106,8 +106,8 @@ fn put_configuration(deed: SetDeed, sets: Sets, count: u8, mem: &mut [u8])
 }
 
 // An outcome carried out: the control part but for the chain, which requests alone change, then the buffers, where the deed asks for it,
-// then each set. The control part comes first, so that nobody has to keep it while the rest is done, and a set is read only where it is
-// written.
+// then each set. The control part comes first and a set is read where it is written, so that the compiler keeps neither while the rest is
+// done.
 pub fn carry_over(mem: &mut [u8], o: Outcome, count: u8)
     requires { ⌜ Holds (now mem) (unpacked (now mem)) ⌝ }
     ensures { λ _. ⌜ now (mem .exit) ≡ packedAfter (carried (unpacked (now (mem .entry))) (now (mem .entry)) (onChain o (unpacked (now (mem .entry)) .control .chain)) count) ⌝ }

@@ -210,7 +210,7 @@ abbrev pub servedBy : Setup → Control → Occupied → Request → Data → Ou
 servedBy s c b r octets = serve (serviceOf s r) s (refilled s c r) b r octets
 
 -- what comes of a telegram: a repeat draws again what the earlier request drew; of any other the service is served, and a request goes into
--- the chain
+-- the chain or ends it
 abbrev pub outcomeBy : Setup → Control → Occupied → Request → Data → Outcome
 outcomeBy s c b r octets =
     cond (isRepeat s c r) (repeated s c r) (chained s r (servedBy s c b r octets))

@@ -1,4 +1,5 @@
--- Each part of the state is read from octets of its own: it comes back whatever was packed of the other parts meanwhile.
+-- The four sets, and all parts but the control part, are read from octets of their own: they come back whatever was packed of the other parts
+-- meanwhile.
 use mathlib.Core.Path.{_≡_, refl, sym, ap, _∙_}
 use mathlib.Core.List.{List}
 use Prim.Native.Nat.{ℕ}
@@ -18,7 +19,7 @@ use Rattle.state.proofs.Round.{round}
 
 -- ---- one part
 
--- what is read of it hangs on that part alone
+-- what is read of it depends on that part alone
 abbrev Own : {A : Type 0} → (State → A) → Type 0
 Own part = (t u : State) (m : List ℕ) → part t ≡ part u → part (unpacked (kept t m)) ≡ part (unpacked (kept u m))
 

@@ -15,7 +15,7 @@ pub struct Chain {
 }
 
 impl Chain {
-    // The address of all stations, which no master has: there is no chain.
+    // The address of all stations, which no master has, stands for no chain.
     pub const NO_MASTER: u8 = 127;
 
     // A request of this master, with this frame count bit, that drew this.

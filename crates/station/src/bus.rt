@@ -41,7 +41,7 @@ pub fn pause(s: State, mem: &mut [u8]) -> State
     settle(read_by(s, Reader::start()), mem)
 }
 
-// A gap over the memory: only the reader is packed.
+// A gap over the memory: the reader is packed, and what waited is settled.
 pub fn gap(mem: &mut [u8])
     requires { ⌜ Holds (now mem) (unpacked (now mem)) ⌝ }
     ensures { λ _. ⌜ now (mem .exit) ≡ packedAfter (paused (unpacked (now (mem .entry))) (now (mem .entry))) ⌝ }
