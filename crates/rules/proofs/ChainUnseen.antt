@@ -3,11 +3,9 @@ use Prim.Native.Nat.{ℕ}
 use mathlib.Core.Path.{_≡_, refl, sym, ap, _∙_}
 use mathlib.Core.Bool.{Bool, true, false, cond, not, _&&_, _||_}
 use lib.Dec.{eqb}
-use Rattle.buffers.specs.Events.{cleared, controlEvent, configurationEvent, parametersEvent}
 use Rattle.state.specs.declared.setup.Setup.{Setup}
 use Rattle.state.specs.declared.chain.Chain.{Chain}
 use Rattle.state.specs.declared.control.Control.{Control}
-use Rattle.state.specs.declared.control.Phase.the-variants.{WaitCfg}
 use Rattle.state.specs.declared.state.Drawn.{Drawn}
 use Rattle.state.specs.declared.state.Drawn.the-variants as drawn
 use Rattle.state.specs.Well.{within}
@@ -17,15 +15,12 @@ use Rattle.rules.specs.declared.request.Occupied.{Occupied}
 use Rattle.rules.specs.declared.request.Prm.{Prm}
 use Rattle.rules.specs.declared.request.Service.{Service}
 use Rattle.rules.specs.declared.request.Service.the-variants.{Nothing, Status, Reject, GlobalControl, DataExchange, SetPrm, ChkCfg, SlaveDiag, GetCfg, ReadInputs, ReadOutputs}
-use Rattle.rules.specs.declared.outcome.InputsDeed.the-variants as inputs-deed
-use Rattle.rules.specs.declared.outcome.SetDeed.the-variants as set-deed
 use Rattle.rules.specs.declared.outcome.Outcome.{Outcome}
-use Rattle.rules.specs.Control.{bit, inExchange, owns, withPhase, withStored, withWatchdog, withFlags, withEvents, withModes, withChain, withoutFaults, withoutDiagFlag, raise}
-use Rattle.rules.specs.Phases.{drawing, waitPrm, enteringWaitPrm, left, waitCfg, zerosIfLeft}
-use Rattle.rules.specs.Modes.{allowedModes, announced, commandedModes, commandedOutputs, commandedInputs}
+use Rattle.rules.specs.Control.{bit, inExchange, owns, withWatchdog, withFlags, withChain, withoutDiagFlag}
+use Rattle.rules.specs.Phases.{drawing, waitPrm, enteringWaitPrm, waitCfg}
 use Rattle.rules.specs.Requests.{masterOf, acts, toStation, refilled, serviceOf}
 use Rattle.rules.specs.Retries.{isRepeat, onChain}
-use Rattle.rules.specs.Services.{otherOwns, otherIdent, wantsWatchdog, badFactors, ticksOf, prmFault, showing, parametrized, goodPrm, setPrm, cfgFault, goodCfg, chkCfg, exchanges, goodExchange, dataExchange, slaveDiag, controls, storing, obeyed, globalControl, serve, outcomeBy}
+use Rattle.rules.specs.Services.{otherOwns, otherIdent, wantsWatchdog, badFactors, prmFault, parametrized, goodPrm, setPrm, cfgFault, goodCfg, chkCfg, exchanges, goodExchange, dataExchange, slaveDiag, controls, obeyed, globalControl, serve, outcomeBy}
 use Rattle.rules.proofs.Repeats.{by-repeat}
 
 module _ (g : Setup) (c : Control) (h k : Chain) (r : Request) where
@@ -37,43 +32,14 @@ module _ (g : Setup) (c : Control) (h k : Chain) (r : Request) where
   abbrev Blind : (Control → Outcome) → Type 0
   Blind f = onChain (f other) k ≡ onChain (f c) k
 
-  -- WAIT_CFG entered
-  wait-cfg : withChain (waitCfg other) k ≡ withChain (waitCfg c) k
-  unfolding waitCfg
-  wait-cfg = go (inExchange c)
-    where
-      go : (t : Bool) → withChain (withPhase (cond t (left other) other) WaitCfg) k ≡ withChain (withPhase (cond t (left c) c) WaitCfg) k
-      go true = refl
-      go false = refl
-
   -- Set_Prm
   good-prm : (opened : Bool) (p : Prm) → Blind (λ x. goodPrm x opened (masterOf r) p)
-  unfolding parametrized
-  good-prm opened p =
-      ap
-      (λ (x : Control).
-      record {
-        control =
-            record {
-              phase = x .phase;
-              owner = masterOf r;
-              group = p .group;
-              stored = c .stored;
-              watchdog = record { reload = ticksOf p; remaining = ticksOf p };
-              flags = withoutFaults (c .flags);
-              events = showing (cleared (x .events) configurationEvent) opened parametersEvent;
-              noted = c .noted;
-              diagnosis = c .diagnosis;
-              modes = allowedModes (x .modes) (p .status);
-              chain = k;
-            };
-        outputs = zerosIfLeft c;
-        inputs = inputs-deed.Keep;
-        parameters = set-deed.Receive;
-        configuration = set-deed.Drop;
-        drawn = drawn.Acknowledge;
-      })
-      wait-cfg
+  unfolding parametrized waitCfg
+  good-prm opened p = go (inExchange c) refl
+    where
+      go : (t : Bool) → inExchange c ≡ t → Blind (λ x. goodPrm x opened (masterOf r) p)
+      go true e = rw e refl
+      go false e = rw e refl
 
   set-prm : (opened : Bool) (p : Prm) → Blind (λ x. setPrm g x opened r p)
   unfolding setPrm waitPrm
@@ -96,6 +62,14 @@ module _ (g : Setup) (c : Control) (h k : Chain) (r : Request) where
       go false false false false false = good-prm opened p
 
   -- Chk_Cfg
+  good-cfg : (opened : Bool) → Blind (λ x. goodCfg x opened)
+  unfolding waitCfg
+  good-cfg opened = go (inExchange c) refl
+    where
+      go : (t : Bool) → inExchange c ≡ t → Blind (λ x. goodCfg x opened)
+      go true e = rw e refl
+      go false e = rw e refl
+
   chk-cfg : (opened : Bool) → Blind (λ x. chkCfg g x opened r)
   unfolding chkCfg waitPrm
   chk-cfg opened = go (not (owns c (masterOf r))) (not (within 1 (r .count) (g .«configuration_len»)))
@@ -104,18 +78,7 @@ module _ (g : Setup) (c : Control) (h k : Chain) (r : Request) where
           → Blind (λ x. cond others (drawing x drawn.Rejected) (cond short (enteringWaitPrm (cfgFault x) drawn.Acknowledge) (goodCfg x opened)))
       go true short = refl
       go false true = refl
-      go false false =
-          ap
-          (λ (x : Control).
-          record {
-            control = withEvents x (showing (x .events) opened configurationEvent);
-            outputs = zerosIfLeft c;
-            inputs = inputs-deed.Keep;
-            parameters = set-deed.Keep;
-            configuration = set-deed.Receive;
-            drawn = drawn.Acknowledge;
-          })
-          wait-cfg
+      go false false = good-cfg opened
 
   -- Data_Exchange
   data-exchange : Blind (λ x. dataExchange g x r)
@@ -129,30 +92,19 @@ module _ (g : Setup) (c : Control) (h k : Chain) (r : Request) where
       go false false = refl
 
   -- Global_Control
-  stored : (first : ℕ) → withChain (storing other first) k ≡ withChain (storing c first) k
-  stored first = go (eqb first (c .stored))
+  obeying : (withheld : Bool) (first : ℕ) → Blind (λ x. obeyed x withheld first)
+  obeying withheld first = go (eqb first (c .stored)) refl
     where
-      go : (t : Bool) → withChain (cond t other (raise (withStored other first) controlEvent)) k ≡ withChain (cond t c (raise (withStored c first) controlEvent)) k
-      go true = refl
-      go false = refl
+      go : (t : Bool) → eqb first (c .stored) ≡ t → Blind (λ x. obeyed x withheld first)
+      go true e = rw e refl
+      go false e = rw e refl
 
   global-control : (withheld : Bool) (first second : ℕ) → Blind (λ x. globalControl x withheld r first second)
   unfolding globalControl
   global-control withheld first second = go (controls c r second)
     where
       go : (t : Bool) → Blind (λ x. cond t (obeyed x withheld first) (drawing x drawn.Nothing))
-      go true =
-          ap
-          (λ (x : Control).
-          record {
-            control = withModes (withEvents x (announced (commandedOutputs (c .modes) withheld first) (x .events))) (commandedModes (c .modes) first);
-            outputs = commandedOutputs (c .modes) withheld first;
-            inputs = commandedInputs (c .modes) first;
-            parameters = set-deed.Keep;
-            configuration = set-deed.Keep;
-            drawn = drawn.Nothing;
-          })
-          (stored first)
+      go true = obeying withheld first
       go false = refl
 
   -- a reply of one kind or another
