@@ -2,7 +2,7 @@
 use Prim.Native.Nat.{ℕ}
 use mathlib.Core.Path.{_≡_, refl, sym, ap, subst, _∙_}
 use mathlib.Core.Bool.{true}
-use mathlib.Core.List.{List, _∷_, _++_}
+use mathlib.Core.List.{List, [], _∷_, _++_}
 use lib.ListN.{length, getD}
 use Rattle.state.specs.declared.answer.Answer.the-variants.{Value}
 use Rattle.state.specs.declared.setup.Setup.{Setup}
@@ -12,17 +12,17 @@ use Rattle.state.specs.Start.{initialState, laidOut}
 use Rattle.state.specs.Unpack.{unpacked}
 use Rattle.state.proofs.Damage.{holds-unpacked}
 use Rattle.rules.specs.Runs.{answersTo, leftBy}
-use Rattle.rules.proofs.Runs.{answers-alike, left-alike}
+use Rattle.rules.proofs.Runs.{left-append, answers-append, answers-alike, left-alike}
 use Rattle.steps.specs.Step.{stepOver}
 use Rattle.steps.specs.Calls.{started, wellMemory, called, answers, memoryAfter}
 use Rattle.state.proofs.LaidOut.{laid-holds, laid-length}
 use Rattle.ledger.specs.Ledger.{Ledger, fresh}
 use Rattle.ledger.specs.User.{Told}
 use Rattle.ledger.specs.Calls as ledger
-use Rattle.rules.specs.Call.{Call, read}
+use Rattle.rules.specs.Call.{Call, take, read}
 use Rattle.ledger.specs.History.{readable, history}
 use Rattle.ledger.proofs.Exchange.{exchange, places-alike}
-use Rattle.ledger.proofs.History.{outputs-read}
+use Rattle.ledger.proofs.History.{outputs-read, takes-told}
 use Rattle.agreement.specs.Agreement.{memoryOf, Agreement, Demand3}
 use Rattle.agreement.proofs.StartAgrees.{start-related}
 use Rattle.steps.specs.Demand1.{LengthIn, Begins}
@@ -123,6 +123,11 @@ module _ (m : List ℕ) (s : Setup) (slice : List ℕ) (long : s .«get_cfg_len�
         agree (cs ++ read 1 index ∷ rest)
         ∙ outputs-read s slice cs index rest .answers-are h
         ∙ (λ i. sym (agree cs) i ++ x ∷ sym (later cs rest) i);
+    takes = λ cs rest.
+        let a = memoryOf m s slice in
+        let told = call-alike (memoryAfter a cs) (ledger.after (fresh s slice) cs) (ready-after cs a (fresh s slice) begins-ready) take .answers ∙ takes-told s slice cs in
+        answers-append (λ n c. called n c .answer) (λ n c. called n c .memory) a cs (take ∷ rest)
+        ∙ (λ i. answers a cs ++ told i ∷ answers (sym (left-append (λ n c. called n c .memory) a cs (take ∷ [])) i) rest);
   }
 
 pub demand-3 : Demand3

@@ -22,8 +22,8 @@ use Rattle.state.specs.declared.state.Reply.{Reply}
 use Rattle.state.specs.declared.state.State.{State}
 use Rattle.state.specs.Layout.{outputsAt, inputsAt, parametersAt, configurationAt, diagnosisAt, getCfgAt}
 use Rattle.ledger.specs.Ledger.{Line}
-use Rattle.rules.specs.Replies.{diagnoses}
-use Rattle.steps.specs.Replies.{ownPlace, headerAt, contentAt, replyPoint, isExchange, datumAt}
+use Rattle.rules.specs.Replies.{diagnoses, isExchange}
+use Rattle.steps.specs.Replies.{ownPlace, headerAt, contentAt, replyPoint, datumAt}
 use Rattle.steps.specs.Reading.{isIgnored}
 use Rattle.agreement.proofs.Relation.{BeginsWith, Gathered, ReadingAgrees, ReplyAgrees}
 

@@ -9,14 +9,14 @@ use mathlib.Core.Logic.{inl, inr}
 use lib.Dec.{eqb, ltb}
 use lib.ListN.{length, getD, take, drop, length-append, length-take, length-drop}
 use lib.Seq.{getD-take, getD-drop, getD-append-add}
-use borrow.Author.Tests.{ltb-true, ltb-false, ne-eqb}
+use borrow.Author.Tests.{ltb-true, ltb-false, ne-eqb, eqb-true, eqb-false}
 use Rattle.buffers.specs.Roles.{fillOf, heldOf}
 use Rattle.buffers.specs.Roles as role
 use Rattle.octets.specs.Part.{part}
 use Rattle.octets.proofs.Parts.{part-length}
 use Rattle.telegram.specs.declared.Kind.the-variants.{Sd2}
 use Rattle.telegram.specs.Telegram.{sd1, sd2, octetsOf}
-use Rattle.telegram.specs.Sending.{empty, sending}
+use Rattle.telegram.specs.Sending.{empty, single, sending}
 use Rattle.telegram.specs.ToSend.{toSend}
 use Rattle.telegram.proofs.Sends.{none, begins, single-octet}
 use Rattle.state.specs.declared.setup.Setup.{Setup}
@@ -30,8 +30,8 @@ use Rattle.state.proofs.Places.{inside, get-cfg-inside}
 use Rattle.rules.specs.Diagnosis.{headerOf}
 use Rattle.ledger.specs.Lists.{Buffers}
 use Rattle.ledger.specs.Ledger.{Line}
-use Rattle.ledger.specs.Replies.{headerOctets, diagnosisOctets, serviceTelegram, replyOf}
-use Rattle.rules.specs.Replies.{diagnoses, exchangeFc}
+use Rattle.ledger.specs.Replies.{headerOctets, diagnosisOctets, acknowledgement, answer, serviceTelegram, replyOctets, replyOf}
+use Rattle.rules.specs.Replies.{diagnoses, exchangeFc, withoutInputs, repliesE5}
 use Rattle.steps.specs.Safe.{Safe}
 use Rattle.state.specs.With.{withReply}
 use Rattle.steps.specs.Replies.{servicing, replyFor, ownPlace, headerAt, contentAt, datumAt}
@@ -137,20 +137,55 @@ module _ (s : State) (m : List ℕ) (slice : List ℕ) (b : Buffers) (master : �
   draw-rejected =
       ([], record { count = refl; octets = λ k g. absurd (omega arith); unsent = begins (sd1 master (s .setup .address) 0x03) (inl (omega arith, omega arith)); diagnosis = refl })
 
+  -- the reply to Data_Exchange: e5: it is E5, lacks: there are no inputs
+  abbrev Exchanged : (e5 lacks : Bool) → Type 0
+  Exchanged e5 lacks =
+      let fc = exchangeFc (s .control) in
+      let sender = cond e5 single (sending Sd2 master (s .setup .address) fc (cond lacks 1 (s .setup .«input_len»))) in
+      let reply = cond e5 acknowledgement (answer (sd2 master (s .setup .address) fc (cond lacks (0 ∷ []) (b .inputs .sending)))) in
+      (ds : List ℕ)
+      × ReplyAgrees (withReply s (record { drawn = Exchange; sender = sender; place = heldOf (s .outputs .set .place); header = headerOf (s .control) })) m
+      (record { ignored = true; telegram = []; reply = replyOctets reply; diagnosing = false }) ds
+
   draw-exchange : Replies s m slice b master Exchange
   unfolding replyFor datumAt
-  draw-exchange =
-      let e : length (b .inputs .sending) ≡ s .setup .«input_len» = fills inputRow (fillOf (s .inputs .place)) (b .inputs .sending) (f .inputs .within role.fill (omega arith)) sent in (
-        b .inputs .sending,
+  draw-exchange = go (repliesE5 (s .setup) (s .control)) (withoutInputs (s .setup)) refl
+    where
+      a : ℕ
+      a = inputsAt (s .setup) (fillOf (s .inputs .place))
+
+      e : length (b .inputs .sending) ≡ s .setup .«input_len»
+      e = fills inputRow (fillOf (s .inputs .place)) (b .inputs .sending) (f .inputs .within role.fill (omega arith)) sent
+
+      -- a buffer of no octets is read as 0
+      none-read : s .setup .«input_len» ≡ 0 → (k : ℕ) → k < 1 → getD (part m a (s .setup .«input_len»)) k 0 ≡ getD (0 ∷ []) k 0
+      none-read z zero g = ap (λ (n : ℕ). getD (part m a n) 0 0) z
+      none-read z (suc k) g = absurd (omega arith)
+
+      go : (e5 lacks : Bool) → withoutInputs (s .setup) ≡ lacks → Exchanged e5 lacks
+      go true lacks q = ([], record { count = refl; octets = λ k g. absurd (omega arith); unsent = single-octet []; diagnosis = refl })
+      go false true q = (
+        0 ∷ [],
         record {
-          count = e;
-          octets = λ k g. ap (λ (l : List ℕ). getD l k 0) sent;
-          unsent =
-              ap (λ (n : ℕ). toSend (sending Sd2 master (s .setup .address) (exchangeFc (s .control)) n) (b .inputs .sending)) (sym e)
-              ∙ begins (sd2 master (s .setup .address) (exchangeFc (s .control)) (b .inputs .sending)) (omega arith, omega arith, inl (omega arith, omega arith));
+          count = refl;
+          octets = none-read (eqb-true (s .setup .«input_len») 0 q);
+          unsent = begins (sd2 master (s .setup .address) (exchangeFc (s .control)) (0 ∷ [])) (omega arith, omega arith, inl (omega arith, omega arith));
           diagnosis = refl;
         },
       )
+      go false false q =
+          let some = eqb-false (s .setup .«input_len») 0 q in
+          let n = e in (
+            b .inputs .sending,
+            record {
+              count = e;
+              octets = λ k g. ap (λ (l : List ℕ). getD l k 0) sent;
+              unsent =
+                  ap (λ (n : ℕ). toSend (sending Sd2 master (s .setup .address) (exchangeFc (s .control)) n) (b .inputs .sending)) (sym e)
+                  ∙ begins (sd2 master (s .setup .address) (exchangeFc (s .control)) (b .inputs .sending)) (omega arith, omega arith, inl (omega arith, omega arith));
+              diagnosis = refl;
+            },
+          )
 
   draw-inputs : Replies s m slice b master Inputs
   unfolding replyFor datumAt
@@ -159,9 +194,9 @@ module _ (s : State) (m : List ℕ) (slice : List ℕ) (b : Buffers) (master : �
       let e : length xs ≡ s .setup .«input_len» = fills inputRow (fillOf (s .inputs .place)) xs (f .inputs .within role.fill (omega arith)) sent in (
         0x3E ∷ 56 ∷ xs,
         record {
-          count = service-count (s .setup .«input_len») xs 56 e (w .input-len .1);
+          count = service-count (s .setup .«input_len») xs 56 e (w .input-len);
           octets = service-octets (contentAt Inputs s m) 56 xs (λ i g. ap (λ (l : List ℕ). getD l i 0) sent);
-          unsent = service-left (s .setup) master 56 (s .setup .«input_len») xs (w .address) to e (w .input-len .1);
+          unsent = service-left (s .setup) master 56 (s .setup .«input_len») xs (w .address) to e (w .input-len);
           diagnosis = refl;
         },
       )
@@ -174,9 +209,9 @@ module _ (s : State) (m : List ℕ) (slice : List ℕ) (b : Buffers) (master : �
       let e : length xs ≡ s .setup .«output_len» = fills outputRow (heldOf (s .outputs .set .place)) xs (f .outputs .within role.held (omega arith)) held in (
         0x3E ∷ 57 ∷ xs,
         record {
-          count = service-count n xs 57 e (w .output-len .1);
+          count = service-count n xs 57 e (w .output-len);
           octets = service-octets (λ i. getD (part m (outputsAt (s .setup) (heldOf (s .outputs .set .place))) n) i 0) 57 xs (λ i g. ap (λ (l : List ℕ). getD l i 0) held);
-          unsent = service-left (s .setup) master 57 n xs (w .address) to e (w .output-len .1);
+          unsent = service-left (s .setup) master 57 n xs (w .address) to e (w .output-len);
           diagnosis = refl;
         },
       )

@@ -27,7 +27,8 @@ use Rattle.ledger.specs.Bus as bus
 use Rattle.state.specs.With.{withReply}
 use Rattle.steps.specs.Stepped.{Stepped, unchanged}
 use Rattle.steps.specs.Outcome.{settle}
-use Rattle.steps.specs.Replies.{contentAt, replyPoint, isExchange, datumAt, askedAs, askedFor}
+use Rattle.rules.specs.Replies.{isExchange}
+use Rattle.steps.specs.Replies.{contentAt, replyPoint, datumAt, askedAs, askedFor}
 use Rattle.steps.specs.Bus.{sentBy, sendTold, sendLeft}
 use Rattle.agreement.proofs.Relation.{ReplyAgrees, Agrees, After}
 use Rattle.agreement.proofs.Steady.{Steady}

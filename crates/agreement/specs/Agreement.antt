@@ -9,10 +9,10 @@ use Rattle.state.specs.declared.setup.Setup.{Setup}
 use Rattle.steps.specs.Calls.{started, answers, memoryAfter}
 use Rattle.ledger.specs.Ledger.{fresh}
 use Rattle.ledger.specs.Calls as ledger
-use Rattle.rules.specs.Call.{Call, octet, read}
+use Rattle.rules.specs.Call.{Call, octet, take, read}
 use Rattle.ledger.specs.Calls.{after}
 use Rattle.ledger.specs.Exchange.{Inner, ofUser, PlacesChanged}
-use Rattle.ledger.specs.History.{readable, history}
+use Rattle.ledger.specs.History.{readable, newsOf, history}
 
 -- the memory after Start
 abbrev pub memoryOf : List ℕ → Setup → List ℕ → List ℕ
@@ -32,6 +32,12 @@ pub record Agreement (m : List ℕ) (s : Setup) (slice : List ℕ) : Type 0 wher
       → answers (memoryOf m s slice) (cs ++ read 1 index ∷ rest)
       ≡ answers (memoryOf m s slice) cs
       ++ Value (getD (readable (s .«output_len») (history (fresh s slice) cs)) index 0) ∷ answers (memoryAfter (memoryOf m s slice) cs) rest
+  -- a take tells of them, also where they have no octet that could be read: 0 if nothing was published since the latest take, 2 if zeros were
+  -- published last, else 1
+  pub takes : (cs rest : List Call)
+      → answers (memoryOf m s slice) (cs ++ take ∷ rest)
+      ≡ answers (memoryOf m s slice) cs
+      ++ Value (newsOf (history (fresh s slice) cs)) ∷ answers (memoryAfter (memoryOf m s slice) (cs ++ take ∷ [])) rest
 
 -- for every memory, setup and slice of the setup's Get_Cfg length for which Start answers 0
 abbrev pub FromStart : (List ℕ → Setup → List ℕ → Type 0) → Type 0

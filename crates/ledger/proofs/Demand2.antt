@@ -12,6 +12,7 @@ use Rattle.ledger.proofs.EventsFollow.{events-open, publishing-raises}
 use Rattle.ledger.proofs.ModesKept.{modes-always}
 use Rattle.ledger.proofs.RequestKept.{chain-kept, chain-goes-on, start-has-none}
 use Rattle.ledger.proofs.Repeats.{in-octets, repeat-is, drawn-again, e5-again, set-prm-once, no-deed-again}
+use Rattle.ledger.proofs.OneWay.{one-way}
 use Rattle.ledger.proofs.Fit.{replies-read}
 use Rattle.ledger.proofs.Octets.{sent-octets}
 
@@ -42,6 +43,7 @@ demand-2 = record {
   e5-again = e5-again;
   set-prm-once = set-prm-once;
   no-deed-again = no-deed-again;
+  one-way = one-way;
   sending = sending;
   reading-back = replies-read;
   sent-octets = sent-octets;

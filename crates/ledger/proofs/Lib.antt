@@ -16,7 +16,9 @@ pub mod OctetReplies
 pub mod OctetsCarried
 pub mod Octets
 pub mod RequestKept
+pub mod FlagKept
 pub mod Repeats
+pub mod OneWay
 pub mod Demand2
 pub mod Scripts
 mod Computing
@@ -24,3 +26,4 @@ pub mod Bench
 mod Cases
 mod ModeCases
 mod RetryCases
+mod OneWayCases

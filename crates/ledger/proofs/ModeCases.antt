@@ -22,19 +22,19 @@ abbrev chkCfg : List ℕ
 chkCfg = 0x68 ∷ 0x06 ∷ 0x06 ∷ 0x68 ∷ 0x85 ∷ 0x82 ∷ 0x4D ∷ 0x3E ∷ 0x3E ∷ 0x20 ∷ 0xF0 ∷ 0x16 ∷ []
 
 -- Global_Control to every station with this octet 0
-abbrev control : (command fcs : ℕ) → List ℕ
+abbrev pub control : (command fcs : ℕ) → List ℕ
 control command fcs = 0x68 ∷ 0x07 ∷ 0x07 ∷ 0x68 ∷ 0xFF ∷ 0x82 ∷ 0x46 ∷ 0x3A ∷ 0x3E ∷ command ∷ 0x00 ∷ fcs ∷ 0x16 ∷ []
 
 -- Data_Exchange with this output
-abbrev exchange : (output fcs : ℕ) → List ℕ
+abbrev pub exchange : (output fcs : ℕ) → List ℕ
 exchange output fcs = 0x68 ∷ 0x04 ∷ 0x04 ∷ 0x68 ∷ 0x05 ∷ 0x02 ∷ 0x4D ∷ output ∷ fcs ∷ 0x16 ∷ []
 
 -- and its reply with this input
-abbrev input : (octet fcs : ℕ) → List ℕ
+abbrev pub input : (octet fcs : ℕ) → List ℕ
 input octet fcs = 0x68 ∷ 0x04 ∷ 0x04 ∷ 0x68 ∷ 0x02 ∷ 0x05 ∷ 0x08 ∷ octet ∷ fcs ∷ 0x16 ∷ []
 
 -- Slave_Diag
-abbrev slaveDiag : List ℕ
+abbrev pub slaveDiag : List ℕ
 slaveDiag = 0x68 ∷ 0x05 ∷ 0x05 ∷ 0x68 ∷ 0x85 ∷ 0x82 ∷ 0x6D ∷ 0x3C ∷ 0x3E ∷ 0xEE ∷ 0x16 ∷ []
 
 -- its reply with these octets 0 and 1
@@ -50,7 +50,7 @@ abbrev inputsRead21 : List ℕ
 inputsRead21 = 0x68 ∷ 0x06 ∷ 0x06 ∷ 0x68 ∷ 0x82 ∷ 0x85 ∷ 0x08 ∷ 0x3E ∷ 0x38 ∷ 0x21 ∷ 0xA6 ∷ 0x16 ∷ []
 
 -- from WAIT_PRM into the exchange, with this octet 0 of Set_Prm
-abbrev entered : (status fcs : ℕ) → List Part
+abbrev pub entered : (status fcs : ℕ) → List Part
 entered status fcs =
     does gap 0 ∷ hears (setPrm status fcs) ∷ sends (0xE5 ∷ []) ∷ does send 256
     ∷ does gap 0 ∷ hears chkCfg ∷ sends (0xE5 ∷ []) ∷ does send 256

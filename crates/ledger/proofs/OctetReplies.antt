@@ -2,11 +2,11 @@
 use Prim.Native.Nat.{ℕ, _≤_, _<_}
 use native.Mathlib.Nat.{mod-lt}
 use native.Mathlib.Omega.{arith}
-use mathlib.Core.Bool.{Bool, true, false, not}
-use mathlib.Core.List.{List}
+use mathlib.Core.Bool.{Bool, true, false, cond, not}
+use mathlib.Core.List.{List, [], _∷_}
 use lib.Dec.{eqb}
 use lib.ListN.{take, drop}
-use Rattle.telegram.specs.Telegram.{sd2, octetsOf, Valid, Octets}
+use Rattle.telegram.specs.Telegram.{Telegram, sd2, octetsOf, Valid, Octets}
 use Rattle.state.specs.declared.setup.Setup.{Setup}
 use Rattle.state.specs.declared.control.Control.{Control}
 use Rattle.state.specs.declared.state.Drawn.{Drawn}
@@ -14,9 +14,9 @@ use Rattle.state.specs.declared.state.Drawn.the-variants.{Nothing, Acknowledge,
 use Rattle.state.proofs.Choice.{by-test}
 use Rattle.rules.specs.Control.{inWaitPrm, inExchange}
 use Rattle.rules.specs.Diagnosis.{one, headerOf}
-use Rattle.rules.specs.Replies.{exchangeFc}
+use Rattle.rules.specs.Replies.{exchangeFc, withoutInputs, repliesE5}
 use Rattle.ledger.specs.Lists.{Outputs as OutputLists, Inputs as InputLists, Sets, Diagnoses, Buffers}
-use Rattle.ledger.specs.Replies.{headerOctets, diagnosisOctets, shortTelegram, serviceTelegram, replyBy, replyOctets}
+use Rattle.ledger.specs.Replies.{headerOctets, diagnosisOctets, acknowledgement, answer, shortTelegram, serviceTelegram, exchangeOctets, replyBy, replyOctets}
 use Rattle.ledger.proofs.ReadBack.{ValidReply}
 use Rattle.telegram.proofs.OctetLists.{both-octets, take-octets, drop-octets, telegram-octets}
 
@@ -94,10 +94,17 @@ module _ (s : Setup) (slice : List ℕ) (c : Control) (b : Buffers) (master : �
   reply-octets Acknowledge v = (omega arith, tt)
   reply-octets Status v = short-octets 0x00 (omega arith) v
   reply-octets Rejected v = short-octets 0x03 (omega arith) v
-  reply-octets Exchange v =
-      let low = by-test (λ (n : ℕ). n < 256) (c .flags .«diag_flag») 0x0A 0x08 (λ _. omega arith) (λ _. omega arith) in
-      telegram-octets (sd2 master (s .address) (exchangeFc c) (b .inputs .sending)) v
-      (record { da = omega arith; sa = omega arith; fc = low; ds = f .inputs .sending })
+  reply-octets Exchange v = go (repliesE5 s c) v
+    where
+      t : Telegram
+      t = sd2 master (s .address) (exchangeFc c) (exchangeOctets s (b .inputs .sending))
+
+      go : (e5 : Bool) → ValidReply (cond e5 acknowledgement (answer t)) → Octets (replyOctets (cond e5 acknowledgement (answer t)))
+      go true _ = (omega arith, tt)
+      go false w =
+          let low = by-test (λ (n : ℕ). n < 256) (c .flags .«diag_flag») 0x0A 0x08 (λ _. omega arith) (λ _. omega arith) in
+          telegram-octets t w
+          (record { da = omega arith; sa = omega arith; fc = low; ds = by-test Octets (withoutInputs s) (0 ∷ []) (b .inputs .sending) (λ _. (omega arith, tt)) (λ _. f .inputs .sending) })
   reply-octets Inputs v = service-octets 56 (b .inputs .sending) (omega arith) (f .inputs .sending) v
   reply-octets Outputs v = service-octets 57 (b .outputs .held) (omega arith) (f .outputs .held) v
   reply-octets Configuration v = service-octets 59 slice (omega arith) x v

@@ -5,14 +5,17 @@ use mathlib.Core.Path.{_≡_, refl, subst, _∙_}
 use mathlib.Core.List.{List, []}
 use mathlib.Core.Logic.{inl, inr}
 use lib.ListN.{length, take, drop, length-append, length-take, length-drop}
-use Rattle.telegram.specs.Telegram.{Telegram, octetsOf, Valid}
+use borrow.Author.Tests.{eqb-false}
+use Rattle.telegram.specs.Telegram.{Telegram, sd2, octetsOf, Valid}
 use Rattle.telegram.proofs.Framing.{framing}
 use Rattle.state.specs.declared.setup.Setup.{Setup}
 use Rattle.state.specs.declared.control.Control.{Control}
 use Rattle.state.specs.declared.state.Drawn.{Drawn}
 use Rattle.state.specs.declared.state.Drawn.the-variants.{Nothing, Acknowledge, Status, Rejected, Exchange, Inputs, Outputs, Configuration, Diagnosis}
 use Rattle.state.specs.Sound.{DiagnosisCounted}
+use Rattle.state.proofs.Choice.{by-test, either}
 use Rattle.rules.specs.Diagnosis.{headerOf}
+use Rattle.rules.specs.Replies.{exchangeFc, withoutInputs, repliesE5}
 use Rattle.ledger.specs.Lists.{Buffers}
 use Rattle.ledger.specs.Replies.{headerOctets, diagnosisOctets, WholeReply, silence, acknowledgement, answer, serviceTelegram, replyBy, replyOctets}
 use Rattle.ledger.specs.ReadBack.{StartTakes, ListsFit, Left, ReadsBack}
@@ -43,7 +46,11 @@ module _ (s : Setup) (slice : List ℕ) (c : Control) (b : Buffers) (master : �
   reply-valid Acknowledge = tt
   reply-valid Status = inl (omega arith, omega arith)
   reply-valid Rejected = inl (omega arith, omega arith)
-  reply-valid Exchange = (omega arith, omega arith, inl (omega arith, omega arith))
+  reply-valid Exchange =
+      either ValidReply (repliesE5 s c) tt
+      (by-test (λ (ds : List ℕ). Valid (sd2 master (s .address) (exchangeFc c) ds)) (withoutInputs s) _ _
+      (λ _. (omega arith, omega arith, inl (omega arith, omega arith)))
+      (λ e. let some = eqb-false (s .«input_len») 0 e in (omega arith, omega arith, inl (omega arith, omega arith))))
   reply-valid Inputs = service-valid s master 56 (b .inputs .sending) (omega arith)
   reply-valid Outputs = service-valid s master 57 (b .outputs .held) (omega arith)
   reply-valid Configuration = service-valid s master 59 slice (omega arith)

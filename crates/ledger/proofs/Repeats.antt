@@ -12,9 +12,9 @@ use Rattle.telegram.specs.Sending.{startOctet}
 use Rattle.state.specs.declared.chain.Chain.{Chain}
 use Rattle.state.specs.declared.setup.Setup.{Setup}
 use Rattle.state.specs.declared.state.Drawn.{Drawn}
-use Rattle.state.specs.declared.state.Drawn.the-variants.{Nothing, Acknowledge}
+use Rattle.state.specs.declared.state.Drawn.the-variants.{Nothing, Acknowledge, Status, Rejected, Exchange, Inputs, Outputs, Configuration, Diagnosis}
 use Rattle.state.specs.Chain.{chainOf, noChain, drawnIn}
-use Rattle.state.proofs.Choice.{and-left, and-right, or-left, or-right}
+use Rattle.state.proofs.Choice.{either, and-left, and-right, or-left, or-right}
 use Rattle.state.proofs.SetCodes.{drawn-in}
 use Rattle.rules.specs.declared.request.Request.{Request}
 use Rattle.rules.specs.declared.outcome.Outcome.{Outcome}
@@ -22,7 +22,7 @@ use Rattle.rules.specs.Call.{Call, gap}
 use Rattle.rules.specs.Diagnosis.{isDelayed, delayed}
 use Rattle.rules.specs.Line.{clearing}
 use Rattle.rules.specs.Phases.{drawing}
-use Rattle.rules.specs.Replies.{diagnoses}
+use Rattle.rules.specs.Replies.{repliesE5, isExchange, diagnoses}
 use Rattle.rules.specs.Requests.{masterOf, acts}
 use Rattle.rules.specs.Retries.{isRequest, fcvOf, fcbOf, isRepeat}
 use Rattle.rules.proofs.Alike.{refilled-alike}
@@ -34,7 +34,7 @@ use Rattle.ledger.specs.Bus.{requestBy, dataBy, outcomeOf, answered, com
 use Rattle.ledger.specs.Calls.{step, after}
 use Rattle.ledger.specs.Hearing.{hear, begunBy}
 use Rattle.ledger.specs.History.{clears, deedsBy}
-use Rattle.ledger.specs.Repeats.{InOctets, again, RepeatIs, SentAgain, afterCalls, DrawnAgain, afterGap, NothingNew, E5Again, SetPrmOnce, NoDeedAgain}
+use Rattle.ledger.specs.Repeats.{InOctets, again, RepeatIs, drewBy, SentAgain, afterCalls, DrawnAgain, afterGap, NothingNew, E5Again, SetPrmOnce, NoDeedAgain}
 use Rattle.ledger.proofs.Settling.{settle-line, settle-setup}
 use Rattle.ledger.proofs.Kept.{step-kept, after-kept}
 use Rattle.ledger.proofs.Hearing.{unfinished, completed-on, inner-heard, begun-heard, hears}
@@ -156,10 +156,22 @@ gap-line : (l : Ledger) → step l gap .ledger .line ≡ gapped (l .line)
 unfolding paused
 gap-line l = settle-line (withLine l (gapped (l .line)))
 
+-- whether a diagnosis was drawn is told by what is drawn again
+drew-diagnoses : (d : Drawn) (e5 : Bool) → diagnoses d ≡ diagnoses (cond (isExchange d && e5) Acknowledge d)
+drew-diagnoses Nothing e5 = refl
+drew-diagnoses Acknowledge e5 = refl
+drew-diagnoses Status e5 = refl
+drew-diagnoses Rejected e5 = refl
+drew-diagnoses Exchange e5 = either (λ (d : Drawn). false ≡ diagnoses d) e5 refl refl
+drew-diagnoses Inputs e5 = refl
+drew-diagnoses Outputs e5 = refl
+drew-diagnoses Configuration e5 = refl
+drew-diagnoses Diagnosis e5 = refl
+
 module _ (l : Ledger) (t u : Telegram) (s : SentAgain l t u) where
   -- what t drew
   abbrev first-drawn : Drawn
-  first-drawn = outcomeOf l (requestBy t) (payloadOf t) .drawn
+  first-drawn = drewBy l t
 
   -- after t the chain is the one that its repeat asks for
   goes-in : settle (completed l t) .control .chain ≡ chainOf (masterOf (requestBy u)) (fcbOf (requestBy u)) first-drawn
@@ -171,14 +183,16 @@ module _ (l : Ledger) (t u : Telegram) (s : SentAgain l t u) where
   request-waits : first-drawn ≡ Acknowledge → Waits (e5Chain u) (settle (completed l t))
   unfolding answered
   request-waits d =
-      settle-waits (completed l t) (goes-in ∙ ap (chainOf (masterOf (requestBy u)) (fcbOf (requestBy u))) d) (ap diagnoses d)
+      let o = outcomeOf l (requestBy t) (payloadOf t) in
+      settle-waits (completed l t) (goes-in ∙ ap (chainOf (masterOf (requestBy u)) (fcbOf (requestBy u))) d)
+      (drew-diagnoses (o .drawn) (repliesE5 (l .setup) (o .control)) ∙ ap diagnoses d)
 
   -- u is a request for every station with that setup
   asks-on : (p : Ledger) → p .setup ≡ l .setup → isRequest (p .setup) (requestBy u) ≡ true
   asks-on p e = ap (λ (x : Setup). isRequest x (requestBy u)) e ∙ s .second-asks
 
 -- the setup after t and the calls cs
-setup-stays : (l : Ledger) (t : Telegram) (cs : List Call) → afterCalls l t cs .setup ≡ l .setup
+pub setup-stays : (l : Ledger) (t : Telegram) (cs : List Call) → afterCalls l t cs .setup ≡ l .setup
 unfolding answered
 setup-stays l t cs = after-kept (settle (completed l t)) cs .0 ∙ settle-setup (completed l t)
 
@@ -202,7 +216,9 @@ e5-again l t u cs s d n =
 -- among them every Set_Prm that no other master's ownership refuses
 pub set-prm-once : SetPrmOnce
 set-prm-once l t u cs s v o n =
-    e5-again l t u cs s (set-prm-draws (l .setup) (l .control) (occupied l) (requestBy t) (dataBy (payloadOf t)) (s .first-new) v o) n
+    let e = set-prm-draws (l .setup) (l .control) (occupied l) (requestBy t) (dataBy (payloadOf t)) (s .first-new) v o in
+    let e5 = repliesE5 (l .setup) (outcomeOf l (requestBy t) (payloadOf t) .control) in
+    e5-again l t u cs s (λ i. cond (isExchange (e i) && e5) Acknowledge (e i)) n
 
 -- a repeat keeps the outputs, so that it has no deed of its own
 pub no-deed-again : NoDeedAgain

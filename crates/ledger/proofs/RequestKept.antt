@@ -33,11 +33,11 @@ use Rattle.ledger.specs.Repeats.{isWhole, isNew, completesNewRequest, No
 use Rattle.ledger.proofs.ByCases.{take-cases, read-cases, write-cases, diagnosis-cases, parameters-cases, configuration-cases}
 
 -- the octets since the gap are no new request with b
-abbrev NoneWith : Ledger → ℕ → Status → Type 0
+abbrev pub NoneWith : Ledger → ℕ → Status → Type 0
 NoneWith l b s = isWhole s && isNew l (telegramOn (l .line .telegram ++ b ∷ [])) ≡ false
 
 -- so it is of an octet that is heard and completes none
-heard-none : (l : Ledger) (b : ℕ) (bad : Bool) → completesNewRequest l (octet b bad) ≡ false → l .line .ignored ≡ false
+pub heard-none : (l : Ledger) (b : ℕ) (bad : Bool) → completesNewRequest l (octet b bad) ≡ false → l .line .ignored ≡ false
     → NoneWith l b (status (readerAfter (run (l .line .telegram)) b bad))
 heard-none l b bad e i =
     (λ k. not (sym i k) && isWhole (status (readerAfter (run (l .line .telegram)) b bad)) && isNew l (telegramOn (l .line .telegram ++ b ∷ []))) ∙ e

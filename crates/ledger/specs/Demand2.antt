@@ -14,6 +14,7 @@ use Rattle.ledger.specs.Octets.{SentOctets}
 use Rattle.ledger.specs.EventsFollow.{EventsOpen, PublishingRaises}
 use Rattle.ledger.specs.ModesKept.{ModesAlways}
 use Rattle.ledger.specs.Repeats.{InOctets, ChainUnseen, RepeatExactly, RepeatIs, StartHasNone, NoneRepeated, ChainKept, ChainGoesOn, DrawnAgain, E5Again, SetPrmOnce, NoDeedAgain}
+use Rattle.ledger.specs.OneWay.{OneWay}
 
 pub record Demand2 : Type 0 where
   -- of every list of octets the reader tells what the grammar says
@@ -66,6 +67,8 @@ pub record Demand2 : Type 0 where
   pub set-prm-once : SetPrmOnce
   -- and the outputs of a Data_Exchange are accepted once
   pub no-deed-again : NoDeedAgain
+  -- stations without inputs or without outputs: the empty list is published, and the reply without inputs is E5 or tells Diag_Flag
+  pub one-way : OneWay
   -- the sender of a telegram sends its octets
   pub sending : SendingPromise
   -- every reply but E5 reads back as a telegram with the same fields

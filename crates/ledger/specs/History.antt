@@ -20,7 +20,7 @@ use Rattle.rules.specs.Line.{clearOn, clearNoted, ticked}
 use Rattle.rules.specs.User.{judgedParameters, judgedConfiguration}
 use Rattle.ledger.specs.Lists.{some, Outputs}
 use Rattle.ledger.specs.Lists as lists
-use Rattle.ledger.specs.Ledger.{Ledger, withLine, busy, parametersOpen, configurationOpen, fresh}
+use Rattle.ledger.specs.Ledger.{Ledger, withLine, busy, parametersOpen, configurationOpen, occupied, fresh}
 use Rattle.ledger.specs.Bus.{telegramOn, requestBy, outcomeOf, completed, brokenOff, sendLeft, silenced}
 use Rattle.ledger.specs.Outcome.{onOutputs}
 use Rattle.rules.specs.Call.{Call, octet, gap, send, tick, take, read, write, hand-over, new-diagnosis, judge-parameters, judge-configuration, events, acknowledge, pending, leave}
@@ -154,10 +154,10 @@ holdsBack (emptied ∷ earlier) = false
 holdsBack (zeroed ∷ earlier) = holdsBack earlier
 holdsBack (outputsTaken ∷ earlier) = holdsBack earlier
 
--- after every list of calls: the mark that sync and unsync look at is set exactly if a Data_Exchange was held back and neither released
--- nor emptied since
+-- after every list of calls: what sync and unsync look at says that something is held back exactly if a Data_Exchange was held back and
+-- neither released nor emptied since, be its outputs without an octet
 abbrev pub WithheldTold : Type 0
-WithheldTold = (s : Setup) (slice : List ℕ) (cs : List Call) → after (fresh s slice) cs .buffers .outputs .withheld ≡ holdsBack (history (fresh s slice) cs)
+WithheldTold = (s : Setup) (slice : List ℕ) (cs : List Call) → occupied (after (fresh s slice) cs) .outputs ≡ holdsBack (history (fresh s slice) cs)
 
 -- what sync and unsync make of the outputs, without clear
 abbrev pub syncObeyed : Modes → ℕ → Outputs → ℕ → List ℕ → Outputs

@@ -16,4 +16,5 @@ pub mod EventsFollow
 pub mod Octets
 pub mod ModesKept
 pub mod Repeats
+pub mod OneWay
 pub mod Demand2

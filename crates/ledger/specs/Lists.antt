@@ -9,7 +9,8 @@ abbrev pub some : List ℕ → Bool
 some [] = false
 some (x ∷ xs) = true
 
--- the outputs held and next, and those held back; fresh: next is new; zeros: what was published last were zeros by the station;
+-- the outputs held and next, and those held back, each of which may be a list without an octet: that one is there is told by the marks.
+-- fresh: next is new; zeros: what was published last were zeros by the station;
 -- withheld: something is held back
 pub record Outputs : Type 0 where
   pub held : List ℕ

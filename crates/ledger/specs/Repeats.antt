@@ -23,7 +23,7 @@ use Rattle.rules.specs.Call.{Call, octet, gap, send, tick, take, read, write, h
 use Rattle.rules.specs.Control.{withChain}
 use Rattle.rules.specs.Replies.{diagnoses}
 use Rattle.rules.specs.Requests.{masterOf, acts, refilled, serviceOf}
-use Rattle.rules.specs.Retries.{isRequest, fcvOf, fcbOf, isRepeat, onChain}
+use Rattle.rules.specs.Retries.{isRequest, fcvOf, fcbOf, isRepeat, onChain, drew}
 use Rattle.rules.specs.Services.{otherOwns, outcomeBy}
 use Rattle.ledger.specs.Ledger.{Ledger, withControl, withLine, fresh}
 use Rattle.ledger.specs.Replies.{replyOf}
@@ -118,12 +118,16 @@ NoneRepeated = (g : Setup) (c : Control) (r : Request) → c .chain ≡ noChain 
 abbrev pub ChainKept : Type 0
 ChainKept = (l : Ledger) (c : Call) → completesNewRequest l c ≡ false → step l c .ledger .control .chain ≡ l .control .chain
 
+-- what a request t drew, as its repeat draws it again: E5 also where a Data_Exchange is replied to by that (Req 05)
+abbrev pub drewBy : Ledger → Telegram → Drawn
+drewBy l t = drew (l .setup) (outcomeOf l (requestBy t) (payloadOf t))
+
 -- and what becomes of it by a request: after the last octet of t (ByGrammar.antt: HeardAsFramed .whole)
 pub record ChainGoesOn (l : Ledger) (t : Telegram) : Type 0 where
   -- a new one is what the next is compared with, or ends the chain if its FC bit 4 is clear
   pub new-goes-in : isRequest (l .setup) (requestBy t) ≡ true → isRepeat (l .setup) (l .control) (requestBy t) ≡ false
       → settle (completed l t) .control .chain
-      ≡ cond (fcvOf (requestBy t)) (chainOf (masterOf (requestBy t)) (fcbOf (requestBy t)) (outcomeOf l (requestBy t) (payloadOf t) .drawn)) noChain
+      ≡ cond (fcvOf (requestBy t)) (chainOf (masterOf (requestBy t)) (fcbOf (requestBy t)) (drewBy l t)) noChain
   -- a repeat leaves it
   pub repeat-leaves : isRepeat (l .setup) (l .control) (requestBy t) ≡ true → settle (completed l t) .control .chain ≡ l .control .chain
 
@@ -158,7 +162,7 @@ NoNewBetween l t cs = NoNewRequest (settle (completed l t)) cs
 abbrev pub DrawnAgain : Type 0
 DrawnAgain =
     (l : Ledger) (t u : Telegram) (cs : List Call) → SentAgain l t u → NoNewBetween l t cs
-    → completed (afterCalls l t cs) u ≡ again (outcomeOf l (requestBy t) (payloadOf t) .drawn) (afterCalls l t cs) u
+    → completed (afterCalls l t cs) u ≡ again (drewBy l t) (afterCalls l t cs) u
 
 -- the ledger after the last octet of t, the calls cs and a gap
 abbrev pub afterGap : Ledger → Telegram → List Call → Ledger
@@ -181,7 +185,7 @@ pub record NothingNew (p : Ledger) (u : Telegram) : Type 0 where
 abbrev pub E5Again : Type 0
 E5Again =
     (l : Ledger) (t u : Telegram) (cs : List Call) → SentAgain l t u
-    → outcomeOf l (requestBy t) (payloadOf t) .drawn ≡ drawn.Acknowledge → NoNewBetween l t cs → NothingNew (afterGap l t cs) u
+    → drewBy l t ≡ drawn.Acknowledge → NoNewBetween l t cs → NothingNew (afterGap l t cs) u
 
 -- "the vat program gets the event twice" no more: a Set_Prm that no other master's ownership refuses, and its repeat
 abbrev pub SetPrmOnce : Type 0

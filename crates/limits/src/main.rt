@@ -150,7 +150,7 @@ fn least() -> State {
     state::start::initial(Setup {
         address: 0,
         ident: 0,
-        output_len: 1,
+        output_len: 0,
         input_len: 1,
         parameter_len: 7,
         configuration_len: 1,
@@ -277,15 +277,45 @@ fn room(n: u8) {
     in_front(&mem, 1528);
 }
 
+// As Start leaves it with these lengths of outputs and inputs, beside short ones and beside a long one.
+fn sides(outputs: u8, inputs: u8) {
+    side(outputs, inputs, 7);
+    side(outputs, inputs, 244);
+}
+
+fn side(outputs: u8, inputs: u8, parameters: u8) {
+    let mut mem = [0u8; 4096];
+    let s = state::start::initial(Setup {
+        address: 126,
+        ident: 0,
+        output_len: outputs,
+        input_len: inputs,
+        parameter_len: parameters,
+        configuration_len: 1,
+        diagnosis_len: 6,
+        get_cfg_len: 1,
+    });
+    save(s, &mut mem);
+    print_well(holds_state(&mem));
+}
+
 fn main() {
     through(most());
     through(least());
     codes();
     // an owner is any octet; a length and a count are not
     changed(0, 200);
-    changed(48, 0);
     changed(48, 245);
+    changed(49, 245);
     changed(56, 5);
+    // outputs or inputs may be missing, not both
+    sides(0, 0);
+    sides(0, 1);
+    sides(1, 0);
+    sides(0, 244);
+    sides(244, 0);
+    sides(0, 245);
+    sides(245, 0);
     unused();
     counts();
     // 88 ends at 1,536; 80 and 7 well before; 89 and 244 behind; 6 is no length of parameters

@@ -36,7 +36,7 @@ use Rattle.rules.specs.Control.{bit, inExchange, owns, withFlags, withEv
 use Rattle.rules.specs.Modes.{exchangeOutputs, commandsSync, commandedModes, commandedOutputs, commandedInputs, announced}
 use Rattle.rules.specs.Phases.{drawing, enteringWaitPrm, dataExch}
 use Rattle.rules.specs.Requests.{masterOf, acts, toStation, refilled, serviceOf}
-use Rattle.rules.specs.Retries.{isRepeat, onChain, chainAfter, repeated}
+use Rattle.rules.specs.Retries.{isRepeat, onChain, chainAfter, drew, repeated}
 use Rattle.rules.specs.Services.{otherOwns, otherIdent, wantsWatchdog, badFactors, goodPrm, setPrm, goodCfg, chkCfg, exchanges, dataExchange, slaveDiag, controls, storing, globalControl, serve, outcomeBy}
 use Rattle.rules.specs.Line.{clearOn, clearNoted, counts, withRemaining, ticked}
 use Rattle.rules.specs.User.{changingSets, judgedParameters, judgedConfiguration}
@@ -273,4 +273,4 @@ pub telegram-cases : (P : Outcome → Type 0) → ((o : Outcome) (h : Chain) →
     → P (repeated g c r) → P (serve (serviceOf g r) g (refilled g c r) opened r octets) → P (outcomeBy g c opened r octets)
 telegram-cases P relinks g c opened r octets x y =
     let o = serve (serviceOf g r) g (refilled g c r) opened r octets in
-    either P (isRepeat g c r) x (relinks o (chainAfter g (o .control .chain) r (o .drawn)) y)
+    either P (isRepeat g c r) x (relinks o (chainAfter g (o .control .chain) r (drew g o)) y)

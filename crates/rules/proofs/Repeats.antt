@@ -25,7 +25,7 @@ use Rattle.rules.specs.declared.request.Service.the-variants.{SetPrm}
 use Rattle.rules.specs.declared.outcome.Outcome.{Outcome}
 use Rattle.rules.specs.Control.{bit}
 use Rattle.rules.specs.Requests.{masterOf, wantsNone, acts, refilled, serviceOf}
-use Rattle.rules.specs.Retries.{asks, isRequest, fcvOf, fcbOf, same, isRepeat, chainBy, chained, repeated}
+use Rattle.rules.specs.Retries.{asks, isRequest, fcvOf, fcbOf, same, isRepeat, chainBy, drew, chained, repeated}
 use Rattle.rules.specs.Services.{otherOwns, otherIdent, wantsWatchdog, badFactors, setPrm, serve, outcomeBy}
 use Rattle.rules.proofs.Headed.{acts-master}
 use Rattle.rules.proofs.Alike.{refilled-alike}
@@ -94,12 +94,12 @@ module _ (g : Setup) (c : Control) (b : Occupied) (r : Request) (octets : Data) 
   by-repeat e = ap (λ (t : Bool). cond t (repeated g c r) (chained g r first)) e
 
   -- a new request with bit 4 set is what a later one is compared with, and one with bit 4 clear ends the chain
-  pub request-chain : isRequest g r ≡ true → isRepeat g c r ≡ false → outcomeBy g c b r octets .control .chain ≡ chainBy r (outcomeBy g c b r octets .drawn)
+  pub request-chain : isRequest g r ≡ true → isRepeat g c r ≡ false → outcomeBy g c b r octets .control .chain ≡ chainBy r (drew g (outcomeBy g c b r octets))
   request-chain a n =
       let s = by-repeat n in
       ap (λ (o : Outcome). o .control .chain) s
-      ∙ (λ i. cond (a i) (chainBy r (first .drawn)) (first .control .chain))
-      ∙ ap (λ (o : Outcome). chainBy r (o .drawn)) (sym s)
+      ∙ (λ i. cond (a i) (chainBy r (drew g first)) (first .control .chain))
+      ∙ ap (λ (o : Outcome). chainBy r (drew g o)) (sym s)
 
   -- a repeat leaves it
   pub repeat-chain : isRepeat g c r ≡ true → outcomeBy g c b r octets .control .chain ≡ c .chain

@@ -5,7 +5,7 @@ use native.Mathlib.Omega.{arith}
 use native.Mathlib.Nat.{mod-lt}
 use mathlib.Core.Path.{_≡_, refl, sym, ap, _∙_}
 use mathlib.Core.Logic.{_⊎_, inl, inr, ⊎-elim}
-use mathlib.Core.Bool.{Bool, true, false, cond}
+use mathlib.Core.Bool.{Bool, true, false, cond, _&&_}
 use Rattle.telegram.proofs.Run.{no-true}
 use Rattle.state.specs.declared.setup.Setup.{Setup}
 use Rattle.state.specs.declared.control.Modes.{Modes}
@@ -30,7 +30,8 @@ use Rattle.rules.specs.declared.outcome.Outcome.{Outcome}
 use Rattle.rules.specs.Control.{inExchange}
 use Rattle.rules.specs.Phases.{drawing, left, waitPrm, enteringWaitPrm, waitCfg, dataExch, zerosIfLeft}
 use Rattle.rules.specs.Requests.{masterOf, refilled, serviceOf}
-use Rattle.rules.specs.Retries.{isRequest, fcvOf, fcbOf, onChain, isRepeat, chainBy, chainAfter, chained, repeated}
+use Rattle.rules.specs.Replies.{repliesE5, isExchange}
+use Rattle.rules.specs.Retries.{isRequest, fcvOf, fcbOf, onChain, isRepeat, chainBy, chainAfter, drew, chained, repeated}
 use Rattle.rules.specs.Services.{parametrized, goodPrm, goodCfg, serve, outcomeBy}
 use Rattle.rules.specs.Line.{clearOn, clearNoted, ticked}
 use Rattle.rules.specs.User.{changingSets, judgedParameters, judgedConfiguration}
@@ -295,6 +296,11 @@ serve-chain g c b r octets =
     serve-cases (λ o. o .control .chain ≡ c .chain) c (λ _ _ s _. s .alike-is .chain-same) (λ _ _ _ h _. h) g r b (λ _ _ _. refl)
     (λ _ _. waitCfg-same g c (b .outputs) r .2) (λ _ _ _ _ _ s _ _ _ _. s .alike-is .chain-same) (serviceOf g r) octets (headed r g)
 
+-- the held outputs are drawn again only if they were drawn
+drew-outputs : (g : Setup) (o : Outcome) → isOutputs (drew g o) ≡ true → isOutputs (o .drawn) ≡ true
+drew-outputs g o =
+    by-test (λ (d : Drawn). isOutputs d ≡ true → isOutputs (o .drawn) ≡ true) (isExchange (o .drawn) && repliesE5 g (o .control)) _ _ (λ _ e. no-true e) (λ _ e. e)
+
 -- the chain then
 module _ {g : Setup} {c : Control} {withheld : Bool} {r : Request} {o : Outcome} (v : ServedAnew g c withheld r o) (same : o .control .chain ≡ c .chain)
     (unasked : isRequest g r ≡ false → Silent o) where
@@ -306,19 +312,19 @@ module _ {g : Setup} {c : Control} {withheld : Bool} {r : Request} {o : Outcome}
   within e = let w = v .reads-before e in (or-first (inExchange c) (isOutputs (drawnIn (c .chain))) (w .0), w .1, w .2)
 
   -- a repeat may draw the held outputs if the request drew them
-  by-request : (t : Bool) → isOutputs (drawnIn (cond t (chainOf (masterOf r) (fcbOf r) (o .drawn)) noChain)) ≡ true → Stays
-  by-request true e = within (v .draws-within (sym (ap isOutputs (drawn-in (masterOf r) (fcbOf r) (o .drawn))) ∙ e))
+  by-request : (t : Bool) → isOutputs (drawnIn (cond t (chainOf (masterOf r) (fcbOf r) (drew g o)) noChain)) ≡ true → Stays
+  by-request true e = within (v .draws-within (drew-outputs g o (sym (ap isOutputs (drawn-in (masterOf r) (fcbOf r) (drew g o))) ∙ e)))
   by-request false e = no-true (sym (ap isOutputs none-drawn) ∙ e)
 
-  by-chain : isOutputs (drawnIn (chainAfter g (o .control .chain) r (o .drawn))) ≡ true → Stays
+  by-chain : isOutputs (drawnIn (chainAfter g (o .control .chain) r (drew g o))) ≡ true → Stays
   by-chain =
-      by-test (λ (h : Chain). isOutputs (drawnIn h) ≡ true → Stays) (isRequest g r) (chainBy r (o .drawn)) (o .control .chain)
+      by-test (λ (h : Chain). isOutputs (drawnIn h) ≡ true → Stays) (isRequest g r) (chainBy r (drew g o)) (o .control .chain)
       (λ _. by-request (fcvOf r))
       (λ f e. (or-second (inExchange c) (isOutputs (drawnIn (c .chain))) (ap (λ (h : Chain). isOutputs (drawnIn h)) (sym same) ∙ e), unasked f .0, unasked f .1))
 
   -- a chain is in its ranges
-  chain-in : (t : Bool) → ChainIn (cond t (chainOf (masterOf r) (fcbOf r) (o .drawn)) noChain)
-  chain-in true = let m : masterOf r < 128 = mod-lt (r .sa) (omega arith) in (omega arith, chain-below (masterOf r) (fcbOf r) (o .drawn))
+  chain-in : (t : Bool) → ChainIn (cond t (chainOf (masterOf r) (fcbOf r) (drew g o)) noChain)
+  chain-in true = let m : masterOf r < 128 = mod-lt (r .sa) (omega arith) in (omega arith, chain-below (masterOf r) (fcbOf r) (drew g o))
   chain-in false = (omega arith, omega arith)
 
   chained-served : Served g c withheld r (chained g r o)

@@ -1,4 +1,4 @@
--- Retries (document 02, Req 04): which telegrams are requests, which of them repeat the request before, and what a repeat does. The type
+-- Retries (document 02, Req 04 and 05): which telegrams are requests, which of them repeat the request before, and what a repeat does. The type
 -- Request is any telegram's header; the word request in the comments here is the document's.
 use mathlib.Core.Bool.{Bool, cond, not, _&&_}
 use lib.Dec.{eqb}
@@ -6,11 +6,13 @@ use Rattle.state.specs.declared.setup.Setup.{Setup}
 use Rattle.state.specs.declared.chain.Chain.{Chain}
 use Rattle.state.specs.declared.control.Control.{Control}
 use Rattle.state.specs.declared.state.Drawn.{Drawn}
+use Rattle.state.specs.declared.state.Drawn.the-variants.{Acknowledge}
 use Rattle.state.specs.Chain.{chainOf, noChain, fcbIn, drawnIn}
 use Rattle.rules.specs.declared.request.Request.{Request}
 use Rattle.rules.specs.declared.outcome.Outcome.{Outcome}
 use Rattle.rules.specs.Control.{bit, withChain}
 use Rattle.rules.specs.Phases.{drawing}
+use Rattle.rules.specs.Replies.{repliesE5, isExchange}
 use Rattle.rules.specs.Requests.{masterOf, wantsNone, acts, refilled}
 
 -- it asks for something: functions 4 and 6 do not
@@ -62,9 +64,14 @@ onChain o h =
       drawn = o .drawn;
     }
 
+-- what a request drew, as its repeat draws it again: "one that drew E5, RS or nothing draws that again", and a Data_Exchange may have drawn E5
+-- (Req 05)
+abbrev pub drew : Setup → Outcome → Drawn
+drew s o = cond (isExchange (o .drawn) && repliesE5 s (o .control)) Acknowledge (o .drawn)
+
 -- with the chain after it
 abbrev pub chained : Setup → Request → Outcome → Outcome
-chained s r o = onChain o (chainAfter s (o .control .chain) r (o .drawn))
+chained s r o = onChain o (chainAfter s (o .control .chain) r (drew s o))
 
 -- "A repeat changes nothing, but the owner's refills the watchdog", and it draws what the earlier request drew: the reply of that service,
 -- formed "from the buffers and state as they then stand, without RS for phase or owner", or E5, RS or nothing

@@ -1,4 +1,4 @@
--- The services (document 01, Services; document 02, Req 01 and 04): what comes of each, on the control part. opened: a set of that kind is open.
+-- The services (document 01, Services; document 02, Req 01, 04 and 05): what comes of each, on the control part. opened: a set of that kind is open.
 use Prim.Native.Nat.{ℕ, _+_, _*_}
 use mathlib.Core.Bool.{Bool, cond, not, _&&_, _||_}
 use lib.Bits.{bitAnd}
@@ -126,7 +126,7 @@ chkCfg s c opened r =
 abbrev pub exchanges : Control → Request → Bool
 exchanges c r = owns c (masterOf r) && inExchange c
 
--- the data is published, event 13, or held back in sync; new inputs come unless frozen; the inputs are drawn
+-- the data is published, event 13, or held back in sync; new inputs come unless frozen; the reply to it is drawn
 abbrev pub goodExchange : Control → Outcome
 goodExchange c =
     record {
@@ -138,7 +138,7 @@ goodExchange c =
       drawn = drawn.Exchange;
     }
 
--- in this order
+-- in this order; without outputs the right count is none
 unfoldable pub dataExchange : Setup → Control → Request → Outcome
 dataExchange s c r =
     cond (not (exchanges c r)) (drawing c drawn.Rejected)

@@ -1,6 +1,8 @@
 // Retries: which telegrams are requests, which of them repeat the request before, and what a repeat does.
 use crate::outcome::Outcome;
 use crate::phases::drawing;
+use crate::replies::is_exchange;
+use crate::replies::replies_e5;
 use crate::request::Request;
 use crate::requests::acts;
 use crate::requests::master_of;
@@ -10,7 +12,7 @@ use state::control::Control;
 use state::setup::Setup;
 use state::state::Drawn;
 ghost use mathlib.Core.Path.{_≡_};
-ghost use Rattle.rules.specs.Retries.{asks, same, repeats, chainBy, chained, repeated};
+ghost use Rattle.rules.specs.Retries.{asks, same, repeats, chainBy, drew, chained, repeated};
 
 // It asks for something: functions 4 and 6 do not.
 pub fn asks(r: Request) -> bool
@@ -51,13 +53,23 @@ pub fn chain_by(r: Request, drawn: Drawn) -> Chain
     Chain::none()
 }
 
+// What a request drew, as its repeat draws it again: E5 where a Data_Exchange is replied to by that.
+fn drew(setup: Setup, o: Outcome) -> Drawn
+    ensures { λ d. ⌜ d ≡ drew setup o ⌝ }
+{
+    let drawn = o.drawn;
+    if is_exchange(drawn) & replies_e5(setup, o.control) {
+        return Drawn::Acknowledge;
+    }
+    drawn
+}
+
 // An outcome with the chain after it: what is no request leaves the chain as it is.
 pub fn chained(setup: Setup, r: Request, mut o: Outcome) -> Outcome
     ensures { λ x. ⌜ x ≡ chained setup r o ⌝ }
 {
     if acts(setup, r) & asks(r) {
-        let drawn = o.drawn;
-        let chain = chain_by(r, drawn);
+        let chain = chain_by(r, drew(setup, o));
         let mut control = o.control;
         control.chain = chain;
         o.control = control;

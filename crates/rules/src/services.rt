@@ -223,7 +223,7 @@ pub fn exchanges(control: Control, r: Request) -> bool
     (control.owner == master) & exchanging
 }
 
-// The data is published, event 13, or held back in sync; new inputs come unless frozen; the inputs are drawn.
+// The data is published, event 13, or held back in sync; new inputs come unless frozen; the reply to it is drawn.
 fn good_exchange(mut control: Control) -> Outcome
     ensures { λ o. ⌜ o ≡ goodExchange control ⌝ }
 {

@@ -5,25 +5,26 @@ use mathlib.Core.Path.{_≡_, refl}
 use mathlib.Core.Bool.{Bool, true, false, not, cond}
 use mathlib.Core.List.{[], _∷_}
 use lib.Dec.{ltb}
-use borrow.Author.Tests.{ltb-false, le-ltb}
+use borrow.Author.Tests.{leb-true, le-leb, ltb-false, le-ltb}
 use Rattle.state.specs.declared.answer.Refusal.the-variants.{Address, Length}
 use Rattle.state.specs.declared.setup.Setup.{Setup}
 use Rattle.state.specs.declared.start.Asked.the-variants.{Accepted, Declined}
 use Rattle.state.specs.Sound.{Ranged}
 use Rattle.state.specs.Start.{lengthsOk, asked}
 use Rattle.state.specs.Well.{all, lengthTests}
-use Rattle.state.proofs.Tests.{all-at, within-true, within-holds}
+use Rattle.state.proofs.Tests.{all-at, within-true, within-holds, not-both-true, not-both-holds}
 
 pub tests-ranged : (s : Setup) → s .address ≤ 126 → all (lengthTests s) ≡ true → Ranged s
 tests-ranged s a e =
     record {
       address = a;
-      output-len = within-true 1 (s .«output_len») 244 (all-at (lengthTests s) 0 e);
-      input-len = within-true 1 (s .«input_len») 244 (all-at (lengthTests s) 1 e);
-      parameter-len = within-true 7 (s .«parameter_len») 244 (all-at (lengthTests s) 2 e);
-      configuration-len = within-true 1 (s .«configuration_len») 244 (all-at (lengthTests s) 3 e);
-      diagnosis-len = within-true 6 (s .«diagnosis_len») 244 (all-at (lengthTests s) 4 e);
-      get-cfg-len = within-true 1 (s .«get_cfg_len») 244 (all-at (lengthTests s) 5 e);
+      output-len = leb-true (s .«output_len») 244 (all-at (lengthTests s) 1 e);
+      input-len = leb-true (s .«input_len») 244 (all-at (lengthTests s) 2 e);
+      not-both-none = not-both-true (s .«output_len») (s .«input_len») (all-at (lengthTests s) 0 e);
+      parameter-len = within-true 7 (s .«parameter_len») 244 (all-at (lengthTests s) 3 e);
+      configuration-len = within-true 1 (s .«configuration_len») 244 (all-at (lengthTests s) 4 e);
+      diagnosis-len = within-true 6 (s .«diagnosis_len») 244 (all-at (lengthTests s) 5 e);
+      get-cfg-len = within-true 1 (s .«get_cfg_len») 244 (all-at (lengthTests s) 6 e);
     }
 
 pub lengths-ranged : (s : Setup) → s .address ≤ 126 → lengthsOk s ≡ true → Ranged s
@@ -35,8 +36,9 @@ pub lengths-hold : (s : Setup) → Ranged s → all (lengthTests s) ≡ true
 lengths-hold s r =
     λ i.
     all
-    (within-holds 1 (s .«output_len») 244 (r .output-len) i
-    ∷ within-holds 1 (s .«input_len») 244 (r .input-len) i
+    (not-both-holds (s .«output_len») (s .«input_len») (r .not-both-none) i
+    ∷ le-leb (s .«output_len») 244 (r .output-len) i
+    ∷ le-leb (s .«input_len») 244 (r .input-len) i
     ∷ within-holds 7 (s .«parameter_len») 244 (r .parameter-len) i
     ∷ within-holds 1 (s .«configuration_len») 244 (r .configuration-len) i
     ∷ within-holds 6 (s .«diagnosis_len») 244 (r .diagnosis-len) i

@@ -10,6 +10,7 @@ use lib.Seq.{drop-cons}
 use borrow.Author.Tests.{leb-true}
 use Rattle.octets.specs.Part.{part}
 use Rattle.ranges.specs.Octets.{atMost}
+use Rattle.state.specs.Short.{betweenTests}
 use Rattle.state.specs.Well.{all, within, noneOr, setCounts, limitTests, setTests}
 use Rattle.state.proofs.Tests.{from-and, all-at}
 
@@ -29,12 +30,6 @@ limits-all m i (limit ∷ limits) h =
     ∙ ap (λ (t : Bool). leb (getD m i 0) limit && t) (limits-all m (suc i) limits (omega arith))
     ∙ sym (from-and (leb (getD m i 0) limit) (limitTests m (suc i) limits))
 
--- the octets from i on, each from its least to its most
-abbrev pub rangeTests : List ℕ → ℕ → List ℕ → List ℕ → List Bool
-rangeTests m i [] mosts = []
-rangeTests m i (least ∷ leasts) [] = []
-rangeTests m i (least ∷ leasts) (most ∷ mosts) = within least (getD m i 0) most ∷ rangeTests m (suc i) leasts mosts
-
 -- one octet's two limits and the others'
 beside : (a b c d : Bool) → ((a && b) && (c && d)) ≡ ((c && a) && (b && d))
 beside true b true d = refl
@@ -45,7 +40,7 @@ beside false b false d = refl
 
 -- the same with least octets too
 pub ranges-all : (m : List ℕ) (i : ℕ) (leasts mosts : List ℕ) → length leasts ≡ length mosts → i + length leasts ≤ length m
-    → (atMost (part m i (length leasts)) mosts && atMost leasts (part m i (length leasts))) ≡ all (rangeTests m i leasts mosts)
+    → (atMost (part m i (length leasts)) mosts && atMost leasts (part m i (length leasts))) ≡ all (betweenTests m i leasts mosts)
 unfolding atMost
 ranges-all m i [] mosts e h = refl
 ranges-all m i (least ∷ leasts) [] e h = absurd (let z : suc (length leasts) ≡ 0 = e in omega arith)
@@ -56,7 +51,7 @@ ranges-all m i (least ∷ leasts) (most ∷ mosts) e h =
     ap (λ (l : List ℕ). atMost l (most ∷ mosts) && atMost (least ∷ leasts) l) (part-first m i (length leasts) (omega arith))
     ∙ beside (leb x most) (atMost rest mosts) (leb least x) (atMost leasts rest)
     ∙ ap (λ (t : Bool). within least x most && t) (ranges-all m (suc i) leasts mosts (omega arith) (omega arith))
-    ∙ sym (from-and (within least x most) (rangeTests m (suc i) leasts mosts))
+    ∙ sym (from-and (within least x most) (betweenTests m (suc i) leasts mosts))
 
 -- ---- no set open and no diagnosis delayed
 

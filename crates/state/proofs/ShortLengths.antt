@@ -1,48 +1,35 @@
--- Short lengths: the test of their word, and that they are lengths; and where the buffers of short and of any lengths end at most.
-use Prim.Native.Nat.{ℕ, _≤_}
+-- Short lengths: the tests of their words, and that they are lengths; and where the buffers of short and of any lengths end at most.
+use Prim.Native.Nat.{ℕ, _+_, _≤_}
 use native.Mathlib.Omega.{arith}
-use mathlib.Core.Path.{_≡_, refl, sym, ap, _∙_}
+use mathlib.Core.Path.{_≡_, refl, sym, _∙_}
 use mathlib.Core.Bool.{Bool, true, _&&_}
-use mathlib.Core.List.{List, [], _∷_, _++_}
-use lib.Dec.{leb}
-use lib.ListN.{length, getD, take, drop, replicate}
-use borrow.Author.Tests.{le-leb}
+use mathlib.Core.List.{List, [], _∷_}
+use lib.Dec.{leb, eqb}
+use lib.ListN.{length, getD}
+use borrow.Author.Tests.{leb-true, le-leb, eqb-true}
 use Rattle.octets.specs.Part.{part}
 use Rattle.ranges.specs.Octets.{atMost}
 use Rattle.state.specs.declared.setup.Setup.{Setup}
 use Rattle.state.specs.Layout.{roundedUp, rowBase, endOf, allLengths}
-use Rattle.state.specs.Short.{shortLength, shortEnd, lastEnd, shortTests}
+use Rattle.state.specs.Short.{shortLength, shortEnd, lastEnd, shortLeasts, shortMosts, shortTests, inputLeasts, inputMosts, shortInputTests, shortInputs}
+use Rattle.state.specs.Sound.{Within}
 use Rattle.state.specs.Unpack.{unpacked}
 use Rattle.state.specs.Well.{all, within, lengthsTests}
-use Rattle.state.proofs.ByWords.{rangeTests, ranges-all}
-use Rattle.state.proofs.Tests.{all-at, all-swap, within-true, within-holds}
+use Rattle.state.proofs.ByWords.{ranges-all}
+use Rattle.state.proofs.Choice.{and-left, and-right}
+use Rattle.state.proofs.Tests.{all-at, within-true, within-holds, not-both-holds}
 
--- ---- the word of the lengths
+-- ---- the words
 
--- the least of each octet, and the most
-abbrev leasts : List ℕ
-leasts = 1 ∷ 1 ∷ 7 ∷ 1 ∷ 6 ∷ 1 ∷ 0 ∷ 0 ∷ []
+-- the test of the word is those of its octets
+pub short-word : (m : List ℕ) → 56 ≤ length m → (atMost (part m 48 8) shortMosts && atMost shortLeasts (part m 48 8)) ≡ all (shortTests m)
+short-word m h = ranges-all m 48 shortLeasts shortMosts refl h
 
-abbrev mosts : List ℕ
-mosts = replicate 6 shortLength ++ 17 ∷ 127 ∷ []
+-- and where there are no outputs
+pub short-input-word : (m : List ℕ) → 57 ≤ length m → (atMost (part m 49 8) inputMosts && atMost inputLeasts (part m 49 8)) ≡ all (shortInputTests m)
+short-input-word m h = ranges-all m 49 inputLeasts inputMosts refl h
 
--- an octet that is 0 at least
-only-most : (x most : ℕ) → within 0 x most ≡ leb x most
-only-most x most = ap (λ (t : Bool). t && leb x most) (le-leb 0 x (omega arith))
-
--- the test of the word is those of its octets, the two of the chain first
-pub short-word : (m : List ℕ) → 56 ≤ length m → (atMost (part m 48 8) mosts && atMost leasts (part m 48 8)) ≡ all (shortTests m)
-short-word m h =
-    let tests = rangeTests m 48 leasts mosts in
-    ranges-all m 48 leasts mosts refl h
-    ∙ all-swap (take 6 tests) (drop 6 tests)
-    ∙ (λ i. all (only-most (getD m 54 0) 17 i ∷ only-most (getD m 55 0) 127 i ∷ take 6 tests))
-
--- ---- what the test says
-
--- a short length is a length
-longer : (lo x : ℕ) → within lo x shortLength ≡ true → within lo x 244 ≡ true
-longer lo x e = let w = within-true lo x shortLength e in within-holds lo x 244 (w .0, omega arith)
+-- ---- where buffers end
 
 -- a longer length is not rounded up to less
 rounded-order : (x y : ℕ) → x ≤ y → roundedUp x ≤ roundedUp y
@@ -62,10 +49,6 @@ ends-by s n h₀ h₁ h₂ h₃ h₄ h₅ =
     let u₅ = rounded-order (s .«get_cfg_len») n h₅ in
     omega arith
 
--- what a length is at most, by its test
-most : (lo x hi : ℕ) → within lo x hi ≡ true → x ≤ hi
-most lo x hi e = within-true lo x hi e .1
-
 -- both tests of a memory that goes as far as the buffers may
 room-for : (m : List ℕ) (end : ℕ) → all (lengthsTests m) ≡ true → endOf (unpacked m .setup) ≤ end → end ≤ length m
     → true ≡ (all (lengthsTests m) && leb (endOf (unpacked m .setup)) (length m))
@@ -73,55 +56,94 @@ room-for m end h ends long =
     let room = le-leb (endOf (unpacked m .setup)) (length m) (omega arith) in
     sym (λ i. h i && room i)
 
-module _ (m : List ℕ) (h : all (shortTests m) ≡ true) where
-  -- one of the tests
-  test : (k : ℕ) → getD (shortTests m) k true ≡ true
-  test k = all-at (shortTests m) k h
+-- ---- short lengths
 
-  -- short lengths pass the test of lengths
+-- octet i is lo to the longest short length
+abbrev ShortAt : List ℕ → ℕ → ℕ → Type 0
+ShortAt m lo i = Within lo (getD m i 0) shortLength
+
+-- such lengths, not both of outputs and inputs 0, beside a chain
+module _ (m : List ℕ) (outs : ShortAt m 0 48) (ins : ShortAt m 0 49) (some : 1 ≤ getD m 48 0 + getD m 49 0) (prm : ShortAt m 7 50) (cfg : ShortAt m 1 51)
+    (diag : ShortAt m 6 52) (get : ShortAt m 1 53) (code : getD m 54 0 ≤ 17) (master : getD m 55 0 ≤ 127) where
+  -- a short length is a length
+  longer : (lo i : ℕ) → ShortAt m lo i → within lo (getD m i 0) 244 ≡ true
+  longer lo i w = let n = w .1 in within-holds lo (getD m i 0) 244 (w .0, omega arith)
+
+  -- they pass the test of lengths
   short-lengths : all (lengthsTests m) ≡ true
   short-lengths =
+      let n₀ = outs .1 in
+      let n₁ = ins .1 in
       λ i.
       all
-      (test 0 i
-      ∷ test 1 i
-      ∷ longer 1 (getD m 48 0) (test 2) i
-      ∷ longer 1 (getD m 49 0) (test 3) i
-      ∷ longer 7 (getD m 50 0) (test 4) i
-      ∷ longer 1 (getD m 51 0) (test 5) i
-      ∷ longer 6 (getD m 52 0) (test 6) i
-      ∷ longer 1 (getD m 53 0) (test 7) i
+      (le-leb (getD m 54 0) 17 code i
+      ∷ le-leb (getD m 55 0) 127 master i
+      ∷ not-both-holds (getD m 48 0) (getD m 49 0) some i
+      ∷ le-leb (getD m 48 0) 244 (omega arith) i
+      ∷ le-leb (getD m 49 0) 244 (omega arith) i
+      ∷ longer 7 50 prm i
+      ∷ longer 1 51 cfg i
+      ∷ longer 6 52 diag i
+      ∷ longer 1 53 get i
       ∷ [])
 
   -- and their buffers end where all-88 says or before
   short-end : endOf (unpacked m .setup) ≤ shortEnd
   unfolding unpacked rowBase roundedUp
-  short-end =
-      ends-by (unpacked m .setup) shortLength (most 1 (getD m 48 0) shortLength (test 2)) (most 1 (getD m 49 0) shortLength (test 3))
-      (most 7 (getD m 50 0) shortLength (test 4))
-      (most 1 (getD m 51 0) shortLength (test 5))
-      (most 6 (getD m 52 0) shortLength (test 6))
-      (most 1 (getD m 53 0) shortLength (test 7))
+  short-end = ends-by (unpacked m .setup) shortLength (outs .1) (ins .1) (prm .1) (cfg .1) (diag .1) (get .1)
 
   -- so there is room for them in a memory that goes as far
-  pub short-room : shortEnd ≤ length m → true ≡ (all (lengthsTests m) && leb (endOf (unpacked m .setup)) (length m))
-  short-room long = room-for m shortEnd short-lengths short-end long
+  short-fit : shortEnd ≤ length m → true ≡ (all (lengthsTests m) && leb (endOf (unpacked m .setup)) (length m))
+  short-fit long = room-for m shortEnd short-lengths short-end long
 
--- any lengths
+-- one octet of a word whose test passes, by the test's number
+octet-in : (m : List ℕ) (tests : List Bool) (k lo i hi : ℕ) → all tests ≡ true → getD tests k true ≡ within lo (getD m i 0) hi → Within lo (getD m i 0) hi
+octet-in m tests k lo i hi h e = within-true lo (getD m i 0) hi (sym e ∙ all-at tests k h)
+
+-- by the test of a station with outputs
+pub short-room : (m : List ℕ) → all (shortTests m) ≡ true → shortEnd ≤ length m
+    → true ≡ (all (lengthsTests m) && leb (endOf (unpacked m .setup)) (length m))
+short-room m h long =
+    let t = shortTests m in
+    let outs = octet-in m t 0 1 48 shortLength h refl in
+    let least = outs .0 in
+    short-fit m (omega arith, outs .1) (octet-in m t 1 0 49 shortLength h refl) (omega arith) (octet-in m t 2 7 50 shortLength h refl)
+    (octet-in m t 3 1 51 shortLength h refl) (octet-in m t 4 6 52 shortLength h refl) (octet-in m t 5 1 53 shortLength h refl)
+    (octet-in m t 6 0 54 17 h refl .1) (octet-in m t 7 0 55 127 h refl .1) long
+
+-- and of one without
+pub short-input-room : (m : List ℕ) → shortInputs m ≡ true → shortEnd ≤ length m
+    → true ≡ (all (lengthsTests m) && leb (endOf (unpacked m .setup)) (length m))
+short-input-room m h long =
+    let t = shortInputTests m in
+    let none : getD m 48 0 ≡ 0 = eqb-true (getD m 48 0) 0 (and-left (eqb (getD m 48 0) 0) (all t) h) in
+    let p = and-right (eqb (getD m 48 0) 0) (all t) h in
+    let ins = octet-in m t 0 1 49 shortLength p refl in
+    let least = ins .0 in
+    short-fit m (omega arith, omega arith) (omega arith, ins .1) (omega arith) (octet-in m t 1 7 50 shortLength p refl)
+    (octet-in m t 2 1 51 shortLength p refl) (octet-in m t 3 6 52 shortLength p refl) (octet-in m t 4 1 53 shortLength p refl)
+    (octet-in m t 5 0 54 17 p refl .1) (octet-in m t 6 0 55 127 p refl .1) long
+
+-- ---- any lengths
+
 module _ (m : List ℕ) (h : all (lengthsTests m) ≡ true) where
   -- one of the tests
   length-test : (k : ℕ) → getD (lengthsTests m) k true ≡ true
   length-test k = all-at (lengthsTests m) k h
 
+  -- what a length is at most, by its test
+  most : (lo x : ℕ) → within lo x 244 ≡ true → x ≤ 244
+  most lo x e = within-true lo x 244 e .1
+
   -- their buffers end where all-244 says or before
   last-end : endOf (unpacked m .setup) ≤ lastEnd
   unfolding unpacked rowBase roundedUp
   last-end =
-      ends-by (unpacked m .setup) 244 (most 1 (getD m 48 0) 244 (length-test 2)) (most 1 (getD m 49 0) 244 (length-test 3))
-      (most 7 (getD m 50 0) 244 (length-test 4))
-      (most 1 (getD m 51 0) 244 (length-test 5))
-      (most 6 (getD m 52 0) 244 (length-test 6))
-      (most 1 (getD m 53 0) 244 (length-test 7))
+      ends-by (unpacked m .setup) 244 (leb-true (getD m 48 0) 244 (length-test 3)) (leb-true (getD m 49 0) 244 (length-test 4))
+      (most 7 (getD m 50 0) (length-test 5))
+      (most 1 (getD m 51 0) (length-test 6))
+      (most 6 (getD m 52 0) (length-test 7))
+      (most 1 (getD m 53 0) (length-test 8))
 
   -- so there is room for them too in a memory that goes as far
   pub last-room : lastEnd ≤ length m → true ≡ (all (lengthsTests m) && leb (endOf (unpacked m .setup)) (length m))

@@ -1,5 +1,5 @@
 -- Tests joined by `&`, and the facts that they stand for.
-use Prim.Native.Nat.{ℕ, zero, suc}
+use Prim.Native.Nat.{ℕ, zero, suc, _+_, _≤_}
 use native.Mathlib.Omega.{arith}
 use mathlib.Core.Path.{_≡_, refl, sym, ap, _∙_}
 use mathlib.Core.Logic.{inl, inr, ⊎-elim}
@@ -79,6 +79,15 @@ all-append (a ∷ l) r =
 pub all-swap : (l r : List Bool) → all (l ++ r) ≡ all (r ++ l)
 all-swap l r = all-append l r ∙ and-comm (all l) (all r) ∙ sym (all-append r l)
 
+-- one test of the second list taken ahead of both
+pub test-first : (a : Bool) (l r : List Bool) → (a && all (l ++ r)) ≡ all (l ++ a ∷ r)
+test-first a l r =
+    ap (λ (t : Bool). a && t) (all-append l r)
+    ∙ sym (and-assoc a (all l) (all r))
+    ∙ ap (λ (t : Bool). t && all r) (and-comm a (all l))
+    ∙ and-assoc (all l) a (all r)
+    ∙ sym (all-append l (a ∷ r) ∙ ap (λ (t : Bool). all l && t) (from-and a r))
+
 -- the range of a test that holds
 pub within-true : (lo x hi : ℕ) → within lo x hi ≡ true → Within lo x hi
 within-true lo x hi h =
@@ -110,6 +119,18 @@ none-or-some (inr w) n = w
 -- a range tested beside something else
 pub within-and : (lo x hi : ℕ) (p : Bool) → within lo x hi && p ≡ true → Within lo x hi
 within-and lo x hi p e = within-true lo x hi (and-left (within lo x hi) p e)
+
+-- what the test says that not both of two lengths are 0
+pub not-both-true : (a b : ℕ) → not (eqb a 0 && eqb b 0) ≡ true → 1 ≤ a + b
+not-both-true zero zero h = absurd (false≢true h)
+not-both-true zero (suc b) h = omega arith
+not-both-true (suc a) b h = omega arith
+
+-- and back
+pub not-both-holds : (a b : ℕ) → 1 ≤ a + b → not (eqb a 0 && eqb b 0) ≡ true
+not-both-holds zero zero h = absurd (omega arith)
+not-both-holds zero (suc b) h = ap (λ (t : Bool). not t) (ne-eqb (suc b) 0 (λ z. omega arith))
+not-both-holds (suc a) b h = ap (λ (t : Bool). not (t && eqb b 0)) (ne-eqb (suc a) 0 (λ z. omega arith))
 
 -- what the test of a set's counts says
 module _ (lo hi : ℕ) (x : Sets) where

@@ -1,5 +1,5 @@
 -- A setup that Start takes, and a state whose roles, lengths and counts keep the rules.
-use Prim.Native.Nat.{ℕ, _≤_}
+use Prim.Native.Nat.{ℕ, _+_, _≤_}
 use mathlib.Core.Path.{_≡_}
 use mathlib.Core.Logic.{_⊎_}
 use mathlib.Core.Bool.{not}
@@ -23,10 +23,12 @@ NoneOr lo x hi = (x ≡ 0) ⊎ Within lo x hi
 pub record Ranged (s : Setup) : Type 0 where
   -- the station address is 0 to 126
   pub address : s .address ≤ 126
-  -- outputs are 1 to 244 octets
-  pub output-len : Within 1 (s .«output_len») 244
-  -- inputs are 1 to 244 octets
-  pub input-len : Within 1 (s .«input_len») 244
+  -- outputs are at most 244 octets
+  pub output-len : s .«output_len» ≤ 244
+  -- inputs are at most 244 octets
+  pub input-len : s .«input_len» ≤ 244
+  -- and not both are 0
+  pub not-both-none : 1 ≤ s .«output_len» + s .«input_len»
   -- parameters are 7 to 244 octets
   pub parameter-len : Within 7 (s .«parameter_len») 244
   -- configuration is 1 to 244 octets

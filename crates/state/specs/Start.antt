@@ -39,11 +39,11 @@ given address ident outputs inputs parameters configuration diagnosis n =
       «get_cfg_len» = n;
     }
 
--- all lengths are in their ranges
+-- all lengths are in their ranges, and not both of outputs and inputs 0
 unfoldable pub lengthsOk : Setup → Bool
 lengthsOk s = all (lengthTests s)
 
--- "2 address; 3 a length or slice outside its range"
+-- "2 address; 3 a length or slice outside its range", and "both zero is 3 too" (document 02, Req 05)
 unfoldable pub asked : Setup → Asked
 asked s =
     cond (ltb 126 (s .address)) (Declined Address)

@@ -1,6 +1,6 @@
 -- Which octets are the image of a sound state: tests of the octets alone.
 use Prim.Native.Nat.{ℕ, suc}
-use mathlib.Core.Bool.{Bool, true, cond, _&&_, _||_}
+use mathlib.Core.Bool.{Bool, true, cond, not, _&&_, _||_}
 use mathlib.Core.List.{List, [], _∷_, _++_}
 use lib.Dec.{leb, eqb}
 use lib.ListN.{getD}
@@ -35,16 +35,25 @@ setCounts lo shown waiting hi = cond (eqb shown 0) (eqb waiting 0) (within lo sh
 abbrev pub partDone : ℕ → ℕ → ℕ → ℕ → Bool
 partDone first phase count done = eqb done 0 || (leb first phase && leb done count)
 
--- "lengths for outputs and inputs (1 to 244), parameters (7 to 244), configuration (1 to 244), diagnosis (6 to 244), and a slice of 1 to 244 octets"
-abbrev pub lengthTests : Setup → List Bool
-lengthTests s =
-    within 1 (s .«output_len») 244
-    ∷ within 1 (s .«input_len») 244
+-- neither outputs nor inputs
+abbrev pub exchangesNothing : Setup → Bool
+exchangesNothing s = eqb (s .«output_len») 0 && eqb (s .«input_len») 0
+
+-- each length by itself: outputs and inputs at most 244, "parameters (7 to 244), configuration (1 to 244), diagnosis (6 to 244), and a slice of
+-- 1 to 244 octets"
+abbrev pub rangeTests : Setup → List Bool
+rangeTests s =
+    leb (s .«output_len») 244
+    ∷ leb (s .«input_len») 244
     ∷ within 7 (s .«parameter_len») 244
     ∷ within 1 (s .«configuration_len») 244
     ∷ within 6 (s .«diagnosis_len») 244
     ∷ within 1 (s .«get_cfg_len») 244
     ∷ []
+
+-- "Output and input lengths may be 0, not both" (document 02, Req 05)
+abbrev pub lengthTests : Setup → List Bool
+lengthTests s = not (exchangesNothing s) ∷ rangeTests s
 
 -- the chain, octets 54 and 55: what its request drew with the frame count bit, and the master
 abbrev pub chainTests : List ℕ → List Bool

@@ -21,6 +21,12 @@ fn has_room(mem: &[u8]) -> bool
     if well::short_lengths(mem) & (layout::SHORT_END <= mem.len()) {
         return true;
     }
+    if well::short_inputs(mem) & (layout::SHORT_END <= mem.len()) {
+        return true;
+    }
+    if well::exchanges_nothing(mem) {
+        return false;
+    }
     if !well::well_lengths(mem) {
         return false;
     }

@@ -34,7 +34,7 @@ pub enum Asked {
     Declined(Refusal),
 }
 
-// The ranges of the lengths and of the slice's.
+// The ranges of the lengths and of the slice's, and that not both of outputs and inputs are 0.
 fn lengths_ok(
     outputs: u32,
     inputs: u32,
@@ -45,8 +45,9 @@ fn lengths_ok(
 ) -> bool
     ensures { λ r. ⌜ r ≡ lengthsOk (given 0 0 outputs inputs parameters configuration diagnosis «get_cfg») ⌝ }
 {
-    ((1 <= outputs) & (outputs <= 244))
-        & ((1 <= inputs) & (inputs <= 244))
+    !((outputs == 0) & (inputs == 0))
+        & (outputs <= 244)
+        & (inputs <= 244)
         & ((7 <= parameters) & (parameters <= 244))
         & ((1 <= configuration) & (configuration <= 244))
         & ((6 <= diagnosis) & (diagnosis <= 244))

@@ -4,11 +4,13 @@
 use crate::layout;
 use ranges::checks;
 ghost use mathlib.Core.Path.{_≡_};
+ghost use mathlib.Core.List.{_++_};
 ghost use Prim.Native.Nat.{_≤_};
 ghost use lib.ListN.{length};
 ghost use Rattle.state.specs.Layout.{stateLength};
-ghost use Rattle.state.specs.Short.{shortTests};
-ghost use Rattle.state.specs.Well.{all, within, noneOr, setCounts, partDone, lengthsTests, setTests, countTests, lineTests, codeTests, unusedTests};
+ghost use Rattle.state.specs.Short.{shortTests, shortInputs};
+ghost use Rattle.state.specs.Unpack.{setupIn};
+ghost use Rattle.state.specs.Well.{all, within, noneOr, setCounts, partDone, exchangesNothing, rangeTests, chainTests, setTests, countTests, lineTests, codeTests, unusedTests};
 
 // lo to hi.
 fn within(lo: u8, x: u8, hi: u8) -> bool
@@ -114,26 +116,49 @@ pub fn well_unused(mem: &[u8]) -> bool
     checks::nothing_in(mem, layout::USED_LENGTH)
 }
 
-// The lengths, where all of them are short, and the chain, which shares their word.
+// The lengths of a station with outputs, where all of them are short, and the chain, which shares their word.
 pub fn short_lengths(mem: &[u8]) -> bool
     requires { ⌜ stateLength ≤ length (now mem) ⌝ }
     ensures { λ r. ⌜ r ≡ all (shortTests (now (mem .entry))) ⌝ }
 {
-    checks::word_between(mem, 48, 0x0000_0106_0107_0101, 0x7f11_5858_5858_5858)
+    checks::word_between(mem, 48, 0x0000_0106_0107_0001, 0x7f11_5858_5858_5858)
+}
+
+// The same of a station without outputs. Its word begins behind their length: of a word that is tested twice the compiler would keep a
+// copy, in the usual case too.
+pub fn short_inputs(mem: &[u8]) -> bool
+    requires { ⌜ stateLength ≤ length (now mem) ⌝ }
+    ensures { λ r. ⌜ r ≡ shortInputs (now (mem .entry)) ⌝ }
+{
+    if mem[48] != 0 {
+        return false;
+    }
+    checks::word_between(mem, 49, 0x0000_0001_0601_0701, 0x7f7f_1158_5858_5858)
+}
+
+// Neither outputs nor inputs.
+pub fn exchanges_nothing(mem: &[u8]) -> bool
+    requires { ⌜ stateLength ≤ length (now mem) ⌝ }
+    ensures { λ r. ⌜ r ≡ exchangesNothing (setupIn (now (mem .entry)) 0) ⌝ }
+{
+    if mem[48] != 0 {
+        return false;
+    }
+    mem[49] == 0
 }
 
 // The chain and the lengths, one by one.
 pub fn well_lengths(mem: &[u8]) -> bool
     requires { ⌜ stateLength ≤ length (now mem) ⌝ }
-    ensures { λ r. ⌜ r ≡ all (lengthsTests (now (mem .entry))) ⌝ }
+    ensures { λ r. ⌜ r ≡ all (chainTests (now (mem .entry)) ++ rangeTests (setupIn (now (mem .entry)) 0)) ⌝ }
 {
     if !((mem[54] <= 17) & (mem[55] <= 127)) {
         return false;
     }
-    if !within(1, mem[48], 244) {
+    if !(mem[48] <= 244) {
         return false;
     }
-    if !within(1, mem[49], 244) {
+    if !(mem[49] <= 244) {
         return false;
     }
     if !within(7, mem[50], 244) {

@@ -7,9 +7,6 @@ use lib.Dec.{eqb}
 use Rattle.buffers.specs.declared.events.Events.{Events}
 use Rattle.buffers.specs.declared.triple.Triple.{Triple}
 use Rattle.buffers.specs.Roles.{heldOf}
-use Rattle.telegram.specs.declared.Kind.the-variants.{Sd2}
-use Rattle.telegram.specs.declared.sender.Sender.{Sender}
-use Rattle.telegram.specs.Sending.{sending}
 use Rattle.telegram.proofs.Run.{no-true}
 use Rattle.state.specs.declared.setup.Setup.{Setup}
 use Rattle.state.specs.declared.chain.Chain.{Chain}
@@ -39,19 +36,19 @@ use Rattle.rules.specs.Control as part
 use Rattle.rules.specs.Diagnosis.{headerOf}
 use Rattle.rules.specs.Modes.{exchangeOutputs, exchangeInputs, announced}
 use Rattle.rules.specs.Phases.{drawing}
-use Rattle.rules.specs.Replies.{exchangeFc}
+use Rattle.rules.specs.Replies.{repliesE5, isExchange}
 use Rattle.rules.specs.Requests.{masterOf, acts, toStation, refilled, functionService, serviceOf}
-use Rattle.rules.specs.Retries.{asks, isRequest, chainBy, chainAfter, onChain, chained, repeated}
+use Rattle.rules.specs.Retries.{asks, isRequest, chainBy, chainAfter, onChain, drew, chained, repeated}
 use Rattle.rules.specs.Services.{exchanges, goodExchange, slaveDiag, serve}
 use Rattle.rules.proofs.Alike.{refilled-alike}
-use Rattle.rules.proofs.GoodExchange.{refilled-exchanges, exchange-good}
+use Rattle.rules.proofs.GoodExchange.{refilled-exchanges, exchange-good, others-drawn}
 use Rattle.rules.proofs.Served.{serve-chain}
 use Rattle.rules.proofs.Unasked.{Unasked, request-asked}
 use Rattle.steps.specs.Stepped.{packedAfter}
 use Rattle.steps.specs.Outcome.{occupied, onOutputs, onInputs, onState, onMemory, carried}
 use Rattle.steps.specs.Reading.{dataIn, outcomeOf, answered}
-use Rattle.steps.specs.Replies.{replyFor}
-use Rattle.station.specs.Completing.{served, isRepeatIn, isDataExchange, isGoodExchange}
+use Rattle.steps.specs.Replies.{exchangeSender, replyFor}
+use Rattle.station.specs.Completing.{served, isRepeatIn, isDataExchange, isGoodExchange, exchangeDrew, repliedWith}
 
 -- the service of a telegram that acts
 pub acting-service : (g : Setup) (r : Request) → acts g r ≡ true → functionService r ≡ serviceOf g r
@@ -68,18 +65,31 @@ module _ (s : State) (m : List ℕ) (r : Request) where
 
   module _ (e : isRepeatIn s r ≡ false) where
     -- of any other the service is served, and the chain goes on
-    pub served-once : outcomeOf s m r ≡ onChain (served s m r) (chainAfter (s .setup) (s .control .chain) r (served s m r .drawn))
+    served-once : outcomeOf s m r ≡ onChain (served s m r) (chainAfter (s .setup) (s .control .chain) r (drew (s .setup) (served s m r)))
     unfolding outcomeOf
     served-once =
         let g = s .setup in
         let c = s .control in
         let stays : served s m r .control .chain ≡ c .chain = serve-chain g (refilled g c r) (occupied s) r (dataIn s m) ∙ refilled-alike g c r .chain-same in
         (λ j. cond (e j) (repeated g c r) (chained g r (served s m r)))
-        ∙ (λ j. onChain (served s m r) (chainAfter g (stays j) r (served s m r .drawn)))
+        ∙ (λ j. onChain (served s m r) (chainAfter g (stays j) r (drew g (served s m r))))
+
+    -- what is not a good Data_Exchange goes into it as it was drawn
+    pub others-once : isGoodExchange s r ≡ false
+        → outcomeOf s m r ≡ onChain (served s m r) (chainAfter (s .setup) (s .control .chain) r (served s m r .drawn))
+    others-once bad =
+        let g = s .setup in
+        let o = served s m r in
+        let fits = eqb (r .count) (g .«output_len») in
+        let other : isExchange (o .drawn) ≡ false =
+        others-drawn (serviceOf g r) g (refilled g (s .control) r) (occupied s) r (dataIn s m)
+        (λ v. (λ j. refilled-exchanges g (s .control) r j && fits) ∙ (λ j. isDataExchange (sym v j) && exchanges (s .control) r && fits) ∙ bad)
+        in
+        served-once ∙ (λ j. onChain o (chainAfter g (s .control .chain) r (cond (other j && repliesE5 g (o .control)) drawn.Acknowledge (o .drawn))))
 
     -- by the request itself where it is one
-    request-once : (o : Outcome) → served s m r ≡ o → isRequest (s .setup) r ≡ true → outcomeOf s m r ≡ onChain o (chainBy r (o .drawn))
-    request-once o f asks = served-once ∙ (λ j. onChain (f j) (cond (asks j) (chainBy r (f j .drawn)) (s .control .chain)))
+    request-once : (o : Outcome) → served s m r ≡ o → isRequest (s .setup) r ≡ true → outcomeOf s m r ≡ onChain o (chainBy r (drew (s .setup) o))
+    request-once o f asks = served-once ∙ (λ j. onChain (f j) (cond (asks j) (chainBy r (drew (s .setup) (f j))) (s .control .chain)))
 
 -- ---- what comes of a good Data_Exchange
 
@@ -99,7 +109,8 @@ is-data-exchange ReadOutputs e = no-true e
 
 -- such a telegram has the outcome of a good Data_Exchange
 exchange-is-good : (s : State) (m : List ℕ) (r : Request) → isGoodExchange s r ≡ true → isRepeatIn s r ≡ false
-    → outcomeOf s m r ≡ onChain (goodExchange (refilled (s .setup) (s .control) r)) (chainBy r drawn.Exchange)
+    → let k = refilled (s .setup) (s .control) r in
+    outcomeOf s m r ≡ onChain (goodExchange k) (chainBy r (exchangeDrew (s .setup) k))
 exchange-is-good s m r e new =
     let g = s .setup in
     let c = s .control in
@@ -150,17 +161,6 @@ abbrev Draws : Drawn → Setup → Control → ℕ → ℕ → Reply → Type 0
 Draws d setup c held master x =
     (t : State) → t .setup ≡ setup → t .control ≡ c → heldOf (t .outputs .set .place) ≡ held → x ≡ replyFor d t master
 
--- that to a good Data_Exchange, made of its parts
-pub exchange-drawn : (setup : Setup) (c : Control) (held master fc : ℕ) (sender : Sender) (header : Header) → fc ≡ exchangeFc c
-    → sender ≡ sending Sd2 master (setup .address) fc (setup .«input_len») → header ≡ headerOf c
-    → Draws drawn.Exchange setup c held master (record { drawn = drawn.Exchange; sender = sender; place = held; header = header })
-unfolding replyFor
-exchange-drawn setup c held master fc sender header ef es eh t e f g =
-    let sends : sender ≡ sending Sd2 master (t .setup .address) (exchangeFc (t .control)) (t .setup .«input_len») =
-    es ∙ (λ j. sending Sd2 master (sym e j .address) ((ef ∙ ap exchangeFc (sym f)) j) (sym e j .«input_len»))
-    in
-    λ j. record { drawn = drawn.Exchange; sender = sends j; place = sym g j; header = (eh ∙ ap headerOf (sym f)) j }
-
 -- it does not look at the chain
 chain-draw : (d : Drawn) (s : State) (c : Control) (h : Chain) (master : ℕ)
     → replyFor d (withControl s c) master ≡ replyFor d (withControl s (part.withChain c h)) master
@@ -175,11 +175,12 @@ chain-draw drawn.Outputs s c h master = refl
 chain-draw drawn.Configuration s c h master = refl
 chain-draw drawn.Diagnosis s c h master = refl
 
--- nor that to a Data_Exchange at the events
-events-draw : (s : State) (c : Control) (e : Events) (h : Chain) (master : ℕ)
-    → replyFor drawn.Exchange (withControl s c) master ≡ replyFor drawn.Exchange (withControl s (part.withChain (withEvents c e) h)) master
+-- that to a Data_Exchange, made of its parts, looks at neither the events nor the chain
+exchange-drawn : (s : State) (c : Control) (e : Events) (h : Chain) (master : ℕ)
+    → repliedWith (exchangeSender (s .setup) c master) (heldOf (s .outputs .set .place)) (headerOf c)
+    ≡ replyFor drawn.Exchange (withControl s (part.withChain (withEvents c e) h)) master
 unfolding replyFor headerOf
-events-draw s c e h master = refl
+exchange-drawn s c e h master = refl
 
 -- ---- the memory
 
@@ -229,34 +230,37 @@ module _ (m : List ℕ) (s : State) (i : Incoming) (r : Request) (setup : Setup)
       packedAfter
       (answered (withIncoming s i) m (onChain o (cond (sym acting j && asks r) (chainBy r (o .drawn)) (s .control .chain))) r))
 
-  -- a good Data_Exchange: the telegram, the events, the ticks that remain, the chain, both sets and the reply
+  -- a good Data_Exchange: the telegram, the events, the ticks that remain, both sets, and the chain with the reply
   pub exchanged-over : m ≡ kept s m → isGoodExchange s r ≡ true → isRepeatIn s r ≡ false → (c control : Control) (deed : OutputsDeed) (way : InputsDeed) (inputs brings : Triple)
-      (events : Events) (h : Chain) (x : Reply) → c ≡ s .control → control ≡ refilled setup c r → deed ≡ exchangeOutputs (control .modes)
+      (events : Events) (header : Header) → c ≡ s .control → control ≡ refilled setup c r → deed ≡ exchangeOutputs (control .modes)
       → outputs ≡ onOutputs deed was → way ≡ exchangeInputs (control .modes) → inputs ≡ s .inputs → brings ≡ onInputs way inputs
-      → events ≡ announced deed (control .events) → h ≡ chainBy r drawn.Exchange → Draws drawn.Exchange setup control held master x
-      → (n₁ n₂ n₃ n₄ n₅ n₆ n₇ : List ℕ) → Changes m n₁ (λ t. withIncoming t i) → Changes n₁ n₂ (λ t. withEventWord t events)
-      → Changes n₂ n₃ (λ t. withTicks t (control .watchdog .remaining)) → Changes n₃ n₄ (λ t. withChain t h)
-      → Changes n₄ n₅ (λ t. withOutputs t outputs) → Changes n₅ n₆ (λ t. withInputs t brings) → Changes n₆ n₇ (λ t. withReply t x)
-      → n₇ ≡ packedAfter (answered (withIncoming s i) m (outcomeOf s m r) r)
+      → events ≡ announced deed (control .events) → header ≡ headerOf control
+      → (n₁ n₂ n₃ n₄ n₅ n₆ : List ℕ) → Changes m n₁ (λ t. withIncoming t i) → Changes n₁ n₂ (λ t. withEventWord t events)
+      → Changes n₂ n₃ (λ t. withTicks t (control .watchdog .remaining)) → Changes n₃ n₄ (λ t. withOutputs t outputs)
+      → Changes n₄ n₅ (λ t. withInputs t brings)
+      → Changes n₅ n₆ (λ t. withReply (withChain t (chainBy r (exchangeDrew setup control))) (repliedWith (exchangeSender setup control (masterOf r)) held header))
+      → n₆ ≡ packedAfter (answered (withIncoming s i) m (outcomeOf s m r) r)
   unfolding carried answered
-  exchanged-over front good new c control deed way inputs brings events h x ec er ed eo ew ei eb ev eh draws n₁ n₂ n₃ n₄ n₅ n₆ n₇ p₁ p₂ p₃ p₄ p₅ p₆ p₇ =
+  exchanged-over front good new c control deed way inputs brings events header ec er ed eo ew ei eb ev eh n₁ n₂ n₃ n₄ n₅ n₆ p₁ p₂ p₃ p₄ p₅ p₆ =
       let k : Control = refilled (s .setup) (s .control) r in
-      let link : Chain = chainBy r drawn.Exchange in
+      let link : Chain = chainBy r (exchangeDrew (s .setup) k) in
       let t : State = onState (withIncoming s i) (onChain (goodExchange k) link) (r .count) in
       let refills : control ≡ k = er ∙ (λ j. refilled (read j) (ec j) r) in
       let does : deed ≡ exchangeOutputs (k .modes) = ed ∙ (λ j. exchangeOutputs (refills j .modes)) in
       let goes : way ≡ exchangeInputs (k .modes) = ew ∙ (λ j. exchangeInputs (refills j .modes)) in
       let publishes : outputs ≡ t .outputs = eo ∙ (λ j. onOutputs (does j) (read-outputs j)) in
       let announces : events ≡ t .control .events = ev ∙ (λ j. announced (does j) (refills j .events)) in
-      let replies : x ≡ replyFor drawn.Exchange t (masterOf r) =
-      drawn-for drawn.Exchange control x draws (withControl t k) refl (sym refills) publishes ∙ events-draw t k (t .control .events) link (masterOf r)
+      let holds-it : held ≡ heldOf (t .outputs .set .place) = holds ∙ (λ j. heldOf (publishes j .set .place)) in
+      let replies : repliedWith (exchangeSender setup control (masterOf r)) held header ≡ replyFor drawn.Exchange t (masterOf r) =
+      (λ j. repliedWith (exchangeSender (read j) (refills j) (masterOf r)) (holds-it j) ((eh ∙ ap headerOf refills) j))
+      ∙ exchange-drawn t k (t .control .events) link (masterOf r)
       in
-      then m n₆ n₇ _ _ (then m n₅ n₆ _ _ (then m n₄ n₅ _ _ (then m n₃ n₄ _ _ (then m n₂ n₃ _ _ (then m n₁ n₂ _ _ p₁ p₂) p₃) p₄) p₅) p₆) p₇ s front
+      then m n₅ n₆ _ _ (then m n₄ n₅ _ _ (then m n₃ n₄ _ _ (then m n₂ n₃ _ _ (then m n₁ n₂ _ _ p₁ p₂) p₃) p₄) p₅) p₆ s front
       ∙ (λ j.
       kept
       (record {
         setup = s .setup;
-        control = withChain (withTicks (withEventWord s (announces j)) (refills j .watchdog .remaining)) (eh j) .control;
+        control = withChain (withTicks (withEventWord s (announces j)) (refills j .watchdog .remaining)) (chainBy r (exchangeDrew (read j) (refills j))) .control;
         outputs = publishes j;
         inputs = (eb ∙ (λ l. onInputs (goes l) (ei l))) j;
         parameters = s .parameters;

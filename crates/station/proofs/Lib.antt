@@ -4,6 +4,7 @@ pub mod Guarding
 mod HeardOverMemory
 mod TurnedOverMemory
 mod StoredOverMemory
+mod ExchangeReplied
 mod CompletedOverMemory
 mod PassedBy
 mod SentOverMemory

@@ -22,7 +22,7 @@ use Rattle.rules.specs.Control.{owns, withWatchdog}
 use Rattle.rules.specs.Diagnosis.{headerOf}
 use Rattle.rules.specs.Phases.{drawing}
 use Rattle.rules.specs.Requests.{masterOf, acts, toStation, refilled, functionService, serviceOf}
-use Rattle.rules.specs.Retries.{asks, repeats, chainBy, onChain}
+use Rattle.rules.specs.Retries.{asks, repeats, chainBy, onChain, drew}
 use Rattle.rules.specs.Services.{serve}
 use Rattle.steps.specs.Stepped.{packedAfter}
 use Rattle.steps.specs.Outcome.{occupied, carried}
@@ -42,7 +42,7 @@ module _ (s : State) (m : List ℕ) (r : Request) (e : acts (s .setup) r ≡ fal
       let o : Bool → Outcome = λ t. serve (cond t (functionService r) Nothing) g (refill t) (occupied s) r (dataIn s m) in
       λ j.
       cond (e j && repeats (c .chain) r) (drawing (refill (e j)) (drawnIn (c .chain)))
-      (onChain (o (e j)) (cond (e j && asks r) (chainBy r (o (e j) .drawn)) (o (e j) .control .chain)))
+      (onChain (o (e j)) (cond (e j && asks r) (chainBy r (drew g (o (e j)))) (o (e j) .control .chain)))
 
   -- so only the telegram and the reply change
   pub passed-by : Holds m s → (i : Incoming) (reply : Reply) (n l : List ℕ)

@@ -22,7 +22,8 @@ use Rattle.state.specs.Memory.{kept, Holds, Changes}
 use Rattle.state.specs.With.{withIncoming, withSender}
 use Rattle.steps.specs.Stepped.{packedAfter}
 use Rattle.steps.specs.Outcome.{settle}
-use Rattle.steps.specs.Replies.{ownPlace, contentAt, isExchange, datumAt, askedFor}
+use Rattle.rules.specs.Replies.{isExchange}
+use Rattle.steps.specs.Replies.{ownPlace, contentAt, datumAt, askedFor}
 use Rattle.steps.specs.Reading.{readOn, readBy}
 use Rattle.steps.specs.Bus.{sentBy, sendTold, sendLeft}
 use Rattle.steps.proofs.SoundWith.{sound-read-by, sound-reply}

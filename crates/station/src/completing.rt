@@ -43,6 +43,7 @@ use state::saving::save_reply;
 use state::saving::save_ticks;
 use state::setup::Setup;
 use state::state::Drawn;
+use state::state::Header;
 use state::state::Incoming;
 use state::state::Reply;
 use telegram::Kind;
@@ -51,18 +52,16 @@ ghost use Prim.Native.Nat.{_≤_};
 ghost use mathlib.Core.Bool.{true, false, cond};
 ghost use mathlib.Core.Path.{_≡_};
 ghost use lib.ListN.{length};
-ghost use Rattle.buffers.specs.Roles.{heldOf};
-ghost use Rattle.state.specs.declared.state.State.{State};
 ghost use Rattle.state.specs.Layout.{stateLength};
 ghost use Rattle.state.specs.Memory.{Holds, Changes};
 ghost use Rattle.state.specs.Unpack.{unpacked};
-ghost use Rattle.state.specs.With.{withChain};
+ghost use Rattle.state.specs.With.{withReply, withChain};
 ghost use Rattle.rules.specs.declared.request.Service.the-variants.{SlaveDiag};
-ghost use Rattle.rules.specs.Requests.{acts, serviceOf};
+ghost use Rattle.rules.specs.Requests.{masterOf, acts, serviceOf};
 ghost use Rattle.rules.specs.Retries.{asks, chainBy};
-ghost use Rattle.steps.specs.Replies.{replyFor};
 ghost use Rattle.steps.specs.Reading.{requestBy, prmIn};
-ghost use Rattle.station.specs.Completing.{completedBy, served, answeredBy, isRepeatIn, isDataExchange, isGoodExchange};
+ghost use Rattle.steps.specs.Replies.{exchangeSender};
+ghost use Rattle.station.specs.Completing.{completedBy, served, answeredBy, isRepeatIn, isDataExchange, isGoodExchange, exchangeDrew, repliedWith};
 
 // The octets of Set_Prm in the parameters' fill buffer.
 fn prm_in(mem: &[u8]) -> Prm
@@ -106,7 +105,8 @@ fn keep_request(mem: &mut [u8], r: Request, drawn: Drawn)
     }
 }
 
-// An outcome carried out, the telegram read to its end, and the reply drawn.
+// An outcome carried out, the telegram read to its end, and the reply drawn. It is no good Data_Exchange's: what was drawn goes into the
+// chain as it is.
 fn answer(mem: &mut [u8], o: Outcome, i: Incoming, r: Request)
     requires { ⌜ (Holds (now mem) (unpacked (now mem))) × (acts (unpacked (now mem) .setup) r ≡ true) ⌝ }
     ensures { λ _. ⌜ now (mem .exit) ≡ answeredBy (now (mem .entry)) i r o ⌝ }
@@ -150,24 +150,48 @@ fn is_good_exchange(mem: &[u8], r: Request, service: Service) -> bool
     is_data_exchange(service) & exchanges(load::control(mem), r) & (r.count == setup.output_len)
 }
 
-// The reply to a good Data_Exchange.
-fn exchange_reply(setup: Setup, control: Control, held: u8, master: u8) -> Reply
-    ensures { λ r. ⌜ ((s : State) → s .setup ≡ setup → s .control ≡ control → heldOf (s .outputs .set .place) ≡ held → r ≡ replyFor Drawn.Exchange s master) ⌝ }
+// The reply to Data_Exchange with this sender.
+fn exchange_reply(sender: Sender, held: u8, header: Header) -> Reply
+    ensures { λ x. ⌜ x ≡ repliedWith sender held header ⌝ }
 {
-    let sender = Sender::telegram(
-        Kind::Sd2,
-        master,
-        setup.address,
-        exchange_fc(control),
-        setup.input_len,
-    );
-    let header = header_of(control);
     Reply {
         drawn: Drawn::Exchange,
         sender,
         place: held,
         header,
     }
+}
+
+// The reply to a good Data_Exchange, and what it is for the chain: the inputs, or without inputs E5, or one octet while Diag_Flag. The same
+// choice as for a repeat (exchange_sender), but each of the three is written by itself, so that the usual one is made of no choices
+// (docs/DECISIONS.md, point 108).
+fn reply_exchange(
+    mem: &mut [u8],
+    r: Request,
+    setup: Setup,
+    control: Control,
+    held: u8,
+    header: Header,
+)
+    requires { ⌜ stateLength ≤ length (now mem) ⌝ }
+    ensures { λ _. ⌜ Changes (now (mem .entry)) (now (mem .exit)) (λ s. withReply (withChain s (chainBy r (exchangeDrew setup control))) (repliedWith (exchangeSender setup control (masterOf r)) held header)) ⌝ }
+{
+    let master = master_of(r);
+    let fc = exchange_fc(control);
+    if setup.input_len != 0 {
+        let sender = Sender::telegram(Kind::Sd2, master, setup.address, fc, setup.input_len);
+        save_chain(chain_by(r, Drawn::Exchange), mem);
+        save_reply(exchange_reply(sender, held, header), mem);
+        return;
+    }
+    if control.flags.diag_flag {
+        let sender = Sender::telegram(Kind::Sd2, master, setup.address, fc, 1);
+        save_chain(chain_by(r, Drawn::Exchange), mem);
+        save_reply(exchange_reply(sender, held, header), mem);
+        return;
+    }
+    save_chain(chain_by(r, Drawn::Acknowledge), mem);
+    save_reply(exchange_reply(Sender::single(), held, header), mem);
 }
 
 // A good Data_Exchange: its data is published, or held back in sync.
@@ -180,14 +204,14 @@ fn exchange(mem: &mut [u8], i: Incoming, r: Request)
     let deed = exchange_outputs(control.modes);
     let outputs = on_outputs(deed, load::outputs(&mem[..]));
     let inputs = on_inputs(exchange_inputs(control.modes), load::inputs(&mem[..]));
-    let reply = exchange_reply(setup, control, outputs.set.held(), master_of(r));
+    let header = header_of(control);
+    let held = outputs.set.held();
     save_incoming(i, mem);
     save_events(announced(deed, control.events), mem);
     save_ticks(control.watchdog.remaining, mem);
-    save_chain(chain_by(r, Drawn::Exchange), mem);
     save_outputs(outputs, mem);
     save_inputs(inputs, mem);
-    save_reply(reply, mem);
+    reply_exchange(mem, r, setup, control, held, header);
 }
 
 // Slave_Diag: of the station's own parts it changes the control part alone.

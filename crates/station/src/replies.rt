@@ -1,6 +1,7 @@
 // The reply in progress: how it is drawn, and where its data octets are read.
 use rules::diagnosis::header_of;
 use rules::replies::exchange_fc;
+use rules::replies::is_exchange;
 use state::control::Control;
 use state::layout::diagnosis_at;
 use state::layout::get_cfg_at;
@@ -23,7 +24,7 @@ ghost use Rattle.octets.specs.Part.{part};
 ghost use Rattle.state.specs.declared.state.State.{State};
 ghost use Rattle.state.specs.Memory.{Holds};
 ghost use Rattle.state.specs.Unpack.{unpacked};
-ghost use Rattle.steps.specs.Replies.{servicing, senderFor, replyFor, ownPlace, userPlace, headerAt, contentAt, replyPoint, isExchange, datumAt, askedFor};
+ghost use Rattle.steps.specs.Replies.{servicing, exchangeSender, senderFor, replyFor, ownPlace, userPlace, headerAt, contentAt, replyPoint, datumAt, askedFor};
 
 // SD2 with bit 7 in both addresses: DSAP and SSAP stand before n data octets.
 fn servicing(setup: Setup, master: u8, n: u8) -> Sender
@@ -32,6 +33,20 @@ fn servicing(setup: Setup, master: u8, n: u8) -> Sender
     let da = std::num::wrapping_add_u8(master, 128);
     let sa = std::num::wrapping_add_u8(setup.address, 128);
     Sender::telegram(Kind::Sd2, da, sa, 0x08, std::num::wrapping_add_u8(n, 2))
+}
+
+// The sender of the reply to Data_Exchange: the inputs, or without inputs E5, or one octet while Diag_Flag.
+fn exchange_sender(setup: Setup, control: Control, master: u8) -> Sender
+    ensures { λ r. ⌜ r ≡ exchangeSender setup control master ⌝ }
+{
+    let fc = exchange_fc(control);
+    if setup.input_len != 0 {
+        return Sender::telegram(Kind::Sd2, master, setup.address, fc, setup.input_len);
+    }
+    if control.flags.diag_flag {
+        return Sender::telegram(Kind::Sd2, master, setup.address, fc, 1);
+    }
+    Sender::single()
 }
 
 // The sender of each reply to a master, by the setup and the control part of any state.
@@ -43,10 +58,7 @@ fn sender_for(drawn: Drawn, setup: Setup, control: Control, master: u8) -> Sende
         Drawn::Acknowledge => Sender::single(),
         Drawn::Status => Sender::telegram(Kind::Sd1, master, setup.address, 0x00, 0),
         Drawn::Rejected => Sender::telegram(Kind::Sd1, master, setup.address, 0x03, 0),
-        Drawn::Exchange => {
-            let fc = exchange_fc(control);
-            Sender::telegram(Kind::Sd2, master, setup.address, fc, setup.input_len)
-        }
+        Drawn::Exchange => exchange_sender(setup, control, master),
         Drawn::Inputs => servicing(setup, master, setup.input_len),
         Drawn::Outputs => servicing(setup, master, setup.output_len),
         Drawn::Configuration => servicing(setup, master, setup.get_cfg_len),
@@ -197,22 +209,6 @@ fn reply_point(drawn: Drawn) -> u8
         Drawn::Outputs => 57,
         Drawn::Configuration => 59,
         Drawn::Diagnosis => 60,
-    }
-}
-
-fn is_exchange(drawn: Drawn) -> bool
-    ensures { λ r. ⌜ r ≡ isExchange drawn ⌝ }
-{
-    match drawn {
-        Drawn::Nothing => false,
-        Drawn::Acknowledge => false,
-        Drawn::Status => false,
-        Drawn::Rejected => false,
-        Drawn::Exchange => true,
-        Drawn::Inputs => false,
-        Drawn::Outputs => false,
-        Drawn::Configuration => false,
-        Drawn::Diagnosis => false,
     }
 }
 

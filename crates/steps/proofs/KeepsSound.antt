@@ -27,6 +27,7 @@ use Rattle.state.specs.Sound.{Within, Sound}
 use Rattle.state.specs.Well.{within}
 use Rattle.state.specs.With.{withReply}
 use Rattle.state.proofs.Choice.{by-test, either, and-left, and-right}
+use Rattle.rules.specs.Replies.{withoutInputs, repliesE5}
 use Rattle.state.proofs.Tests.{none-or-some, within-and}
 use Rattle.rules.specs.declared.outcome.Outcome.{Outcome}
 use Rattle.rules.specs.Requests.{masterOf}
@@ -113,9 +114,12 @@ sender-counts drawn.Nothing s master h = empty-counts
 sender-counts drawn.Acknowledge s master h = single-counts
 sender-counts drawn.Status s master h = sending-counts _ _ _ _ _ (omega arith)
 sender-counts drawn.Rejected s master h = sending-counts _ _ _ _ _ (omega arith)
-sender-counts drawn.Exchange s master h = let l = h .setup .input-len .1 in sending-counts _ _ _ _ _ (omega arith)
-sender-counts drawn.Inputs s master h = sending-counts _ _ _ _ _ (service-most _ (h .setup .input-len .1))
-sender-counts drawn.Outputs s master h = sending-counts _ _ _ _ _ (service-most _ (h .setup .output-len .1))
+sender-counts drawn.Exchange s master h =
+    let l = h .setup .input-len in
+    either SentCounts (repliesE5 (s .setup) (s .control)) single-counts
+    (sending-counts _ _ _ _ _ (either (λ (n : ℕ). n ≤ 246) (withoutInputs (s .setup)) (omega arith) (omega arith)))
+sender-counts drawn.Inputs s master h = sending-counts _ _ _ _ _ (service-most _ (h .setup .input-len))
+sender-counts drawn.Outputs s master h = sending-counts _ _ _ _ _ (service-most _ (h .setup .output-len))
 sender-counts drawn.Configuration s master h = sending-counts _ _ _ _ _ (service-most _ (h .setup .get-cfg-len .1))
 sender-counts drawn.Diagnosis s master h =
     let l = h .diagnosis-counts .count .1 in

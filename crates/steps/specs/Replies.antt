@@ -12,6 +12,7 @@ use Rattle.telegram.specs.declared.Datum.the-variants as datum
 use Rattle.telegram.specs.declared.sender.Sender.{Sender}
 use Rattle.telegram.specs.Sending.{empty, single, sending, asks}
 use Rattle.state.specs.declared.setup.Setup.{Setup}
+use Rattle.state.specs.declared.control.Control.{Control}
 use Rattle.state.specs.declared.state.Drawn.{Drawn}
 use Rattle.state.specs.declared.state.Drawn.the-variants.{Nothing, Acknowledge, Status, Rejected, Exchange, Inputs, Outputs, Configuration, Diagnosis}
 use Rattle.state.specs.declared.state.Header.{Header}
@@ -19,11 +20,19 @@ use Rattle.state.specs.declared.state.Reply.{Reply}
 use Rattle.state.specs.declared.state.State.{State}
 use Rattle.state.specs.Layout.{outputsAt, inputsAt, diagnosisAt, getCfgAt}
 use Rattle.rules.specs.Diagnosis.{headerOf}
-use Rattle.rules.specs.Replies.{exchangeFc}
+use Rattle.rules.specs.Replies.{exchangeFc, withoutInputs, repliesE5, isExchange}
 
 -- SD2 with bit 7 in both addresses: DSAP and SSAP stand before n data octets
 abbrev pub servicing : Setup → ℕ → ℕ → Sender
 servicing s master n = sending Sd2 ((master + 128) % 256) ((s .address + 128) % 256) 0x08 ((n + 2) % 256)
+
+-- how many data octets the reply to Data_Exchange has: the inputs, or one where there are none
+abbrev pub exchangeCount : Setup → ℕ
+exchangeCount s = cond (withoutInputs s) 1 (s .«input_len»)
+
+-- SD2 with them, or E5
+abbrev pub exchangeSender : Setup → Control → ℕ → Sender
+exchangeSender s c master = cond (repliesE5 s c) single (sending Sd2 master (s .address) (exchangeFc c) (exchangeCount s))
 
 -- the sender of each reply to a master
 abbrev pub senderFor : Drawn → State → ℕ → Sender
@@ -31,7 +40,7 @@ senderFor Nothing s master = empty
 senderFor Acknowledge s master = single
 senderFor Status s master = sending Sd1 master (s .setup .address) 0x00 0
 senderFor Rejected s master = sending Sd1 master (s .setup .address) 0x03 0
-senderFor Exchange s master = sending Sd2 master (s .setup .address) (exchangeFc (s .control)) (s .setup .«input_len»)
+senderFor Exchange s master = exchangeSender (s .setup) (s .control) master
 senderFor Inputs s master = servicing (s .setup) master (s .setup .«input_len»)
 senderFor Outputs s master = servicing (s .setup) master (s .setup .«output_len»)
 senderFor Configuration s master = servicing (s .setup) master (s .setup .«get_cfg_len»)
@@ -61,7 +70,7 @@ headerAt h ident i =
     (cond (eqb i 3) (h .master)
     (cond (eqb i 4) (ident / 256) (ident % 256)))))
 
--- data octet i of the reply behind DSAP and SSAP
+-- data octet i of the reply behind DSAP and SSAP; where there are no inputs that of Data_Exchange is 0
 abbrev pub contentAt : Drawn → State → List ℕ → ℕ → ℕ
 contentAt Nothing s m i = 0
 contentAt Acknowledge s m i = 0
@@ -86,18 +95,6 @@ replyPoint Inputs = 56
 replyPoint Outputs = 57
 replyPoint Configuration = 59
 replyPoint Diagnosis = 60
-
--- the reply to Data_Exchange
-abbrev pub isExchange : Drawn → Bool
-isExchange Nothing = false
-isExchange Acknowledge = false
-isExchange Status = false
-isExchange Rejected = false
-isExchange Exchange = true
-isExchange Inputs = false
-isExchange Outputs = false
-isExchange Configuration = false
-isExchange Diagnosis = false
 
 -- data octet k of the reply: 3E and the service point first, but in the reply to Data_Exchange
 unfoldable pub datumAt : State → List ℕ → ℕ → ℕ

@@ -1,18 +1,18 @@
 -- Demand 3 over lists with accesses (specs/Demand3.antt).
 use Prim.Native.Nat.{ℕ, _<_}
 use mathlib.Core.Path.{_≡_, sym, ap, _∙_}
-use mathlib.Core.List.{List, _∷_, _++_}
+use mathlib.Core.List.{List, [], _∷_, _++_}
 use lib.ListN.{length, getD}
 use Rattle.state.specs.declared.answer.Answer.the-variants.{Value}
 use Rattle.state.specs.declared.setup.Setup.{Setup}
-use Rattle.rules.specs.Call.{read}
-use Rattle.rules.proofs.Runs.{answers-append}
+use Rattle.rules.specs.Call.{take, read}
+use Rattle.rules.proofs.Runs.{left-append, answers-append}
 use Rattle.ledger.specs.Ledger.{Ledger, fresh}
 use Rattle.ledger.specs.User.{Told, told}
 use Rattle.ledger.specs.Calls as calls-on-ledger
-use Rattle.ledger.specs.History.{readable, history}
+use Rattle.ledger.specs.History.{readable, newsOf, history}
 use Rattle.ledger.proofs.Exchange.{places-alike}
-use Rattle.ledger.proofs.History.{output-told}
+use Rattle.ledger.proofs.History.{output-told, takes-told}
 use Rattle.steps.specs.Calls as steps
 use Rattle.agreement.specs.Agreement.{memoryOf}
 use Rattle.agreement.proofs.Agreement as core
@@ -58,6 +58,13 @@ module _ (s : Setup) (slice : List ℕ) (es : List Entry) (index : ℕ) (i : ind
       answers-append (λ k e. step k e .answer) (λ k e. step k e .ledger) l es (call (read 1 index) ∷ rest)
       ∙ ap (λ (t : Told). ledger.answers l es ++ t .answer ∷ ledger.answers (t .ledger) rest) read-told
 
+-- a take after a list of entries
+take-told : (s : Setup) (slice : List ℕ) (es : List Entry)
+    → step (after (fresh s slice) es) (call take) .answer ≡ Value (newsOf (history (fresh s slice) (translated (fresh s slice) es)))
+unfolding behind
+take-told s slice es =
+    ap (λ (a : Ledger). calls-on-ledger.step a take .answer) (ledger-left es (fresh s slice)) ∙ takes-told s slice (translated (fresh s slice) es)
+
 module _ (m : List ℕ) (s : Setup) (slice : List ℕ) (long : s .«get_cfg_len» ≡ length slice) (zero : steps.started m s slice .answer ≡ Value 0) where
   ready : Ready (memoryOf m s slice) (fresh s slice)
   ready = begins-ready m s slice long zero
@@ -83,6 +90,11 @@ module _ (m : List ℕ) (s : Setup) (slice : List ℕ) (long : s .«get_cfg_len�
         agree (es ++ call (read 1 index) ∷ rest)
         ∙ read-answers s slice es index i rest
         ∙ (λ j. sym (agree es) j ++ x ∷ sym (later es rest) j);
+    takes = λ es rest.
+        let a = memoryOf m s slice in
+        let told = entry-alike (memoryAfter a es) (after (fresh s slice) es) (ready-after es a (fresh s slice) ready) (call take) .answers ∙ take-told s slice es in
+        answers-append (λ n e. entered n e .answer) (λ n e. entered n e .memory) a es (call take ∷ rest)
+        ∙ (λ j. answers a es ++ told j ∷ answers (sym (left-append (λ n e. entered n e .memory) a es (call take ∷ [])) j) rest);
   }
 
 pub demand-3 : Demand3

@@ -7,13 +7,13 @@ use mathlib.Core.List.{List, [], _∷_, _++_}
 use lib.ListN.{getD}
 use Rattle.state.specs.declared.answer.Answer.the-variants.{Value}
 use Rattle.state.specs.declared.setup.Setup.{Setup}
-use Rattle.rules.specs.Call.{octet, read}
+use Rattle.rules.specs.Call.{octet, take, read}
 use Rattle.steps.specs.Calls as steps
 use Rattle.ledger.specs.Ledger.{fresh}
 use Rattle.ledger.specs.Calls as calls-on-ledger
 use Rattle.ledger.specs.Exchange as exchange
 use Rattle.ledger.specs.Exchange.{Inner, PlacesChanged}
-use Rattle.ledger.specs.History.{readable, history}
+use Rattle.ledger.specs.History.{readable, newsOf, history}
 use Rattle.agreement.specs.Agreement.{memoryOf, FromStart}
 use Rattle.window.specs.Entries.{Entry, call, window-read, window-write}
 use Rattle.window.specs.Calls.{answers, memoryAfter}
@@ -49,6 +49,12 @@ pub record Agreement (m : List ℕ) (s : Setup) (slice : List ℕ) : Type 0 wher
       ≡ answers (memoryOf m s slice) es
       ++ Value (getD (readable (s .«output_len») (history (fresh s slice) (translated (fresh s slice) es))) index 0)
       ∷ answers (memoryAfter (memoryOf m s slice) es) rest
+  -- a take tells of them, also where they have no octet that could be read
+  pub takes : (es rest : List Entry)
+      → answers (memoryOf m s slice) (es ++ call take ∷ rest)
+      ≡ answers (memoryOf m s slice) es
+      ++ Value (newsOf (history (fresh s slice) (translated (fresh s slice) es)))
+      ∷ answers (memoryAfter (memoryOf m s slice) (es ++ call take ∷ [])) rest
 
 -- demand 3 whole
 abbrev pub Demand3 : Type 0

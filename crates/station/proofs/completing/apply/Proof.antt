@@ -7,7 +7,7 @@ use Rattle.rules.specs.declared.outcome.Outcome.{Outcome}
 use Rattle.steps.specs.Stepped.{packedAfter}
 use Rattle.steps.specs.Reading.{answered}
 use Rattle.station.specs.Completing.{answeredBy}
-use Rattle.station.proofs.CompletedOverMemory.{served-once}
+use Rattle.station.proofs.CompletedOverMemory.{others-once}
 use borrow.Author.Needs.{needs}
 use Rattle.station.proofs.completing.apply.Statement.{statement}
 use Rattle.station.proofs.completing.apply.Tie as tie
@@ -52,12 +52,14 @@ same-length-3 c = search needs
 returns-3 : tie.Need-returns-3
 returns-3 c =
     let start = c .before .before .before .before .before .before .before .before .before .before .before in
+    let tested = c .before .before .before .before .before .before .before in
     let m = now (start .args .mem) in
     let i = start .args .i in
     let r = start .args .r in
     c .before .before .answer .ensures
     ∙ ap (answeredBy m i r) (c .before .before .before .served-in .ensures)
-    ∙ ap (λ (o : Outcome). packedAfter (answered (withIncoming (unpacked m) i) m o r)) (sym (served-once (unpacked m) m r (start .pre .3)))
+    ∙ ap (λ (o : Outcome). packedAfter (answered (withIncoming (unpacked m) i) m o r))
+    (sym (others-once (unpacked m) m r (start .pre .3) (sym (tested .before .is-good-exchange .ensures) ∙ tested .if1 .left)))
 
 pub apply-spec : {M : Type 1} → statement M
 apply-spec =

@@ -1,5 +1,6 @@
 -- `station::completing::exchange` meets its contract.
 use native.Mathlib.Omega.{arith}
+use mathlib.Core.Path.{refl}
 use denote.Ref.{now}
 use Rattle.state.specs.Unpack.{unpacked}
 use Rattle.state.proofs.Damage.{fronted-same}
@@ -35,17 +36,14 @@ inputs-requires c κs = c .before .before .before .before .before .before .befor
 on-inputs-requires : tie.Need-on-inputs-requires
 on-inputs-requires c κs = search needs
 
+header-of-requires : tie.Need-header-of-requires
+header-of-requires c κs = search needs
+
 held-requires : tie.Need-held-requires
 held-requires c κs = search needs
 
-master-of-requires : tie.Need-master-of-requires
-master-of-requires c κs = search needs
-
-exchange-reply-requires : tie.Need-exchange-reply-requires
-exchange-reply-requires c κs = search needs
-
 save-incoming-requires : tie.Need-save-incoming-requires
-save-incoming-requires c κs = c .before .before .before .before .before .before .before .before .before .before .before .before .before .before .before .before .before .before .pre .0 .long
+save-incoming-requires c κs = c .before .before .before .before .before .before .before .before .before .before .before .before .before .before .before .before .before .pre .0 .long
 
 announced-requires : tie.Need-announced-requires
 announced-requires c κs = search needs
@@ -54,7 +52,7 @@ save-events-requires : tie.Need-save-events-requires
 save-events-requires c κs =
     let incoming = c .before .before .before .before in
     let k1 = incoming .save-incoming .kept .1 .0 in
-    let long = incoming .before .before .before .before .before .before .before .before .before .before .before .before .before .before .before .before .before .before .before .pre .0 .long in
+    let long = incoming .before .before .before .before .before .before .before .before .before .before .before .before .before .before .before .before .before .before .pre .0 .long in
     omega arith
 
 save-ticks-requires : tie.Need-save-ticks-requires
@@ -63,66 +61,46 @@ save-ticks-requires c κs =
     let incoming = events .before .before .before .before .before in
     let k1 = incoming .save-incoming .kept .1 .0 in
     let k2 = events .save-events .kept .1 .0 in
-    let long = incoming .before .before .before .before .before .before .before .before .before .before .before .before .before .before .before .before .before .before .before .pre .0 .long in
-    omega arith
-
-chain-by-requires : tie.Need-chain-by-requires
-chain-by-requires c κs = search needs
-
-save-chain-requires : tie.Need-save-chain-requires
-save-chain-requires c κs =
-    let ticks = c .before .before .before .before in
-    let events = ticks .before .before .before .before in
-    let incoming = events .before .before .before .before .before in
-    let k1 = incoming .save-incoming .kept .1 .0 in
-    let k2 = events .save-events .kept .1 .0 in
-    let k3 = ticks .save-ticks .kept .1 .0 in
-    let long = incoming .before .before .before .before .before .before .before .before .before .before .before .before .before .before .before .before .before .before .before .pre .0 .long in
+    let long = incoming .before .before .before .before .before .before .before .before .before .before .before .before .before .before .before .before .before .before .pre .0 .long in
     omega arith
 
 save-outputs-requires : tie.Need-save-outputs-requires
 save-outputs-requires c κs =
-    let chain = c .before .before .before in
-    let ticks = chain .before .before .before .before .before in
+    let ticks = c .before .before .before in
     let events = ticks .before .before .before .before in
     let incoming = events .before .before .before .before .before in
     let k1 = incoming .save-incoming .kept .1 .0 in
     let k2 = events .save-events .kept .1 .0 in
     let k3 = ticks .save-ticks .kept .1 .0 in
-    let k4 = chain .save-chain .kept .1 .0 in
-    let long = incoming .before .before .before .before .before .before .before .before .before .before .before .before .before .before .before .before .before .before .before .pre .0 .long in
+    let long = incoming .before .before .before .before .before .before .before .before .before .before .before .before .before .before .before .before .before .before .pre .0 .long in
     omega arith
 
 save-inputs-requires : tie.Need-save-inputs-requires
 save-inputs-requires c κs =
     let outputs = c .before .before .before in
-    let chain = outputs .before .before .before .before in
-    let ticks = chain .before .before .before .before .before in
+    let ticks = outputs .before .before .before .before in
     let events = ticks .before .before .before .before in
     let incoming = events .before .before .before .before .before in
     let k1 = incoming .save-incoming .kept .1 .0 in
     let k2 = events .save-events .kept .1 .0 in
     let k3 = ticks .save-ticks .kept .1 .0 in
-    let k4 = chain .save-chain .kept .1 .0 in
-    let k5 = outputs .save-outputs .kept .1 .0 in
-    let long = incoming .before .before .before .before .before .before .before .before .before .before .before .before .before .before .before .before .before .before .before .pre .0 .long in
+    let k4 = outputs .save-outputs .kept .1 .0 in
+    let long = incoming .before .before .before .before .before .before .before .before .before .before .before .before .before .before .before .before .before .before .pre .0 .long in
     omega arith
 
-save-reply-requires : tie.Need-save-reply-requires
-save-reply-requires c κs =
+reply-exchange-requires : tie.Need-reply-exchange-requires
+reply-exchange-requires c κs =
     let inputs = c .before .before .before in
     let outputs = inputs .before .before .before .before in
-    let chain = outputs .before .before .before .before in
-    let ticks = chain .before .before .before .before .before in
+    let ticks = outputs .before .before .before .before in
     let events = ticks .before .before .before .before in
     let incoming = events .before .before .before .before .before in
     let k1 = incoming .save-incoming .kept .1 .0 in
     let k2 = events .save-events .kept .1 .0 in
     let k3 = ticks .save-ticks .kept .1 .0 in
-    let k4 = chain .save-chain .kept .1 .0 in
-    let k5 = outputs .save-outputs .kept .1 .0 in
-    let k6 = inputs .save-inputs .kept .1 .0 in
-    let long = incoming .before .before .before .before .before .before .before .before .before .before .before .before .before .before .before .before .before .before .before .pre .0 .long in
+    let k4 = outputs .save-outputs .kept .1 .0 in
+    let k5 = inputs .save-inputs .kept .1 .0 in
+    let long = incoming .before .before .before .before .before .before .before .before .before .before .before .before .before .before .before .before .before .before .pre .0 .long in
     omega arith
 
 same-length : tie.Need-same-length
@@ -133,45 +111,44 @@ returns c =
     let reply = c .before .before in
     let inputs = reply .before .before .before .before in
     let outputs = inputs .before .before .before .before in
-    let chain = outputs .before .before .before .before in
-    let ticks = chain .before .before .before .before .before in
+    let ticks = outputs .before .before .before .before in
     let events = ticks .before .before .before .before in
     let incoming = events .before .before .before .before .before in
-    let drawn = incoming .before .before in
-    let start = drawn .before .before .before .before .before .before .before .before .before .before .before .before .before .before .before .before .before in
+    let taken = incoming .before .before in
+    let brought = taken .before .before in
+    let published = brought .before .before .before .before in
+    let refilled = published .before .before .before .before in
+    let start = refilled .before .before .before .before .before .before in
     let m = now (start .args .mem) in
     exchanged-over m (unpacked m) (start .args .i) (start .args .r) _ _ _ _ _
-    (drawn .before .before .before .before .before .before .before .before .before .before .before .before .before .before .setup .ensures)
-    (drawn .before .before .before .before .before .before .before .before .outputs .ensures)
-    (drawn .before .before .held .ensures)
-    (drawn .before .master-of .ensures)
+    (refilled .before .before .before .setup .ensures)
+    (published .before .outputs .ensures)
+    (taken .held .ensures)
+    refl
     (fronted-same m (unpacked m) (start .pre .0))
     (start .pre .1)
-    (start .pre .2) _ _ _ _ _ _ _ _ _
-    (drawn .before .before .before .before .before .before .before .before .before .before .before .before .control .ensures)
-    (drawn .before .before .before .before .before .before .before .before .before .before .before .refilled .ensures)
-    (drawn .before .before .before .before .before .before .before .before .before .before .exchange-outputs .ensures)
-    (drawn .before .before .before .before .before .before .before .on-outputs .ensures)
-    (drawn .before .before .before .before .before .before .exchange-inputs .ensures)
-    (drawn .before .before .before .before .inputs .ensures)
-    (drawn .before .before .before .on-inputs .ensures)
+    (start .pre .2) _ _ _ _ _ _ _ _
+    (refilled .before .control .ensures)
+    (refilled .refilled .ensures)
+    (published .before .before .before .exchange-outputs .ensures)
+    (published .on-outputs .ensures)
+    (brought .before .before .before .exchange-inputs .ensures)
+    (brought .before .inputs .ensures)
+    (brought .on-inputs .ensures)
     (events .before .before .announced .ensures)
-    (chain .before .before .chain-by .ensures)
-    (drawn .exchange-reply .ensures)
+    (taken .before .header-of .ensures)
     (incoming .save-incoming .last .1 .0)
     (events .save-events .last .1 .0)
     (ticks .save-ticks .last .1 .0)
-    (chain .save-chain .last .1 .0)
     (outputs .save-outputs .last .1 .0)
     (inputs .save-inputs .last .1 .0)
-    (reply .save-reply .last .1 .0)
+    (reply .reply-exchange .last .0)
     (incoming .save-incoming .ensures)
     (events .save-events .ensures)
     (ticks .save-ticks .ensures)
-    (chain .save-chain .ensures)
     (outputs .save-outputs .ensures)
     (inputs .save-inputs .ensures)
-    (reply .save-reply .ensures)
+    (reply .reply-exchange .ensures)
 
 pub exchange-spec : {M : Type 1} → statement M
 exchange-spec =
@@ -186,17 +163,14 @@ exchange-spec =
     exchange-inputs-requires
     inputs-requires
     on-inputs-requires
+    header-of-requires
     held-requires
-    master-of-requires
-    exchange-reply-requires
     save-incoming-requires
     announced-requires
     save-events-requires
     save-ticks-requires
-    chain-by-requires
-    save-chain-requires
     save-outputs-requires
     save-inputs-requires
-    save-reply-requires
+    reply-exchange-requires
     same-length
     returns)

@@ -30,11 +30,8 @@ telegram-requires-2 c κs = search needs
 enum-told-5 : tie.Need-enum-told-5
 enum-told-5 c = search needs
 
-exchange-fc-requires : tie.Need-exchange-fc-requires
-exchange-fc-requires c κs = search needs
-
-telegram-requires-3 : tie.Need-telegram-requires-3
-telegram-requires-3 c κs = search needs
+exchange-sender-requires : tie.Need-exchange-sender-requires
+exchange-sender-requires c κs = search needs
 
 enum-told-6 : tie.Need-enum-told-6
 enum-told-6 c = search needs
@@ -73,7 +70,7 @@ returns-4 : tie.Need-returns-4
 returns-4 c = λ s e f. rw (c .telegram2 .ensures, c .before .enum-told4 .given .1, e)
 
 returns-5 : tie.Need-returns-5
-returns-5 c = λ s e f. rw (c .telegram3 .ensures, c .before .exchange-fc .ensures, c .before .before .enum-told5 .given .1, e, f)
+returns-5 c = λ s e f. rw (c .exchange-sender .ensures, c .before .enum-told5 .given .1, e, f)
 
 returns-6 : tie.Need-returns-6
 returns-6 c = λ s e f. rw (c .servicing .ensures, c .before .enum-told6 .given .1, e)
@@ -100,8 +97,7 @@ sender-for-spec =
     enum-told-4
     telegram-requires-2
     enum-told-5
-    exchange-fc-requires
-    telegram-requires-3
+    exchange-sender-requires
     enum-told-6
     servicing-requires
     enum-told-7
