@@ -18,7 +18,7 @@ pub struct StartValues {
 
 impl StartValues {
     /// Where the buffers end: document 01, section "The station and its memory", with the state part and the fourth
-    /// output buffer of document 02, Req 01.
+    /// output buffer of document 02, Req 01. Buffers of a length 0 take no room.
     pub fn end_of_buffers(&self) -> u64 {
         let rounded = |length: u64| length.div_ceil(8) * 8;
         128 + 4 * rounded(self.outputs.into())

@@ -7,10 +7,10 @@
 use crate::call::{Call, Order, StartValues};
 use crate::card::{call_library, first_change, is_possible, only_looks, Card, Memory, STATE};
 use crate::draft::{self, Draft};
-use crate::image::{is_state, CHAIN, FURTHER, LENGTHS};
+use crate::image::{is_state, sides, CHAIN, FURTHER, LENGTHS};
 use crate::outcome::{Outcome, Tally};
 use crate::random::Random;
-use crate::telegram;
+use crate::telegram::{self, Form, Telegram};
 
 /// The longest reply: SD2 with LE 249.
 const LONGEST_REPLY: usize = 249 + 6;
@@ -29,6 +29,9 @@ const LINES: [[usize; 3]; 2] = [[31, 32, 33], [17, 14, 15]];
 const SETS: [[usize; 2]; 2] = [[58, 59], [60, 61]];
 const DIAGNOSIS: [usize; 2] = [56, 57];
 
+/// The counts of a fresh station, which every length allows.
+const FRESH_COUNTS: [(usize, u8); 6] = [(56, 6), (57, 0), (58, 0), (59, 0), (60, 0), (61, 0)];
+
 /// The octets that know the four output buffers, each with the most it may be: the buffer that Read_Outputs leaves
 /// from, the roles, the marks; and the modes.
 const OUTPUTS: [(usize, u8); 4] = [(19, 3), (22, 23), (29, 7), (27, 15)];
@@ -38,7 +41,17 @@ const CHAINED_MASTER: u8 = 2;
 
 /// Codes of octet 18.
 const DRAWN_NOTHING: u8 = 0;
+const DRAWN_E5: u8 = 1;
 const DRAWN_STATUS: u8 = 2;
+const DRAWN_RS: u8 = 3;
+const DRAWN_EXCHANGE: u8 = 4;
+const DRAWN_READ_INPUTS: u8 = 5;
+const DRAWN_READ_OUTPUTS: u8 = 6;
+const DRAWN_GET_CFG: u8 = 7;
+const DRAWN_SLAVE_DIAG: u8 = 8;
+
+/// Where Diag_Flag stands, and its bit.
+const DIAG_FLAG: (usize, u8) = (3, 0x40);
 
 /// How far apart two octets are that stand at the same place in neighbouring words of eight octets.
 const WORD: usize = 8;
@@ -48,6 +61,24 @@ const LENGTHS_TRIED: [u8; 18] = [
     0, 1, 5, 6, 7, 32, 87, 88, 89, 95, 96, 97, 128, 200, 243, 244, 245, 255,
 ];
 const LENGTHS_TRIALS: usize = 400;
+
+/// Lengths of outputs and inputs that are tried together: none, few, at the limits and beside them, and on both sides of
+/// what a check that takes several lengths at once may take for short.
+const SIDES_TRIED: [u8; 20] = [
+    0, 1, 2, 7, 8, 9, 31, 32, 33, 63, 64, 87, 88, 127, 128, 129, 243, 244, 245, 255,
+];
+
+/// The lengths beside them, from the parameters to the Get_Cfg slice: the least ones, short, longer and the longest; and
+/// three times one of them too short or too long.
+const BESIDE_SIDES: [[u8; 4]; 7] = [
+    [7, 1, 6, 1],
+    [32, 32, 32, 32],
+    [128, 127, 128, 127],
+    [244, 244, 244, 244],
+    [6, 1, 6, 1],
+    [7, 1, 6, 0],
+    [7, 245, 6, 1],
+];
 
 /// Every pair of these values.
 fn pairs(values: &[u8]) -> Vec<(u8, u8)> {
@@ -248,7 +279,7 @@ impl Trial<'_> {
     }
 
     /// The chain's octets at their limits and one past them, in every combination; and what each code makes a repeat
-    /// draw.
+    /// draw, in the state as it is and with one side of it taken away.
     pub fn try_chain(&mut self) -> Result<(), String> {
         let [(counted, _), (master, _)] = CHAIN;
         for code in [0, 1, 2, 8, 16, 17, 18, 19, 0x7F, 0x80, 0xFF] {
@@ -256,42 +287,71 @@ impl Trial<'_> {
                 self.try_octets(&[(counted, code), (master, address)])?;
             }
         }
-        for code in 0..=17 {
-            self.repeat_by_code(code)
-                .map_err(|misdeed| format!("with the code {code} in octet {counted} {misdeed}"))?;
-        }
-        Ok(())
-    }
-
-    /// A request of the chain's master with the code's FCB is a repeat, with the other FCB it is not. A new one with
-    /// function 9 draws the status and with function 0 nothing.
-    fn repeat_by_code(&mut self, code: u8) -> Result<(), String> {
-        let again = code >> 1;
-        let (function, new) = match again {
-            DRAWN_STATUS => (0x40, DRAWN_NOTHING),
-            _ => (draft::STATUS, DRAWN_STATUS),
-        };
-        for (bit, drawn) in [(code & 1, again), (!code & 1, new)] {
-            let control = function | draft::FCV | bit << 5;
-            let reply = self.drawn_in_chain(code, control)?;
-            if !is_drawn(drawn, &reply) {
-                return Err(format!("draws {reply:02X?} by the FC {control:02X}"));
+        for changes in self.other_sides() {
+            for code in 0..=17 {
+                self.repeat_by_code(code, &changes).map_err(|misdeed| {
+                    format!(
+                        "with octets changed ({changes:?}) and the code {code} in octet {counted} {misdeed}"
+                    )
+                })?;
             }
         }
         Ok(())
     }
 
-    fn drawn_in_chain(&mut self, code: u8, control: u8) -> Result<Vec<u8>, String> {
+    /// Octets that change the state: none of them, no outputs, no inputs with Diag_Flag clear and with Diag_Flag set. No
+    /// list leads to a chain of Data_Exchange without inputs whose Diag_Flag is clear again, but it is a state.
+    fn other_sides(&self) -> Vec<Vec<(usize, u8)>> {
+        let image = self.card.state();
+        let [outputs, inputs] = sides(image);
+        let (at, bit) = DIAG_FLAG;
+        let mut changes = vec![vec![]];
+        if inputs != 0 {
+            changes.push(vec![(LENGTHS, 0)]);
+        }
+        if outputs != 0 {
+            changes.push(vec![(LENGTHS + 1, 0), (at, image[at] & !bit)]);
+            changes.push(vec![(LENGTHS + 1, 0), (at, image[at] | bit)]);
+        }
+        changes
+    }
+
+    /// A request of the chain's master with the code's FCB is a repeat, with the other FCB it is not. A new one with
+    /// function 9 draws the status and with function 0 nothing.
+    fn repeat_by_code(&mut self, code: u8, changes: &[(usize, u8)]) -> Result<(), String> {
+        let again = code >> 1;
+        let (function, new) = match again {
+            DRAWN_STATUS => (0x40, DRAWN_NOTHING),
+            _ => (draft::STATUS, DRAWN_STATUS),
+        };
         let [(counted, _), (master, _)] = CHAIN;
         let mut memory = self.card.memory.clone();
-        memory.contents_mut()[counted] = code;
-        memory.contents_mut()[master] = CHAINED_MASTER;
+        let chain = [(counted, code), (master, CHAINED_MASTER)];
+        for (at, octet) in chain.iter().chain(changes) {
+            memory.contents_mut()[*at] = *octet;
+        }
+        for (bit, drawn) in [(code & 1, again), (!code & 1, new)] {
+            let control = function | draft::FCV | bit << 5;
+            let (reply, image) = self.drawn_by(memory.clone(), control)?;
+            if !is_drawn(drawn, &reply, &image) {
+                return Err(format!("draws {reply:02X?} by the FC {control:02X}"));
+            }
+            if drawn == DRAWN_EXCHANGE && reply == [0xE5] {
+                self.tally.add(Outcome::ChainWithoutDiagFlag);
+            }
+        }
+        Ok(())
+    }
+
+    /// What the chain's master draws by an SD1 with this FC, and the state part as it was then.
+    fn drawn_by(&self, mut memory: Memory, control: u8) -> Result<(Vec<u8>, Vec<u8>), String> {
         let request = telegram::sd1(self.values.address as u8, CHAINED_MASTER, control);
         let octets = request.into_iter();
         let octets = octets.map(|octet| Call::Octet { octet, bad: false });
         for call in std::iter::once(Call::Gap).chain(octets) {
             checked_on_state(&mut memory, &call)?;
         }
+        let image = memory.contents()[..STATE].to_vec();
         let mut reply = Vec::new();
         while let Ok(octet) = u8::try_from(checked_on_state(&mut memory, &Call::Send)?) {
             reply.push(octet);
@@ -299,7 +359,7 @@ impl Trial<'_> {
                 return Err("draws a reply that does not end".into());
             }
         }
-        Ok(reply)
+        Ok((reply, image))
     }
 
     /// Two of the octets that are not used, at the same place in two words: neither their sum nor their difference
@@ -329,6 +389,19 @@ impl Trial<'_> {
         Ok(())
     }
 
+    /// Outputs and inputs of every two lengths, beside the state's other lengths with its counts, and beside others.
+    pub fn try_sides(&mut self) -> Result<(), String> {
+        for (outputs, inputs) in pairs(&SIDES_TRIED) {
+            let sides = [(LENGTHS, outputs), (LENGTHS + 1, inputs)];
+            self.try_octets(&sides)?;
+            for others in BESIDE_SIDES {
+                let others: Vec<(usize, u8)> = (LENGTHS + 2..).zip(others).collect();
+                self.try_octets(&[&sides[..], &others, &FRESH_COUNTS].concat())?;
+            }
+        }
+        Ok(())
+    }
+
     /// The image with these octets.
     fn try_octets(&mut self, octets: &[(usize, u8)]) -> Result<(), String> {
         let mut image = self.card.state().to_vec();
@@ -340,6 +413,12 @@ impl Trial<'_> {
             true => Outcome::CountsRefused,
             false => Outcome::CountsTaken,
         });
+        match (sides(&image), refused) {
+            ([0, 0], true) => self.tally.add(Outcome::NeitherRefused),
+            ([0, _], false) => self.tally.add(Outcome::NoOutputsTaken),
+            ([_, 0], false) => self.tally.add(Outcome::NoInputsTaken),
+            _ => {}
+        }
         Ok(())
     }
 
@@ -536,24 +615,54 @@ impl Trial<'_> {
     }
 }
 
-/// Whether a reply is of the service that a code of octet 18 stands for.
-fn is_drawn(code: u8, reply: &[u8]) -> bool {
-    let of_point = |point| matches!(reply, [0x68, _, _, 0x68, 0x80..=0xFF, 0x80..=0xFF, 0x08, 0x3E, dsap, ..] if *dsap == point);
+/// Whether a reply is of the service that a code of octet 18 stands for, with the counts of the image in which it was
+/// drawn.
+fn is_drawn(code: u8, reply: &[u8], image: &[u8]) -> bool {
+    let [outputs, inputs] = sides(image);
     match code {
         DRAWN_NOTHING => reply.is_empty(),
-        1 => reply == [0xE5],
+        DRAWN_E5 => reply == [0xE5],
         DRAWN_STATUS => matches!(reply, [0x10, _, _, 0x00, _, 0x16]),
-        3 => matches!(reply, [0x10, _, _, 0x03, _, 0x16]),
-        4 => matches!(
-            reply,
-            [0x68, _, _, 0x68, 0..=0x7F, 0..=0x7F, 0x08 | 0x0A, ..]
-        ),
-        5 => of_point(draft::READ_INPUTS),
-        6 => of_point(draft::READ_OUTPUTS),
-        7 => of_point(draft::GET_CFG),
-        8 => of_point(draft::SLAVE_DIAG),
+        DRAWN_RS => matches!(reply, [0x10, _, _, 0x03, _, 0x16]),
+        DRAWN_EXCHANGE => is_drawn_by_exchange(reply, inputs, has_diag_flag(image)),
+        DRAWN_READ_INPUTS => is_drawn_from(draft::READ_INPUTS, reply, inputs),
+        DRAWN_READ_OUTPUTS => is_drawn_from(draft::READ_OUTPUTS, reply, outputs),
+        DRAWN_GET_CFG => is_drawn_from(draft::GET_CFG, reply, image[LENGTHS + 5]),
+        DRAWN_SLAVE_DIAG => is_drawn_from(draft::SLAVE_DIAG, reply, image[DIAGNOSIS[0]]),
         _ => false,
     }
+}
+
+/// Without inputs it is E5, or with Diag_Flag one octet 00.
+fn is_drawn_by_exchange(reply: &[u8], inputs: u8, diag_flag: bool) -> bool {
+    let data = |control| data_of(reply, control).filter(|sent| sent.extended().is_none());
+    match (inputs, diag_flag) {
+        (0, false) => reply == [0xE5],
+        (0, true) => data(0x0A).is_some_and(|sent| sent.data == [0x00]),
+        (_, false) => data(0x08).is_some_and(|sent| sent.data.len() == usize::from(inputs)),
+        (_, true) => data(0x0A).is_some_and(|sent| sent.data.len() == usize::from(inputs)),
+    }
+}
+
+/// From this point, with this number of octets behind the two points.
+fn is_drawn_from(point: u8, reply: &[u8], count: u8) -> bool {
+    data_of(reply, 0x08).is_some_and(|sent| {
+        sent.extended().is_some_and(|sent| {
+            (sent.dsap, sent.ssap) == (draft::MASTER_POINT, point)
+                && sent.data.len() == usize::from(count)
+        })
+    })
+}
+
+/// The reply if it is an SD2 with this FC.
+fn data_of(reply: &[u8], control: u8) -> Option<Telegram> {
+    let sent = telegram::read(reply)?;
+    (sent.form == Form::Sd2 && sent.control == control).then_some(sent)
+}
+
+fn has_diag_flag(image: &[u8]) -> bool {
+    let (at, bit) = DIAG_FLAG;
+    image[at] & bit != 0
 }
 
 fn refused_by_all(memory: &mut Memory) -> Result<(), String> {

@@ -59,9 +59,13 @@ impl Draft {
         }
     }
 
+    /// Without data it comes as SD1, for an SD2 has at least one octet.
     pub fn exchange(station: u8, master: u8, data: Vec<u8>) -> Draft {
         Draft {
-            form: Form::Sd2,
+            form: match data.is_empty() {
+                true => Form::Sd1,
+                false => Form::Sd2,
+            },
             destination: station,
             source: master,
             control: REQUEST,

@@ -250,11 +250,31 @@ impl Generator {
         values
     }
 
-    /// Outputs, inputs, parameters, configuration, diagnosis, Get_Cfg slice. Short ones let a list go far, long ones
-    /// reach the limits; 8 outputs are what an SD3 carries.
+    /// Outputs, inputs, parameters, configuration, diagnosis, Get_Cfg slice. One station in four has no outputs or no
+    /// inputs.
     fn good_lengths(&mut self) -> [u32; 6] {
+        let lengths = self.two_sided_lengths();
+        match self.random.below(8) {
+            0 => self.without_side(0, lengths),
+            1 => self.without_side(1, lengths),
+            _ => lengths,
+        }
+    }
+
+    /// Now and then the others are so long that the buffers go beyond the shortest memory, where it shows that the side
+    /// takes no room.
+    fn without_side(&mut self, side: usize, mut lengths: [u32; 6]) -> [u32; 6] {
+        if self.random.chance(25) {
+            lengths = lengths.map(|_| self.random.between(170, 244) as u32);
+        }
+        lengths[side] = 0;
+        lengths
+    }
+
+    /// Short ones let a list go far, long ones reach the limits; 8 outputs are what an SD3 carries.
+    fn two_sided_lengths(&mut self) -> [u32; 6] {
         let random = &mut self.random;
-        match random.weighted(&[30, 35, 12, 10, 4, 8, 4]) {
+        match random.weighted(&[30, 35, 12, 14, 5, 8, 4]) {
             0 => [1, 1, 7, 1, 6, 1],
             1 => [
                 random.between(1, 9) as u32,
@@ -308,26 +328,23 @@ impl Generator {
                 too_long
             }
         };
-        match random.below(9) {
+        match random.below(10) {
             0 => {
                 values.memory =
                     random.pick(&[0, 8, 64, 128, 1528, 1535, 1537, 2001, 4095, 4097, 4104])
             }
             1 => values.address = random.pick(&[127, 128, 255, 256, 261, u32::MAX]),
-            2 => values.outputs = bad(1),
-            3 => values.inputs = bad(1),
+            2 => values.outputs = too_long,
+            3 => values.inputs = too_long,
             4 => values.parameters = bad(7),
             5 => values.configuration = bad(1),
             6 => values.diagnosis = bad(6),
             7 => values.get_cfg = vec![7; random.pick(&[0, 245, 256, 300])],
+            8 => (values.outputs, values.inputs) = (0, 0),
             _ => {
-                let long = [244; 4];
-                [
-                    values.outputs,
-                    values.inputs,
-                    values.parameters,
-                    values.configuration,
-                ] = long;
+                let sides = [(244, 244), (0, 244), (244, 0)];
+                (values.outputs, values.inputs) = random.pick(&sides);
+                (values.parameters, values.configuration) = (244, 244);
                 values.memory = (values.end_of_buffers() as usize - 8).min(4096);
             }
         }
@@ -366,6 +383,9 @@ impl Generator {
     }
 
     fn scenario(&mut self) {
+        if self.is_one_sided() && self.random.chance(40) {
+            return self.one_sided();
+        }
         match self.random.weighted(&[
             10, 14, 22, 10, 10, 8, 10, 10, 6, 1, 6, 12, 10, 10, 8, 10, 60, 4,
         ]) {
@@ -794,27 +814,35 @@ impl Generator {
     }
 
     fn good_exchange(&mut self) -> Draft {
-        let data = self.random.octets(self.ledger().values.outputs as usize);
+        self.exchange_of(self.ledger().values.outputs as usize)
+    }
+
+    /// A Data_Exchange of the owner with as many octets.
+    fn exchange_of(&mut self, count: usize) -> Draft {
+        let data = self.random.octets(count);
         let master = self.owner_or_any();
-        Draft::exchange(self.address(), master, data)
+        let mut draft = Draft::exchange(self.address(), master, data);
+        if count == 8 && self.random.chance(40) {
+            draft.form = Form::Sd3;
+        }
+        draft
     }
 
     fn data_exchange(&mut self) -> Draft {
-        let mut draft = self.good_exchange();
+        let mut draft = match self.random.chance(10) {
+            true => self.exchange_of_another_count(),
+            false => self.good_exchange(),
+        };
         draft.source = self.likely_master();
-        if draft.data.len() == 8 && self.random.chance(40) {
-            draft.form = Form::Sd3;
-        }
-        match self.random.below(30) {
-            0 => drop(draft.data.pop()),
-            1 => draft.data.push(9),
-            2 => draft.form = Form::Sd1,
-            _ => {}
-        }
-        if draft.data.is_empty() {
-            draft.form = Form::Sd1;
-        }
         draft
+    }
+
+    /// An octet less or more, none, or as many as an SD3 carries: mostly not what the station takes.
+    fn exchange_of_another_count(&mut self) -> Draft {
+        let right = self.ledger().values.outputs as usize;
+        let counts = [right.saturating_sub(1), right + 1, 0, 8];
+        let count = self.random.pick(&counts);
+        self.exchange_of(count)
     }
 
     fn global_control(&mut self) -> Draft {
@@ -1012,7 +1040,7 @@ impl Generator {
         let length = self.ledger().set_length(kind).unwrap_or(1);
         let first = if kind == 5 { DIAGNOSIS_HEAD } else { 0 };
         match self.random.below(12) {
-            0 => length - 1,
+            0 => length.saturating_sub(1),
             1 => first,
             2 => length,
             _ => first + self.random.below(length.saturating_sub(first) as usize) as u32,
@@ -1731,10 +1759,7 @@ impl Generator {
     /// None, one or more: a later one replaces the one before, and one that is spoiled must not touch it.
     fn exchanges_in_sync(&mut self) {
         for _ in 0..self.random.below(4) {
-            let mut draft = self.good_exchange();
-            if draft.data.len() == 8 && self.random.chance(40) {
-                draft.form = Form::Sd3;
-            }
+            let draft = self.good_exchange();
             match self.random.chance(20) {
                 true => self.put_spoiled_new(&draft),
                 false => self.put_quietly(&draft),
@@ -1850,10 +1875,7 @@ impl Generator {
             0 | 1 => self.good_chk_cfg(),
             2 => self.good_set_prm(None),
             3 => self.spoiled_set_prm(),
-            4 => Draft {
-                form: Form::Sd1,
-                ..self.good_exchange()
-            },
+            4 => self.exchange_of_another_count(),
             5 => return self.call(Call::Leave),
             _ => return self.ticks(),
         };
@@ -2010,7 +2032,7 @@ impl Generator {
         let mut draft = request.clone();
         match self.random.below(18) {
             0..=2 => draft.data = self.random.octets(draft.data.len()),
-            3 => draft.data.push(self.random.octet()),
+            3 => draft = self.with_one_octet_more(request),
             4 => draft.points = Some((self.random.octet(), draft::MASTER_POINT)),
             5 => draft.points = draft.points.map(|(dsap, ssap)| (dsap, ssap ^ 1)),
             6 => draft.points = None,
@@ -2020,6 +2042,16 @@ impl Generator {
             _ => {}
         }
         fill_sd2(&mut draft);
+        draft
+    }
+
+    /// An SD1 becomes an SD2, for it has no room for data.
+    fn with_one_octet_more(&mut self, request: &Draft) -> Draft {
+        let mut draft = request.clone();
+        draft.data.push(self.random.octet());
+        if draft.form == Form::Sd1 {
+            draft.form = Form::Sd2;
+        }
         draft
     }
 
@@ -2053,8 +2085,14 @@ impl Generator {
     /// Something that the service of the request would find, or that would make it draw RS.
     fn change_what_is_drawn(&mut self) {
         let drawn = self.ledger().chain.map(|chain| chain.drawn);
+        let exchanging = self.ledger().phase == Phase::DataExch;
         match drawn {
             _ if self.random.chance(20) => self.call(Call::Leave),
+            Some(Drawn::E5) if exchanging && self.random.chance(50) => {
+                let diagnosis = self.some_diagnosis();
+                self.call(diagnosis);
+            }
+            Some(Drawn::E5) if exchanging => self.call(Call::Take),
             Some(Drawn::E5) => self.judge_parameters_good(),
             Some(Drawn::Exchange) if self.random.chance(40) => self.call(Call::Take),
             Some(Drawn::Exchange | Drawn::ReadInputs) => self.command_between_repeats(),
@@ -2067,13 +2105,14 @@ impl Generator {
         }
     }
 
-    /// New inputs and sync, freeze or both.
+    /// New inputs, and sync, freeze, clear or several of them.
     fn command_between_repeats(&mut self) {
         self.some_new_inputs();
-        let control = match self.random.below(4) {
+        let control = match self.random.below(5) {
             0 => draft::SYNC,
             1 => draft::FREEZE,
             2 => draft::UNFREEZE,
+            3 => draft::CLEAR,
             _ => self.combined_command(),
         };
         let mut command = self.owners_command(control);
@@ -2121,5 +2160,104 @@ impl Generator {
             },
         };
         self.put_whole(&draft);
+    }
+}
+
+/// Stations without outputs or without inputs.
+impl Generator {
+    fn is_one_sided(&self) -> bool {
+        !self.ledger().has_outputs() || !self.ledger().has_inputs()
+    }
+
+    fn one_sided(&mut self) {
+        match self.random.below(8) {
+            0 => self.another_count_in_exchange(),
+            1 | 2 => self.outputs_in_sync(),
+            3 => self.reads_again(),
+            _ => self.exchange_again(),
+        }
+    }
+
+    fn another_count_in_exchange(&mut self) {
+        self.be_in_exchange();
+        let draft = self.exchange_of_another_count();
+        self.put_quietly(&draft);
+        self.hear_reply();
+        self.call(Call::Take);
+        let request = self.diagnosis_request();
+        self.put_quietly(&request);
+        self.hear_reply();
+    }
+
+    fn reads_again(&mut self) {
+        self.be_in_exchange();
+        let point = self.random.pick(&[draft::READ_INPUTS, draft::READ_OUTPUTS]);
+        let draft = self.without_data(point);
+        let request = self.counted_as_new(&draft);
+        self.put_whole(&request);
+        self.hear_some();
+        if self.random.chance(30) {
+            self.change_behind_an_exchange();
+        }
+        self.put_again(&request);
+        self.hear_quietly();
+    }
+
+    /// A Data_Exchange with Diag_Flag or without, in sync or not, and its repeat behind something that this must not look
+    /// at.
+    fn exchange_again(&mut self) {
+        self.be_in_exchange();
+        self.choose_diag_flag();
+        if self.random.chance(40) {
+            let command = self.random.pick(&[draft::SYNC, draft::SYNC, draft::UNSYNC]);
+            let command = self.owners_command(command);
+            self.put_quietly(&command);
+        }
+        let draft = self.good_exchange();
+        let request = self.counted_as_new(&draft);
+        self.put_whole(&request);
+        self.hear_some();
+        for _ in 0..self.random.between(1, 2) {
+            self.change_behind_an_exchange();
+        }
+        let again = self.changed_where_a_repeat_may(&request);
+        self.put_again(&again);
+        self.hear_quietly();
+        self.call(Call::Events);
+        self.call(Call::Take);
+        self.look_for_outputs();
+    }
+
+    /// The owner's Slave_Diag clears Diag_Flag again, unless Stat_Diag stands.
+    fn choose_diag_flag(&mut self) {
+        let flags = self.random.pick(&[0, 1, 4]);
+        self.call(Call::NewDiagnosis {
+            count: DIAGNOSIS_HEAD,
+            flags,
+        });
+        if self.random.chance(60) {
+            let master = self.owner_or_any();
+            let request = Draft::to_point(self.address(), master, draft::SLAVE_DIAG, Vec::new());
+            self.put_quietly(&request);
+            self.hear_quietly();
+        }
+    }
+
+    fn change_behind_an_exchange(&mut self) {
+        match self.random.below(8) {
+            0 | 1 => self.call(Call::Take),
+            2 | 3 => {
+                let diagnosis = self.some_diagnosis();
+                self.call(diagnosis);
+            }
+            4 => self.call(Call::Leave),
+            5 => self.some_new_inputs(),
+            _ => {
+                let controls = [draft::SYNC, draft::UNSYNC, draft::CLEAR, draft::FREEZE];
+                let control = self.random.pick(&controls);
+                let command = self.owners_command(control);
+                self.put_whole(&command);
+            }
+        }
     }
 }

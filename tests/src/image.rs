@@ -13,9 +13,10 @@ const SENDING_DATA: u8 = 7;
 /// The most that the codes may be, octets 16 to 31.
 const CODES: [u8; 16] = [3, 10, 8, 3, 126, 2, 23, 11, 5, 5, 7, 15, 1, 7, 3, 12];
 
-/// Where the lengths begin, and the least of each; they go to 244.
+/// Where the lengths begin, outputs and inputs first, and the least of each; they go to 244. Of outputs and inputs one
+/// is there.
 pub const LENGTHS: usize = 48;
-const LEAST: [u8; 6] = [1, 1, 7, 1, 6, 1];
+const LEAST: [u8; 6] = [0, 0, 7, 1, 6, 1];
 
 /// How many buffers there are of each length.
 const BUFFERS: [usize; 6] = [4, 3, 3, 3, 2, 1];
@@ -65,7 +66,12 @@ pub fn chain_octets(chain: Option<Chain>) -> [u8; 2] {
 
 fn lengths(image: &[u8]) -> bool {
     let mut each = image[LENGTHS..].iter().zip(LEAST);
-    each.all(|(length, least)| (least..=244).contains(length))
+    each.all(|(length, least)| (least..=244).contains(length)) && sides(image) != [0, 0]
+}
+
+/// The lengths of outputs and inputs.
+pub fn sides(image: &[u8]) -> [u8; 2] {
+    [image[LENGTHS], image[LENGTHS + 1]]
 }
 
 fn end_of_buffers(image: &[u8]) -> usize {
@@ -97,10 +103,11 @@ fn set_counts(least: u8, shown: u8, waiting: u8, length: u8) -> bool {
 mod tests {
     use super::*;
 
-    /// Roles, codes and marks 0, the least lengths, diagnosis count 6, no request to be repeated.
+    /// Roles, codes and marks 0, one output, the least lengths else, diagnosis count 6, no request to be repeated.
     fn fresh() -> Vec<u8> {
         let mut image = vec![0; STATE];
         image[LENGTHS..LENGTHS + LEAST.len()].copy_from_slice(&LEAST);
+        image[LENGTHS] = 1;
         image[55] = 127;
         image[56] = 6;
         image
@@ -139,6 +146,30 @@ mod tests {
             assert!(!is_state_with(&[(at, 1)]), "octet {at}");
             assert!(!is_state_with(&[(at, 0x80)]), "octet {at}");
         }
+    }
+
+    #[test]
+    fn outputs_or_inputs_may_have_no_octet_but_not_both() {
+        let sides = |outputs, inputs| [(LENGTHS, outputs), (LENGTHS + 1, inputs)];
+        for (outputs, inputs) in [(0, 1), (1, 0), (0, 244), (244, 0)] {
+            assert!(is_state_with(&sides(outputs, inputs)));
+        }
+        for (outputs, inputs) in [(0, 0), (0, 245), (245, 0), (0, 255), (255, 0)] {
+            assert!(!is_state_with(&sides(outputs, inputs)));
+        }
+    }
+
+    /// In the shortest memory 1,408 octets are there for buffers, 9 times the others' length and what a side takes.
+    #[test]
+    fn a_side_without_octets_takes_no_room() {
+        let with = |sides: [u8; 2], others: u8| -> Vec<(usize, u8)> {
+            let lengths = [sides[0], sides[1], others, others, others, others];
+            (LENGTHS..).zip(lengths).collect()
+        };
+        assert!(is_state_with(&with([0, 104], 120)));
+        assert!(!is_state_with(&with([0, 105], 120)));
+        assert!(is_state_with(&with([64, 0], 128)));
+        assert!(!is_state_with(&with([65, 0], 128)));
     }
 
     #[test]

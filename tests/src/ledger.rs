@@ -1,9 +1,11 @@
-//! A second implementation of the station: the ledger of document 01 (section "The ledger") with Req 01 of document 02,
-//! on lists. The window of Req 02 is in window.rs, the retries of Req 04 are in retries.rs. Req 03 changes no answer.
+//! A second implementation of the station: the ledger of document 01 (section "The ledger") with Req 01 and Req 05 of
+//! document 02, on lists. The window of Req 02 is in window.rs, the retries of Req 04 are in retries.rs. Req 03 changes no
+//! answer.
 //!
 //! It is fed the arguments of the calls alone and has no memory, no buffers and no roles. A telegram's octets are
 //! gathered and acted on whole at the last one; a reply is fixed whole when it is drawn. Where a document can be read in
-//! more than one way the comment at the place says which reading is taken.
+//! more than one way the comment at the place says which reading is taken. A list of outputs or of inputs may be empty;
+//! whether there is one at all is said beside it and never by its length.
 //!
 //! `notes` tells the table of outcomes what happened. No rule looks at it.
 
@@ -33,6 +35,9 @@ const CONTROL_STATUS: u8 = 0x00;
 const CONTROL_RS: u8 = 0x03;
 const CONTROL_DATA: u8 = 0x08;
 const CONTROL_DATA_DIAGNOSIS: u8 = 0x0A;
+
+/// What an SD2 has in place of inputs that are not there: it has at least one data octet.
+const NO_INPUTS: [u8; 1] = [0x00];
 
 const EVENT_EXCHANGE: u32 = 1;
 const EVENT_WATCHDOG: u32 = 3;
@@ -86,7 +91,7 @@ pub struct Outputs {
     pub held: Vec<u8>,
     pub next: Vec<u8>,
     pub news: News,
-    /// The outputs that sync holds back, if there are any.
+    /// The outputs that sync holds back, if it holds some back. The empty list of a station without outputs counts.
     pub held_back: Option<Vec<u8>>,
 }
 
@@ -148,7 +153,7 @@ pub enum Drawn {
     E5,
     Status,
     Rs,
-    /// The inputs, by Data_Exchange.
+    /// The inputs, or the octet in their place, by Data_Exchange. One that drew E5 drew `E5`.
     Exchange,
     ReadInputs,
     ReadOutputs,
@@ -242,7 +247,19 @@ fn accepted_start(values: &StartValues) -> Vec<Outcome> {
     if all_lengths_are(values, 244) {
         reached.push(Outcome::StartAll244);
     }
+    reached.extend(one_sided_start(values));
     reached
+}
+
+fn one_sided_start(values: &StartValues) -> Option<Outcome> {
+    let exact_fit = values.end_of_buffers() == values.memory as u64;
+    match (values.outputs, values.inputs, exact_fit) {
+        (0, _, true) => Some(Outcome::StartNoOutputsExactFit),
+        (0, _, false) => Some(Outcome::StartNoOutputs),
+        (_, 0, true) => Some(Outcome::StartNoInputsExactFit),
+        (_, 0, false) => Some(Outcome::StartNoInputs),
+        _ => None,
+    }
 }
 
 fn all_lengths_are(values: &StartValues, length: u32) -> bool {
@@ -265,7 +282,7 @@ fn start_refusal(values: &StartValues) -> Option<Refusal> {
     memory_refusal(values.memory)
         .or((values.address > 126).then_some((2, Outcome::Refuse2)))
         .or_else(|| length_refusal(values))
-        .or((values.end_of_buffers() > values.memory as u64).then_some((4, Outcome::Refuse4)))
+        .or_else(|| room_refusal(values))
 }
 
 fn memory_refusal(length: usize) -> Option<Refusal> {
@@ -277,11 +294,13 @@ fn memory_refusal(length: usize) -> Option<Refusal> {
     }
 }
 
+/// Outputs and inputs may have no octet, but not both: document 02, Req 05.
 fn length_refusal(values: &StartValues) -> Option<Refusal> {
     let slice = values.get_cfg.len() as u32;
+    let neither = values.outputs == 0 && values.inputs == 0;
     let limits = [
-        (values.outputs, 1, Outcome::Refuse3Outputs),
-        (values.inputs, 1, Outcome::Refuse3Inputs),
+        (values.outputs, 0, Outcome::Refuse3Outputs),
+        (values.inputs, 0, Outcome::Refuse3Inputs),
         (values.parameters, 7, Outcome::Refuse3Parameters),
         (values.configuration, 1, Outcome::Refuse3Configuration),
         (values.diagnosis, DIAGNOSIS_HEAD, Outcome::Refuse3Diagnosis),
@@ -291,6 +310,16 @@ fn length_refusal(values: &StartValues) -> Option<Refusal> {
         .into_iter()
         .find(|(length, least, _)| !(*least..=244).contains(length))
         .map(|(_, _, cause)| (3, cause))
+        .or(neither.then_some((3, Outcome::Refuse3Neither)))
+}
+
+fn room_refusal(values: &StartValues) -> Option<Refusal> {
+    let cause = match (values.outputs, values.inputs) {
+        (0, _) => Outcome::Refuse4NoOutputs,
+        (_, 0) => Outcome::Refuse4NoInputs,
+        _ => Outcome::Refuse4,
+    };
+    (values.end_of_buffers() > values.memory as u64).then_some((4, cause))
 }
 
 /// Start, and the calls by their names.
@@ -641,6 +670,14 @@ impl Ledger {
         self.owner == Some(source(telegram))
     }
 
+    pub fn has_outputs(&self) -> bool {
+        self.values.outputs != 0
+    }
+
+    pub fn has_inputs(&self) -> bool {
+        self.values.inputs != 0
+    }
+
     /// To 127 only Global_Control acts: functions 4 and 6, DSAP 58, SSAP 62.
     fn serve_everybody(&mut self, telegram: &Telegram) {
         match (telegram.control & 0x0F, telegram.extended()) {
@@ -814,14 +851,21 @@ impl Ledger {
         self.reply_short(telegram, CONTROL_RS, Drawn::Rs);
     }
 
-    /// The inputs that the controller sends now.
+    /// The inputs that the controller sends now. Without inputs it is E5, and an SD2 only where there is Diag_Flag to be
+    /// told: document 02, Req 05. Which of the two is decided when it is drawn: a repeat of one that drew E5 is E5 and does
+    /// not come here.
     pub fn reply_exchange(&mut self, telegram: &Telegram) {
-        let control = match self.diag_flag {
-            true => CONTROL_DATA_DIAGNOSIS,
-            false => CONTROL_DATA,
-        };
-        let (master, own) = (source(telegram), self.address());
-        let octets = telegram::sd2(master, own, control, &self.inputs.sent);
+        let inputs = self.inputs.sent.clone();
+        match (self.has_inputs(), self.diag_flag) {
+            (true, false) => self.reply_data(telegram, CONTROL_DATA, &inputs),
+            (true, true) => self.reply_data(telegram, CONTROL_DATA_DIAGNOSIS, &inputs),
+            (false, true) => self.reply_data(telegram, CONTROL_DATA_DIAGNOSIS, &NO_INPUTS),
+            (false, false) => self.reply_e5(),
+        }
+    }
+
+    fn reply_data(&mut self, telegram: &Telegram, control: u8, data: &[u8]) {
+        let octets = telegram::sd2(source(telegram), self.address(), control, data);
         self.reply(octets, Drawn::Exchange);
     }
 
@@ -845,7 +889,7 @@ impl Ledger {
         self.reply_from_point(telegram, POINT_SLAVE_DIAG, &data, Drawn::SlaveDiag);
     }
 
-    /// SD2, FC 08, bit 7 in both addresses, data 3E, DSAP, then the data.
+    /// SD2, FC 08, bit 7 in both addresses, data 3E, DSAP, then the data, which may be none.
     fn reply_from_point(&mut self, telegram: &Telegram, point: u8, data: &[u8], drawn: Drawn) {
         let octets = telegram::sd2(
             source(telegram) | telegram::EXTENSION,
@@ -1019,7 +1063,7 @@ impl Ledger {
         self.note_if(telegram.form == Form::Sd3, Outcome::CfgBySd3);
     }
 
-    /// SD1 with function 12 or 13 is a Data_Exchange without data.
+    /// SD1 with function 12 or 13 is a Data_Exchange without data, which is the right count where there are no outputs.
     fn data_exchange(&mut self, telegram: &Telegram) {
         if !self.is_owner(telegram) {
             self.note(Outcome::DxNotOwner);
@@ -1030,11 +1074,7 @@ impl Ledger {
             return self.reply_rs(telegram);
         }
         if telegram.data.len() != self.values.outputs as usize {
-            self.note(match telegram.form {
-                Form::Sd1 => Outcome::DxCountSd1,
-                _ => Outcome::DxCount,
-            });
-            self.note_if(self.holds_back(), Outcome::DxCountInSync);
+            self.note_wrong_count(telegram);
             self.reply_rs(telegram);
             self.cfg_fault = true;
             return self.enter_wait_prm();
@@ -1053,7 +1093,20 @@ impl Ledger {
         self.reply_exchange(telegram);
     }
 
+    fn note_wrong_count(&mut self, telegram: &Telegram) {
+        self.note(match (self.has_outputs(), telegram.form) {
+            (true, Form::Sd1) => Outcome::DxCountSd1,
+            (true, _) => Outcome::DxCount,
+            (false, Form::Sd3) => Outcome::DxCountNoOutputsSd3,
+            (false, _) => Outcome::DxCountNoOutputs,
+        });
+        self.note_if(self.holds_back(), Outcome::DxCountInSync);
+    }
+
     fn note_inputs_sent(&mut self) {
+        if !self.has_inputs() {
+            return self.note_no_inputs_sent();
+        }
         self.note(match (self.freeze.on, self.inputs.next_is_new) {
             (false, true) => Outcome::DxNewInputs,
             (false, false) => Outcome::DxOldInputs,
@@ -1066,16 +1119,35 @@ impl Ledger {
         });
     }
 
+    fn note_no_inputs_sent(&mut self) {
+        self.note(match (self.diag_flag, self.sync.on) {
+            (false, false) => Outcome::DxE5,
+            (false, true) => Outcome::DxE5HeldBack,
+            (true, false) => Outcome::DxNoInputsDiagFlag,
+            (true, true) => Outcome::DxNoInputsDiagFlagHeldBack,
+        });
+        self.note_if(self.inputs.next_is_new, Outcome::DxNoInputsHandedOver);
+    }
+
     fn note_published(&mut self, telegram: &Telegram) {
         self.note_if(telegram.form == Form::Sd3, Outcome::DxBySd3);
         self.note_if(telegram.data.len() == 244, Outcome::Dx244);
         self.note_if(self.outputs.news != News::Nothing, Outcome::DxReplaces);
+        if !self.has_outputs() {
+            self.note(match self.outputs.news {
+                News::Nothing => Outcome::DxEmpty,
+                News::FromMaster => Outcome::DxEmptyReplaces,
+                News::ZerosByStation => Outcome::DxEmptyOverZeros,
+            });
+        }
     }
 
     fn note_held_back(&mut self, telegram: &Telegram) {
-        self.note(match self.holds_back() {
-            true => Outcome::DxHeldBackReplaces,
-            false => Outcome::DxHeldBack,
+        self.note(match (self.holds_back(), self.has_outputs()) {
+            (true, true) => Outcome::DxHeldBackReplaces,
+            (false, true) => Outcome::DxHeldBack,
+            (true, false) => Outcome::DxEmptyHeldBackReplaces,
+            (false, false) => Outcome::DxEmptyHeldBack,
         });
         let not_taken = self.outputs.news != News::Nothing;
         self.note_if(not_taken, Outcome::DxHeldBackBehindNew);
@@ -1170,7 +1242,10 @@ impl Ledger {
             return self.reply_rs(telegram);
         }
         let frozen_new = self.freeze.on && self.inputs.next_is_new;
-        self.note(Outcome::ReadInputs);
+        self.note(match self.has_inputs() {
+            true => Outcome::ReadInputs,
+            false => Outcome::ReadNoInputs,
+        });
         self.note_if(frozen_new, Outcome::ReadInputsFrozen);
         self.reply_inputs(telegram);
     }
@@ -1180,7 +1255,10 @@ impl Ledger {
             self.note(Outcome::ReadOutputsRs);
             return self.reply_rs(telegram);
         }
-        self.note(Outcome::ReadOutputs);
+        self.note(match self.has_outputs() {
+            true => Outcome::ReadOutputs,
+            false => Outcome::ReadNoOutputs,
+        });
         self.note_if(self.holds_back(), Outcome::ReadOutputsHeldBack);
         self.reply_outputs(telegram);
     }
@@ -1244,6 +1322,12 @@ impl Ledger {
             (Command::End, true, false) => Outcome::GcUnsyncNothing,
             (Command::End, false, false) => Outcome::GcUnsyncWithoutSync,
         });
+        if self.holds_back_empty() {
+            self.note(match command {
+                Command::Begin => Outcome::GcSyncPublishesEmpty,
+                Command::End => Outcome::GcUnsyncPublishesEmpty,
+            });
+        }
         if let Some(outputs) = self.outputs.held_back.take() {
             self.publish(outputs, News::FromMaster);
         }
@@ -1263,6 +1347,12 @@ impl Ledger {
             (Command::End, false, true) => Outcome::GcUnfreezeWithoutFreezeNewInputs,
             (Command::End, false, false) => Outcome::GcUnfreezeWithoutFreezeOldInputs,
         });
+        if new && !self.has_inputs() {
+            self.note(match command {
+                Command::Begin => Outcome::GcFreezeNoInputs,
+                Command::End => Outcome::GcUnfreezeNoInputs,
+            });
+        }
         self.bring_new_inputs();
         self.freeze.on = command == Command::Begin;
     }
@@ -1321,6 +1411,8 @@ impl Ledger {
                 Some(Command::End) => Outcome::GcUnsyncAndClear,
             });
         }
+        let empties = clears && sync.is_none() && self.holds_back_empty();
+        self.note_if(empties, Outcome::GcClearEmptyHeldBack);
         let nothing_held_back = clears && self.sync.on && !self.holds_back();
         self.note_if(nothing_held_back, Outcome::GcClearNothingHeldBack);
     }
@@ -1357,6 +1449,11 @@ impl Ledger {
         self.outputs.held_back.is_some()
     }
 
+    /// "The empty list, which sync holds back like any other."
+    fn holds_back_empty(&self) -> bool {
+        self.holds_back() && !self.has_outputs()
+    }
+
     /// Nothing that is held back is published by this, and what is allowed stays.
     fn end_modes(&mut self) {
         self.sync.on = false;
@@ -1366,6 +1463,7 @@ impl Ledger {
 
     fn note_modes_end(&mut self, sync: Outcome, freeze: Outcome) {
         self.note_if(self.holds_back(), sync);
+        self.note_if(self.holds_back_empty(), Outcome::SyncEndsEmpty);
         self.note_if(self.freeze.on, freeze);
     }
 
@@ -1378,7 +1476,9 @@ impl Ledger {
     fn publish_zeros(&mut self) {
         let zeros = vec![0; self.values.outputs as usize];
         let over_new = self.outputs.news == News::FromMaster;
+        let over_empty = over_new && !self.has_outputs();
         self.note_if(over_new, Outcome::ZerosOverNew);
+        self.note_if(over_empty, Outcome::ZerosOverEmpty);
         self.publish(zeros, News::ZerosByStation);
     }
 
@@ -1632,13 +1732,19 @@ impl Ledger {
             News::Nothing => {
                 self.note(Outcome::Take0);
                 self.note_if(self.holds_back(), Outcome::Take0HeldBack);
+                self.note_if(self.holds_back_empty(), Outcome::Take0HeldBackEmpty);
                 return 0;
             }
             News::FromMaster => 1,
             News::ZerosByStation => 2,
         };
         let under_reply = self.reply_is_unfinished() && self.reply.drawn == Drawn::ReadOutputs;
-        self.note([Outcome::Take1, Outcome::Take2][answer as usize - 1]);
+        self.note(match (answer, self.has_outputs()) {
+            (1, true) => Outcome::Take1,
+            (1, false) => Outcome::Take1Empty,
+            (_, true) => Outcome::Take2,
+            (_, false) => Outcome::Take2Empty,
+        });
         self.note_if(self.holds_back(), Outcome::TakeNewHeldBack);
         self.note_if(under_reply, Outcome::ReadOutputsTake);
         self.note_if(self.telegram_is_begun(), Outcome::TakeInTelegram);
@@ -1674,6 +1780,8 @@ impl Ledger {
         if (1..=3).contains(&kind) {
             return Err((7, Outcome::Refuse7WriteKind));
         }
+        let no_inputs = kind == 4 && !self.has_inputs();
+        self.note_if(no_inputs, Outcome::Refuse7WriteNoInputs);
         self.check_range(kind, index)?;
         let at = index as usize;
         if kind == 4 {
@@ -1688,7 +1796,7 @@ impl Ledger {
         Ok(0)
     }
 
-    /// "Index from 0, for 5 from 6, below the kind's set length."
+    /// "Index from 0, for 5 from 6, below the kind's set length." No index is below 0.
     fn check_range(&self, kind: u32, index: u32) -> Result<(), Refusal> {
         let Some(length) = self.set_length(kind) else {
             return Err((7, Outcome::Refuse7Kind));
@@ -1697,7 +1805,12 @@ impl Ledger {
             return Err((7, Outcome::Refuse7IndexLow));
         }
         if index >= length {
-            return Err((7, Outcome::Refuse7Index));
+            let cause = match (kind, length) {
+                (1, 0) => Outcome::Refuse7NoOutputs,
+                (_, 0) => Outcome::Refuse7NoInputs,
+                _ => Outcome::Refuse7Index,
+            };
+            return Err((7, cause));
         }
         Ok(())
     }
@@ -1715,8 +1828,11 @@ impl Ledger {
 
     fn hand_over_inputs(&mut self) -> i64 {
         let with_inputs = matches!(self.reply.drawn, Drawn::Exchange | Drawn::ReadInputs);
-        let under_reply = self.reply_is_unfinished() && with_inputs;
-        self.note(Outcome::HandOver);
+        let under_reply = self.reply_is_unfinished() && with_inputs && self.has_inputs();
+        self.note(match self.has_inputs() {
+            true => Outcome::HandOver,
+            false => Outcome::HandOverNoInputs,
+        });
         self.note_if(self.inputs.next_is_new, Outcome::HandOverAgain);
         self.note_if(self.freeze.on, Outcome::HandOverFrozen);
         self.note_if(under_reply, Outcome::ReplyHandOver);

@@ -1,5 +1,5 @@
 //! The second implementation with one master, for the tests of single sentences: address 5, ident 80B3, master 2, one
-//! output, one input, up to nine octets of diagnosis.
+//! output, one input if nothing else is said, up to nine octets of diagnosis.
 
 use crate::call::{self, Call};
 use crate::draft::{self, Draft};
@@ -22,20 +22,31 @@ impl Line {
     }
 
     pub fn fresh() -> Line {
+        Line::with_lengths(1, 1)
+    }
+
+    /// Fresh, with this number of outputs and of inputs.
+    pub fn with_lengths(outputs: u32, inputs: u32) -> Line {
         let mut line = Line::without_start();
-        assert_eq!(line.call("start 1536 5 32947 1 1 7 1 9 20"), 0);
+        let start = format!("start 1536 5 32947 {outputs} {inputs} 7 1 9 20");
+        assert_eq!(line.call(&start), 0);
         line
     }
 
     /// In DATA_EXCH with these pairs allowed, no event set and nothing to take.
     pub fn allowing(allowed: u8) -> Line {
         let mut line = Line::fresh();
-        line.set_prm(allowed);
-        assert_eq!(line.call("judgeprm 1"), 0);
-        line.chk_cfg();
-        assert_eq!(line.call("judgecfg 1"), 0);
-        assert_eq!(line.call("ack 65535"), 0);
+        line.enter_exchange(allowed);
         line
+    }
+
+    /// From WAIT_PRM to DATA_EXCH with these pairs allowed; then no event is set.
+    pub fn enter_exchange(&mut self, allowed: u8) {
+        self.set_prm(allowed);
+        assert_eq!(self.call("judgeprm 1"), 0);
+        self.chk_cfg();
+        assert_eq!(self.call("judgecfg 1"), 0);
+        assert_eq!(self.call("ack 65535"), 0);
     }
 
     pub fn call(&mut self, line: &str) -> i64 {

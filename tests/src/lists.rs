@@ -107,6 +107,7 @@ fn damage(
         trial.try_chain()?;
         trial.try_unused()?;
         trial.try_lengths()?;
+        trial.try_sides()?;
     }
     Ok(())
 }

@@ -1,4 +1,4 @@
-//! Compares the C library of the station with a second implementation of document 01 and of Req 01 to 04 of document 02.
+//! Compares the C library of the station with a second implementation of document 01 and of Req 01 to 05 of document 02.
 //! See tests/README.md.
 
 #[cfg(test)]
@@ -18,6 +18,8 @@ mod line;
 mod lists;
 #[cfg(test)]
 mod modes;
+#[cfg(test)]
+mod one_sided;
 mod outcome;
 mod random;
 #[cfg(test)]
@@ -32,7 +34,7 @@ use std::path::Path;
 use std::process::ExitCode;
 use std::time::Instant;
 
-const LISTS: u64 = 600;
+const LISTS: u64 = 900;
 const LENGTH: usize = 3000;
 
 const USAGE: &str =

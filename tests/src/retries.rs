@@ -69,7 +69,8 @@ impl Ledger {
 
     /// "A repeat changes nothing": the reply is formed from what stands now, with no question of phase or owner, and
     /// neither are inputs brought nor is Diag_Flag cleared. The owner's watchdog was refilled before, as by every acting
-    /// telegram.
+    /// telegram. "One that drew E5" also is a Data_Exchange without inputs and without Diag_Flag: its repeat draws E5,
+    /// whatever Diag_Flag is now.
     fn draw_again(&mut self, telegram: &Telegram, drawn: Drawn) {
         match drawn {
             Drawn::Nothing => {}
@@ -165,13 +166,13 @@ impl Ledger {
     }
 
     pub fn trace_taken(&mut self) {
-        let of_outputs = self.chain_is_of(Drawn::ReadOutputs);
+        let of_outputs = self.has_outputs() && self.chain_is_of(Drawn::ReadOutputs);
         self.trace_if(of_outputs, Outcome::RepeatReadOutputsTaken);
     }
 
     pub fn trace_inputs_brought(&mut self) {
-        let of_exchange = self.chain_is_of(Drawn::Exchange);
-        let of_inputs = self.chain_is_of(Drawn::ReadInputs);
+        let of_exchange = self.has_inputs() && self.chain_is_of(Drawn::Exchange);
+        let of_inputs = self.has_inputs() && self.chain_is_of(Drawn::ReadInputs);
         self.trace_if(of_exchange, Outcome::RepeatExchangeBrought);
         self.trace_if(of_inputs, Outcome::RepeatReadInputsBrought);
     }
@@ -245,18 +246,30 @@ impl Ledger {
         let outside = self.phase != Phase::DataExch;
         let owner = self.is_owner(telegram);
         match drawn {
+            Drawn::E5 if self.request_was_exchange() => self.note_exchange_again(telegram, drawn),
             Drawn::E5 => self.note_acknowledged_again(telegram, owner),
             Drawn::Rs => self.note_rs_again(),
-            Drawn::Exchange if outside => self.note(Outcome::RepeatExchangeOutside),
-            Drawn::Exchange => self.note_exchange_again(telegram),
-            Drawn::ReadInputs => self.note_if(outside, Outcome::RepeatReadInputsOutside),
-            Drawn::ReadOutputs => self.note_if(outside, Outcome::RepeatReadOutputsOutside),
+            Drawn::Exchange => self.note_exchange_again(telegram, drawn),
+            Drawn::ReadInputs => {
+                self.note_if(outside, Outcome::RepeatReadInputsOutside);
+                self.note_if(!self.has_inputs(), Outcome::RepeatReadNoInputs);
+            }
+            Drawn::ReadOutputs => {
+                self.note_if(outside, Outcome::RepeatReadOutputsOutside);
+                self.note_if(!self.has_outputs(), Outcome::RepeatReadNoOutputs);
+            }
             Drawn::SlaveDiag => {
                 let would_clear = owner && self.diag_flag && !self.flag(FLAG_STAT_DIAG);
                 self.note_if(would_clear, Outcome::RepeatDiagKeepsFlag);
             }
             Drawn::Nothing | Drawn::Status | Drawn::GetCfg => {}
         }
+    }
+
+    /// Of those that draw E5 Data_Exchange alone has no extension.
+    fn request_was_exchange(&self) -> bool {
+        let earlier = self.traces.request.as_ref();
+        earlier.is_some_and(|(telegram, _)| telegram.extended().is_none())
     }
 
     fn note_acknowledged_again(&mut self, telegram: &Telegram, owner: bool) {
@@ -295,14 +308,49 @@ impl Ledger {
         self.note_if(lacked_exchange && now_inside, Outcome::RepeatRsInExchange);
     }
 
-    /// Where a new Data_Exchange would bring inputs, publish or hold back.
-    fn note_exchange_again(&mut self, telegram: &Telegram) {
+    fn note_exchange_again(&mut self, telegram: &Telegram, drawn: Drawn) {
+        match drawn {
+            Drawn::E5 => self.note_e5_of_exchange_again(),
+            _ if self.has_inputs() => self.note_inputs_again(),
+            _ => self.note_no_inputs_again(),
+        }
+        if self.phase == Phase::DataExch {
+            self.note_outputs_again(telegram);
+        }
+    }
+
+    /// It drew E5 because Diag_Flag was clear, so that one that is set now was set since.
+    fn note_e5_of_exchange_again(&mut self) {
+        let outside = self.phase != Phase::DataExch;
+        self.note(match self.diag_flag {
+            true => Outcome::RepeatE5ExchangeDiagFlag,
+            false => Outcome::RepeatE5Exchange,
+        });
+        self.note_if(outside, Outcome::RepeatE5ExchangeOutside);
+    }
+
+    fn note_no_inputs_again(&mut self) {
+        self.note(match self.phase {
+            Phase::DataExch => Outcome::RepeatNoInputs,
+            _ => Outcome::RepeatNoInputsOutside,
+        });
+    }
+
+    /// Where a new Data_Exchange would bring inputs.
+    fn note_inputs_again(&mut self) {
+        if self.phase != Phase::DataExch {
+            return self.note(Outcome::RepeatExchangeOutside);
+        }
         let inputs_wait = self.inputs.next_is_new && !self.freeze.on;
         self.note(match self.diag_flag {
             true => Outcome::RepeatExchangeDiagFlag,
             false => Outcome::RepeatExchangePlain,
         });
         self.note_if(inputs_wait, Outcome::RepeatExchangeNewInputs);
+    }
+
+    /// Where a new Data_Exchange would publish or hold back.
+    fn note_outputs_again(&mut self, telegram: &Telegram) {
         self.note(match (self.sync.on, self.holds_back(), self.outputs.news) {
             (true, true, _) => Outcome::RepeatExchangeHeldBack,
             (true, false, _) => Outcome::RepeatExchangeInSync,
@@ -310,6 +358,9 @@ impl Ledger {
             (false, _, News::ZerosByStation) => Outcome::RepeatExchangeCleared,
             (false, _, News::Nothing) => Outcome::RepeatExchangeTaken,
         });
+        if !self.has_outputs() {
+            return self.note_empty_list_again();
+        }
         let could_be_accepted = telegram.extended().is_none()
             && sends_and_requests(telegram)
             && telegram.data.len() == self.values.outputs as usize;
@@ -318,13 +369,26 @@ impl Ledger {
         }
     }
 
+    /// A second empty list would show where the first is no longer there to be taken or held back.
+    fn note_empty_list_again(&mut self) {
+        match (self.sync.on, self.holds_back(), self.outputs.news) {
+            (true, false, _) => self.note(Outcome::RepeatEmptyInSync),
+            (false, _, News::ZerosByStation) => self.note(Outcome::RepeatEmptyCleared),
+            (false, _, News::Nothing) => self.note(Outcome::RepeatEmptyTaken),
+            _ => {}
+        }
+    }
+
     fn note_other_outputs(&mut self, outputs: &[u8]) {
         let not_held_back = self.outputs.held_back.as_deref() != Some(outputs);
         let not_published = self.outputs.next != outputs && self.outputs.held != outputs;
-        match self.sync.on {
-            true => self.note_if(not_held_back, Outcome::RepeatHeldBackOtherOutputs),
-            false => self.note_if(not_published, Outcome::RepeatOtherOutputs),
-        }
+        let (other, outcome) = match (self.sync.on, self.has_inputs()) {
+            (true, true) => (not_held_back, Outcome::RepeatHeldBackOtherOutputs),
+            (false, true) => (not_published, Outcome::RepeatOtherOutputs),
+            (true, false) => (not_held_back, Outcome::RepeatNoInputsHeldBackOtherOutputs),
+            (false, false) => (not_published, Outcome::RepeatNoInputsOtherOutputs),
+        };
+        self.note_if(other, outcome);
     }
 }
 

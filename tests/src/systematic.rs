@@ -2,7 +2,8 @@
 //! each octet changed to each value, with each other call at each place inside it and inside its reply, and the
 //! octets that decide what a telegram is are run through all their values with a check sum that is right. Every address of
 //! the window is read and written in both orders. Each kind of request follows each other one with every choice of master
-//! and of the bits that tell a repeat; elsewhere FCV is clear, so that a telegram shows its own rule.
+//! and of the bits that tell a repeat; elsewhere FCV is clear, so that a telegram shows its own rule. Some of the states are
+//! those of stations without outputs or without inputs.
 
 use crate::call::{Call, Order, StartValues};
 use crate::compare::{Difference, Pair};
@@ -61,6 +62,10 @@ impl Walker<'_> {
         pair.run(calls)
     }
 
+    fn outputs(&self) -> usize {
+        outputs_of(self.base)
+    }
+
     fn hear(&mut self, pair: &mut Pair) -> Compared {
         loop {
             self.calls += 1;
@@ -87,6 +92,11 @@ fn look_around() -> Vec<Call> {
     let diagnosis = Draft::to_point(STATION, OTHER_MASTER, draft::SLAVE_DIAG, vec![]);
     calls.extend(telegram_calls(&diagnosis.octets()));
     calls
+}
+
+fn outputs_of(pair: &Pair) -> usize {
+    let ledger = pair.station.ledger.as_ref();
+    ledger.map_or(0, |ledger| ledger.values.outputs as usize)
 }
 
 fn is_exchanging(pair: &Pair) -> bool {
@@ -128,12 +138,16 @@ fn sends(count: usize) -> Vec<Call> {
 }
 
 fn start() -> Call {
+    start_with(2, 3)
+}
+
+fn start_with(outputs: u32, inputs: u32) -> Call {
     Call::Start(StartValues {
         memory: 1536,
         address: STATION.into(),
         ident: IDENT,
-        outputs: 2,
-        inputs: 3,
+        outputs,
+        inputs,
         parameters: 9,
         configuration: 4,
         diagnosis: 9,
@@ -158,15 +172,20 @@ fn control(control: u8, group: u8) -> Vec<u8> {
 }
 
 fn exchange(data: &[u8]) -> Vec<u8> {
-    Draft::exchange(STATION, MASTER, data.to_vec()).octets()
+    exchange_of(data.len(), data).octets()
 }
 
-/// The telegrams that are tried in every state.
-fn telegrams() -> Vec<(&'static str, Vec<u8>)> {
+/// A Data_Exchange for a station that has two outputs or none: with as many of these two.
+fn exchange_of(outputs: usize, data: &[u8]) -> Draft {
+    Draft::exchange(STATION, MASTER, data[..outputs].to_vec())
+}
+
+/// The telegrams that are tried in every state, for a station with this number of outputs.
+fn telegrams(outputs: usize) -> Vec<(&'static str, Vec<u8>)> {
     let unlock = [&[0xC0], &good_parameters(None)[1..]].concat();
     let clear = |station| Draft::global_control(station, MASTER, draft::CLEAR, 0x01).octets();
     let by_sd3 = telegram::sd3(STATION, MASTER, draft::REQUEST, &[1; 8]);
-    let counted = Draft::exchange(STATION, MASTER, vec![0x7C, 0x7D]).counted(false);
+    let exchange_of = |data: &[u8]| exchange_of(outputs, data);
     vec![
         ("status", Draft::status(STATION, MASTER).octets()),
         (
@@ -182,10 +201,13 @@ fn telegrams() -> Vec<(&'static str, Vec<u8>)> {
         ),
         ("Set_Prm that unlocks", request(draft::SET_PRM, &unlock)),
         ("Chk_Cfg", request(draft::CHK_CFG, &[0x21, 0x12])),
-        ("Data_Exchange", exchange(&[0x7A, 0x7B])),
+        ("Data_Exchange", exchange_of(&[0x7A, 0x7B]).octets()),
         ("Data_Exchange with one octet", exchange(&[0x7A])),
         ("Data_Exchange by SD3", by_sd3),
-        ("Data_Exchange with FCV set", counted.octets()),
+        (
+            "Data_Exchange with FCV set",
+            exchange_of(&[0x7C, 0x7D]).counted(false).octets(),
+        ),
         (
             "Data_Exchange by SD1",
             telegram::sd1(STATION, MASTER, draft::REQUEST),
@@ -356,6 +378,76 @@ fn ways() -> Vec<(&'static str, Vec<Call>)> {
     ]
 }
 
+/// The ways to states of stations without outputs or without inputs. A repeat with FCB clear may follow in three of them.
+fn ways_of_one_side() -> Vec<(&'static str, Vec<Call>)> {
+    [ways_without_outputs(), ways_without_inputs()].concat()
+}
+
+fn ways_without_outputs() -> Vec<(&'static str, Vec<Call>)> {
+    let entered = started_and_entered(0, 3);
+    let empty_held_back = [
+        entered.clone(),
+        telegram_calls(&exchange(&[])),
+        telegram_calls(&control(draft::SYNC, 0)),
+        counted_exchange(&[]),
+        sends(12),
+        new_inputs(0x32),
+    ]
+    .concat();
+    vec![
+        (
+            "no outputs, new inputs",
+            [entered, new_inputs(0x31)].concat(),
+        ),
+        (
+            "no outputs, the empty list held back, another not taken",
+            empty_held_back,
+        ),
+    ]
+}
+
+fn ways_without_inputs() -> Vec<(&'static str, Vec<Call>)> {
+    let entered = started_and_entered(2, 0);
+    let diagnosis = vec![Call::NewDiagnosis { count: 8, flags: 1 }];
+    let drew_e5 = [
+        entered.clone(),
+        counted_exchange(&[0x11, 0x12]),
+        sends(1),
+        diagnosis.clone(),
+    ]
+    .concat();
+    let drew_an_octet = [
+        entered.clone(),
+        diagnosis,
+        telegram_calls(&control(draft::SYNC, 0)),
+        counted_exchange(&[0x13, 0x14]),
+        sends(3),
+        vec![Call::HandOver],
+    ]
+    .concat();
+    vec![
+        ("no inputs", entered),
+        ("no inputs, E5 drawn, then a diagnosis given", drew_e5),
+        (
+            "no inputs, FC 0A and 00 under way, outputs held back",
+            drew_an_octet,
+        ),
+    ]
+}
+
+/// From Start with these lengths of outputs and inputs to DATA_EXCH.
+fn started_and_entered(outputs: u32, inputs: u32) -> Vec<Call> {
+    let parameters = good_parameters(Some((1, 2)));
+    let start = vec![start_with(outputs, inputs)];
+    [start, exchange_entered(&parameters)].concat()
+}
+
+/// A Data_Exchange with FCV set and FCB clear.
+fn counted_exchange(data: &[u8]) -> Vec<Call> {
+    let draft = exchange_of(data.len(), data).counted(false);
+    telegram_calls(&draft.octets())
+}
+
 /// A Slave_Diag with FCV set was heard in part, and there are newer outputs, inputs and diagnosis than its own.
 fn way_to_a_chain(exchanging: Vec<Call>) -> Vec<Call> {
     let slave_diag = Draft::to_point(STATION, MASTER, draft::SLAVE_DIAG, vec![]);
@@ -438,7 +530,7 @@ fn exchange_entered(parameters: &[u8]) -> Vec<Call> {
 
 /// Runs everything; answers the number of calls compared.
 pub fn run(threads: usize) -> Result<u64, String> {
-    let all = bases(ways())?;
+    let all = bases([ways(), ways_of_one_side()].concat())?;
     let modes = bases(ways_to_modes())?;
     let events = bases(way_to_events())?;
     let mut tasks = tasks(&all, &modes);
@@ -540,7 +632,7 @@ fn push_telegrams<'a>(tasks: &mut Vec<Task<'a>>, base: &'a Base) {
         ("calls inside", calls_inside),
         ("calls in the reply", calls_in_the_reply),
     ];
-    for (name, octets) in telegrams() {
+    for (name, octets) in telegrams(outputs_of(&base.pair)) {
         for (way, run) in ways {
             let octets = octets.clone();
             push(tasks, base, format!("{name}, {way}"), move |walker| {
@@ -597,7 +689,7 @@ fn change_with_good_check_sum(walker: &mut Walker, octets: &[u8]) -> Compared {
 /// Whether a telegram refills the watchdog shows in the tick at which that expires.
 fn every_telegram_between_ticks(walker: &mut Walker) -> Compared {
     let ticks = |count| vec![Call::Tick; count];
-    for (_, octets) in telegrams() {
+    for (_, octets) in telegrams(walker.outputs()) {
         for before in 1..=2 {
             for behind in 1..=3 {
                 let calls = [ticks(before), telegram_calls(&octets), ticks(behind)];
@@ -678,7 +770,7 @@ fn every_octet_written(walker: &mut Walker) -> Compared {
 fn every_control(walker: &mut Walker) -> Compared {
     let drafts = [
         Draft::status(STATION, MASTER),
-        Draft::exchange(STATION, MASTER, vec![1, 2]),
+        exchange_of(walker.outputs(), &[1, 2]),
         Draft::to_point(STATION, MASTER, draft::SLAVE_DIAG, vec![]),
         Draft::global_control(STATION, MASTER, 0x02, 0),
         Draft::global_control(127, MASTER, 0x02, 0),
@@ -740,7 +832,7 @@ fn every_count(walker: &mut Walker) -> Compared {
             walker.variant(&telegram_calls(&request(point, &data)))?;
         }
     }
-    for count in 1..=246 {
+    for count in 0..=246 {
         walker.variant(&telegram_calls(&exchange(&vec![0x5E; count])))?;
     }
     Ok(())
@@ -765,7 +857,8 @@ fn every_first_parameter(walker: &mut Walker) -> Compared {
 /// back: the second time octet 0 is no longer new.
 fn every_global_control(walker: &mut Walker) -> Compared {
     let look = vec![Call::Events, Call::Take];
-    let between = [telegram_calls(&exchange(&[0x15, 0x16])), new_inputs(0x33)].concat();
+    let exchanged = exchange_of(walker.outputs(), &[0x15, 0x16]).octets();
+    let between = [telegram_calls(&exchanged), new_inputs(0x33)].concat();
     for octet in 0..=255 {
         for group in [0, 0x01, 0x10, 0xF0, 0xFF] {
             let commanded = telegram_calls(&control(octet, group));
@@ -797,8 +890,8 @@ fn every_permission(walker: &mut Walker) -> Compared {
     Ok(())
 }
 
-/// Of each thing that can be drawn at least one request, with FCV clear.
-fn requests() -> Vec<Draft> {
+/// Of each thing that a station with this number of outputs can be made to draw at least one request, with FCV clear.
+fn requests(outputs: usize) -> Vec<Draft> {
     let to_point = |point, data: &[u8]| Draft::to_point(STATION, MASTER, point, data.to_vec());
     let status = Draft::status(STATION, MASTER);
     vec![
@@ -811,7 +904,7 @@ fn requests() -> Vec<Draft> {
         to_point(draft::SET_PRM, &good_parameters(Some((1, 3)))),
         to_point(draft::SET_PRM, &[0x80]),
         to_point(draft::CHK_CFG, &[0x21]),
-        Draft::exchange(STATION, MASTER, vec![0x71, 0x72]),
+        exchange_of(outputs, &[0x71, 0x72]),
         Draft::exchange(STATION, MASTER, vec![0x71]),
         to_point(draft::SLAVE_DIAG, &[]),
         to_point(draft::GET_CFG, &[]),
@@ -858,14 +951,15 @@ fn with_every_count(draft: &Draft) -> Vec<Draft> {
 
 /// Two telegrams, and a third that tells which chain they left: a status that is no repeat draws the status.
 fn every_request_behind_every_other(walker: &mut Walker) -> Compared {
-    let followers = [requests(), no_requests()].concat();
+    let requests = requests(walker.outputs());
+    let followers = [requests.clone(), no_requests()].concat();
     let followers: Vec<Draft> = followers.iter().flat_map(with_every_count).collect();
     let status = Draft::status(STATION, MASTER);
     let probes: Vec<Draft> = with_every_count(&status)
         .into_iter()
         .filter(|probe| probe.control & draft::FCV != 0 && probe.source != 127)
         .collect();
-    for first in requests() {
+    for first in requests {
         let first = telegram_calls(&first.counted(false).octets());
         for second in &followers {
             let calls = [first.clone(), heard(&telegram_calls(&second.octets()))].concat();
@@ -910,7 +1004,7 @@ fn between_repeats() -> Vec<Vec<Call>> {
 /// As it was and with other data, its reply heard or not, with one or two other things between; and then once more, as
 /// a repeat of the repeat.
 fn every_request_again(walker: &mut Walker) -> Compared {
-    for request in requests() {
+    for request in requests(walker.outputs()) {
         for (source, bit, sent) in [
             (MASTER, false, 0),
             (MASTER, true, LONGEST_HEARD),
@@ -938,9 +1032,10 @@ fn every_request_again(walker: &mut Walker) -> Compared {
 /// A tick behind it shows whether the watchdog was refilled, and a Data_Exchange Diag_Flag.
 fn repeat_behind_all(walker: &mut Walker, begun: &[Call], again: &[Call]) -> Compared {
     let between = between_repeats();
+    let exchanged = exchange_of(walker.outputs(), &[0x73, 0x74]).octets();
     let look = [
         vec![Call::Tick, Call::Events],
-        heard(&telegram_calls(&exchange(&[0x73, 0x74]))),
+        heard(&telegram_calls(&exchanged)),
     ]
     .concat();
     for first in &between {
@@ -995,7 +1090,7 @@ fn watchdogs(walker: &mut Walker) -> Compared {
 #[cfg(test)]
 mod tests {
     use super::*;
-    use crate::ledger::Station;
+    use crate::ledger::{Drawn, Station};
 
     /// The second implementation after these calls, none of which it refuses.
     fn reached(way: &[Call]) -> Station {
@@ -1023,14 +1118,14 @@ mod tests {
             let chain = ledger.and_then(|ledger| ledger.chain);
             format!("{:?}", chain.expect("FCV is set").drawn)
         };
-        let kinds: std::collections::BTreeSet<String> = requests().iter().map(drawn).collect();
+        let kinds: std::collections::BTreeSet<String> = requests(2).iter().map(drawn).collect();
         assert_eq!(kinds.len(), 9, "{kinds:?}");
     }
 
     #[test]
     fn what_is_no_request_leaves_the_chain() {
         let (_, way) = &ways()[5];
-        let request = requests()[0].counted(true);
+        let request = requests(2)[0].counted(true);
         let begun = [&way[..], &telegram_calls(&request.octets())].concat();
         for draft in no_requests().iter().flat_map(with_every_count) {
             let station = reached(&[&begun[..], &telegram_calls(&draft.octets())].concat());
@@ -1038,6 +1133,29 @@ mod tests {
             let chain = chain.expect("nothing ended it");
             assert_eq!((chain.master, chain.frame_count), (MASTER, true));
         }
+    }
+
+    /// What the library is asked from these states is a rule of one side only if they are what their names say.
+    #[test]
+    fn stations_of_one_side_are_what_their_names_say() {
+        let states: Vec<_> = ways_of_one_side()
+            .iter()
+            .map(|(_, way)| {
+                let ledger = reached(way).ledger.expect("every way begins with Start");
+                assert_eq!(ledger.phase, Phase::DataExch);
+                let drawn = ledger.chain.map(|chain| chain.drawn);
+                let sides = (ledger.has_outputs(), ledger.has_inputs());
+                (sides, drawn, ledger.holds_back(), ledger.diag_flag)
+            })
+            .collect();
+        let expected = [
+            ((false, true), None, false, false),
+            ((false, true), Some(Drawn::Exchange), true, false),
+            ((true, false), None, false, false),
+            ((true, false), Some(Drawn::E5), false, true),
+            ((true, false), Some(Drawn::Exchange), true, true),
+        ];
+        assert_eq!(states, expected);
     }
 
     /// Of the two masters that ask at every point one is the owner wherever there is one.
