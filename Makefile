@@ -20,7 +20,7 @@ LISTS ?= tests/vectors
 OUT := target/c
 
 # The base, document 01, is 1.0; with request n of document 02 it becomes 1.n.
-VERSION := 1.4
+VERSION := 1.5
 PREFIX ?= /usr/local
 
 CC := gcc
@@ -34,11 +34,12 @@ CPPFLAGS := -Iinclude -Iexamples
 COUNTED_CYCLES := 200
 
 HEADERS := include/dp.h examples/refusals.h examples/card.h
-FIRMWARE := examples/card.c examples/older.c examples/master.c examples/firmware.h $(HEADERS)
+FIRMWARE := examples/card.c examples/older.c examples/panel.c examples/sensor.c examples/master.c examples/firmware.h \
+    $(HEADERS)
 WORKLOAD := bench/workload.c bench/workload.h $(HEADERS)
 
 # The calls that cross/wrong-stations.c makes wrong.
-WRAPPED := dp_read dp_write dp_start dp_gap dp_octet dp_window_read dp_window_write
+WRAPPED := dp_read dp_write dp_start dp_gap dp_octet dp_take_outputs dp_window_read dp_window_write
 
 # The programs whose instructions are counted.
 COUNTED := bench $(if $(LENT),lent) $(if $(BEFORE),before)
@@ -80,7 +81,8 @@ $(OUT)/bench: bench/bench.c $(WORKLOAD) $(LIB) $(OUT)/library | $(OUT)
 # $(1): a library of the tree BEFORE, $(2): what builds it there.
 require_before = [ -f $(1) ] || { echo "BEFORE: $(1) is not there; in $(BEFORE), $(2) builds it" >&2; exit 1; }
 
-# Another version is counted with the same telegrams, but what it makes of a repeat is its own.
+# Another version is counted with the same telegrams, but what it makes of a repeat is its own, and a station that it refuses for a length
+# of 0 is left out.
 $(OUT)/before: bench/bench.c $(WORKLOAD) FORCE | $(OUT)
 	@$(call require_before,$(BEFORE)/$(PROVED_LIB),rt staticlib card)
 	$(CC) $(CPPFLAGS) $(CFLAGS) -DOTHER_VERSION $< bench/workload.c $(BEFORE)/$(PROVED_LIB) -Wl,-z,now -o $@

@@ -183,22 +183,81 @@ PLACE void window_refuses_write(void)
     expect("a cell behind", dp_window_write(MEMORY, DP_INTEL, DP_CELL_LAST + 1, 0xFF), -DP_REFUSED_CELL);
 }
 
+/* ---- Stations without outputs, without inputs, with long lengths ---- */
+
+PLACE void vat_takes_empty_list(void)
+{
+    expect("the answer of dp_take_outputs", CALL(dp_take_outputs(MEMORY)), 1);
+}
+
+PLACE int64_t send_data_without_outputs(void)
+{
+    return CALL(dp_send(MEMORY));
+}
+
+PLACE void header_octet_without_outputs(uint8_t octet)
+{
+    CALL(dp_octet(MEMORY, octet, 0));
+}
+
+PLACE void last_octet_without_outputs(uint8_t octet)
+{
+    CALL(dp_octet(MEMORY, octet, 0));
+}
+
+PLACE void data_octet_without_inputs(uint8_t octet)
+{
+    CALL(dp_octet(MEMORY, octet, 0));
+}
+
+PLACE void last_octet_without_inputs(uint8_t octet)
+{
+    CALL(dp_octet(MEMORY, octet, 0));
+}
+
+PLACE void last_octet_without_inputs_repeated(uint8_t octet)
+{
+    CALL(dp_octet(MEMORY, octet, 0));
+}
+
+PLACE void last_octet_without_inputs_flagged(uint8_t octet)
+{
+    CALL(dp_octet(MEMORY, octet, 0));
+}
+
+PLACE void data_octet_of_long_outputs(uint8_t octet)
+{
+    CALL(dp_octet(MEMORY, octet, 0));
+}
+
 /* ---- Scenes ---- */
 
-static void put_telegram(const uint8_t *t, size_t count, void (*last)(uint8_t))
+/* A telegram. The data of an SD2, or the header of an SD1 behind its first octet, has the place `inner`. */
+static void put_by_places(const uint8_t *t, size_t count, void (*inner)(uint8_t), void (*last)(uint8_t))
 {
+    size_t from = t[0] == SD1 ? 1 : HEADER;
     CALL(dp_gap(MEMORY));
     for (size_t i = 0; i + 1 < count; i++)
-        octet_of_other_telegram(t[i]);
+        (from <= i && i < count - END ? inner : octet_of_other_telegram)(t[i]);
     last(t[count - 1]);
 }
 
+static void put_telegram(const uint8_t *t, size_t count, void (*last)(uint8_t))
+{
+    put_by_places(t, count, octet_of_other_telegram, last);
+}
+
 /* A new request. */
-static void put_request(uint8_t *t, size_t count, void (*last)(uint8_t))
+static void put_request_by_places(uint8_t *t, size_t count, void (*inner)(uint8_t), void (*last)(uint8_t))
 {
     count_request(t, count);
-    put_telegram(t, count, last);
+    put_by_places(t, count, inner, last);
     request_sent();
+}
+
+static void put_request(uint8_t *t, size_t count, void (*last)(uint8_t))
+{
+    put_request_by_places(t, count, octet_of_other_telegram, last);
 }
 
 static void fetch_reply(void)
@@ -298,7 +357,7 @@ static void put_chk_cfg(void)
 }
 
 /* From WAIT_PRM into the exchange. */
-static void allow_sync(void)
+static void enter_exchange(void)
 {
     put_set_prm();
     expect("parameters", CALL(dp_judge_parameters(MEMORY, DP_GOOD)), 0);
@@ -313,7 +372,7 @@ static void outputs_by_sync(void)
     static const uint8_t sync[] = {0x68, 0x07, 0x07, 0x68, 0xFF, 0x82, 0x46, 0x3A, 0x3E, 0x20, 0x00, 0x5F, 0x16};
     uint8_t t[TELEGRAM];
     fill_request(t, 1);
-    allow_sync();
+    enter_exchange();
     other_telegram(sync, sizeof sync, octet_of_other_telegram);
     CALL(dp_take_outputs(MEMORY));
     CALL(dp_hand_over_inputs(MEMORY));
@@ -390,6 +449,111 @@ static void repeats(void)
     expect_of_repeat("the event of parameters", CALL(dp_events(MEMORY)) & DP_EVENT_BIT(DP_EVENT_PARAMETERS), 0);
 }
 
+/* ---- Scenes at other stations ---- */
+
+/* Three buffers of the outputs take turns, and three of the inputs. After as many cycles each had its turn: so the
+   figures can be compared with those of the workload. */
+enum { TURNS = 3 };
+
+/* Another station is started, and cycles are made. A library of another version may know no length 0: a station with
+   one is then left out. */
+static void cycles_at(const struct station *other, void (*cycle)(void))
+{
+    int64_t answer = start_other(other);
+#ifdef OTHER_VERSION
+    if (answer == -DP_REFUSED_LENGTH && (other->outputs == 0 || other->inputs == 0))
+        return;
+#endif
+    granted("dp_start", answer);
+    enter_exchange();
+    for (int turn = 0; turn < TURNS; turn++)
+        cycle();
+}
+
+static void expect_sent(const uint8_t *t, size_t count)
+{
+    for (size_t i = 0; i < count; i++)
+        expect("an octet of the reply", CALL(dp_send(MEMORY)), t[i]);
+}
+
+static void expect_end_of_reply(void)
+{
+    expect("what is sent behind the reply", CALL(dp_send(MEMORY)), DP_NO_OCTET);
+}
+
+/* Without inputs: a Data_Exchange and its repeat. */
+static void acknowledged_cycle(void)
+{
+    uint8_t t[TELEGRAM];
+    fill_request(t, 1);
+    put_request_by_places(t, sizeof t, data_octet_without_inputs, last_octet_without_inputs);
+    expect("the reply without inputs", CALL(dp_send(MEMORY)), 0xE5);
+    expect_end_of_reply();
+    expect("the outputs taken", CALL(dp_take_outputs(MEMORY)), 1);
+    repeated(t, sizeof t, last_octet_without_inputs_repeated, 0xE5);
+    expect_of_repeat("what is taken behind a repeat", CALL(dp_take_outputs(MEMORY)), 0);
+}
+
+/* Without inputs: a Data_Exchange while there is a new diagnosis. */
+static void flagged_cycle(void)
+{
+    static const uint8_t flagged[] = {0x68, 0x04, 0x04, 0x68, 0x02, 0x05, 0x0A, 0x00, 0x11, 0x16};
+    uint8_t t[TELEGRAM];
+    fill_request(t, 1);
+    CALL(dp_new_diagnosis(MEMORY, DIAGNOSIS_LEN, DP_DIAGNOSIS_EXT));
+    put_request(t, sizeof t, last_octet_without_inputs_flagged);
+    expect_sent(flagged, sizeof flagged);
+    expect_end_of_reply();
+    expect("the outputs taken", CALL(dp_take_outputs(MEMORY)), 1);
+}
+
+/* Without outputs: a Data_Exchange finds new inputs, as in the workload. */
+static void polled_cycle(void)
+{
+    static const uint8_t header[HEADER] = {0x68, INPUTS + 3, INPUTS + 3, 0x68, 0x02, 0x05, 0x08};
+    uint8_t t[] = {SD1, 0x05, 0x02, 0x00, 0x00, 0x16};
+    for (uint8_t i = 0; i < INPUTS; i++)
+        CALL(dp_write(MEMORY, DP_KIND_INPUTS, i, i));
+    CALL(dp_hand_over_inputs(MEMORY));
+    put_request_by_places(t, sizeof t, header_octet_without_outputs, last_octet_without_outputs);
+    expect_sent(header, sizeof header);
+    for (uint8_t i = 0; i < INPUTS; i++)
+        expect("an input", send_data_without_outputs(), i);
+    fetch_reply();
+    vat_takes_empty_list();
+}
+
+/* Lengths above 88, which the check tests one by one. */
+enum { LONG = 100 };
+
+static void long_cycle(void)
+{
+    enum { LAST_OUTPUT = 0xA5 };
+    uint8_t t[HEADER + LONG + END] = {0x68, LONG + 3, LONG + 3, 0x68, 0x05, 0x02};
+    t[HEADER + LONG - 1] = LAST_OUTPUT;
+    t[HEADER + LONG + 1] = 0x16;
+    put_request_by_places(t, sizeof t, data_octet_of_long_outputs, octet_of_other_telegram);
+    expect("the first octet of a long reply", CALL(dp_send(MEMORY)), 0x68);
+    fetch_reply();
+    expect("the outputs taken", CALL(dp_take_outputs(MEMORY)), 1);
+    expect("the last output", CALL(dp_read(MEMORY, DP_KIND_OUTPUTS, LONG - 1)), LAST_OUTPUT);
+}
+
+/* In the longest memory the check makes no sum of the long lengths. */
+static void other_stations(void)
+{
+    static uint8_t longest_memory[DP_MEMORY_MAX];
+    static const struct station without_inputs = {memory, sizeof memory, OUTPUTS, 0};
+    static const struct station without_outputs = {memory, sizeof memory, 0, INPUTS};
+    static const struct station with_long_lengths = {longest_memory, sizeof longest_memory, LONG, LONG};
+    cycles_at(&without_inputs, acknowledged_cycle);
+    cycles_at(&without_inputs, flagged_cycle);
+    cycles_at(&without_outputs, polled_cycle);
+    cycles_at(&with_long_lengths, long_cycle);
+}
+
+/* ---- All scenes ---- */
+
 static void rare_calls(void)
 {
     for (int i = 0; i < 10; i++) {
@@ -406,6 +570,7 @@ static void rare_calls(void)
         CALL(dp_leave_master(MEMORY));
         by_window();
         repeats();
+        other_stations();
     }
 }
 

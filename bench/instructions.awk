@@ -200,6 +200,15 @@ END {
     place_row("dp_window_write", "window_acknowledges", "03H, acknowledges")
     place_row("dp_window_write", "window_writes_nothing", "15H, nothing behind it")
     place_row("dp_window_write", "window_refuses_write", "16H, refused")
+    place_row("dp_octet", "data_octet_without_inputs", "no inputs: data, inner")
+    place_row("dp_octet", "last_octet_without_inputs", "no inputs: last, draws E5")
+    place_row("dp_octet", "last_octet_without_inputs_repeated", "no inputs: last, repeated")
+    place_row("dp_octet", "last_octet_without_inputs_flagged", "no inputs: last, Diag_Flag")
+    place_row("dp_octet", "header_octet_without_outputs", "no outputs: header, inner")
+    place_row("dp_octet", "last_octet_without_outputs", "no outputs: last, SD1")
+    place_row("dp_send", "send_data_without_outputs", "no outputs: data")
+    place_row("dp_take_outputs", "vat_takes_empty_list", "no outputs: the empty list")
+    place_row("dp_octet", "data_octet_of_long_outputs", "lengths of 100: data, inner")
     # What the lent state costs once, however many octets follow.
     runs = calls["lent_exchange", "lent no_octets"]
     once = mean(cost["lent_exchange", "lent no_octets"], runs)

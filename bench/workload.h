@@ -17,12 +17,23 @@
 
 enum { OUTPUTS = 32, INPUTS = 32, DIAGNOSIS_LEN = 16 };
 
-/* SD2: 68 LE LE 68 DA SA FC, the data, FCS 16. */
-enum { HEADER = 7, END = 2, TELEGRAM = HEADER + OUTPUTS + END, REPLY = HEADER + INPUTS + END };
+/* SD2: 68 LE LE 68 DA SA FC, the data, FCS 16. SD1, which has no data: 10 DA SA FC FCS 16. */
+enum { SD1 = 0x10, HEADER = 7, END = 2, TELEGRAM = HEADER + OUTPUTS + END, REPLY = HEADER + INPUTS + END };
 
 /* The memory that the station of the workload lives in. */
 extern uint8_t memory[DP_MEMORY_MIN];
-#define MEMORY memory, sizeof memory
+
+/* A station: the memory that it lives in, and how many outputs and inputs it has. */
+struct station {
+    uint8_t *memory;
+    uint64_t memory_len;
+    uint32_t outputs;
+    uint32_t inputs;
+};
+
+/* The station that all calls go to. */
+extern const struct station *station;
+#define MEMORY station->memory, station->memory_len
 
 /* A call's answer; a refusal ends the program. */
 int64_t granted(const char *call, int64_t answer);
@@ -34,8 +45,12 @@ void expect(const char *what, int64_t found, int64_t expected);
 /* How many cycles the program is to run, by its only argument, or `otherwise`; a wrong argument ends it. */
 unsigned cycles_asked_for(int argc, char **argv, unsigned otherwise);
 
-/* From any memory into the exchange. */
+/* From any memory into the exchange, at the station of the workload. */
 void start_up(void);
+
+/* From any memory of another station to where that waits for Set_Prm: its outputs, its inputs, all else as in the
+   workload. The answer of dp_start, which may be a refusal. */
+int64_t start_other(const struct station *other);
 
 /* Set_Prm with a watchdog of that many ticks, the product of the two. */
 void put_parameters(uint8_t factor_1, uint8_t factor_2);
@@ -44,7 +59,7 @@ void put_parameters(uint8_t factor_1, uint8_t factor_2);
 void begin_exchange(void);
 
 /* As a master does it: the frame count bit (FC bit 5, which counts by bit 4) changes with each new request, or the
-   station would take it for a repeat. A request has the bit of the next one until that is sent. */
+   station would take it for a repeat. A request, SD2 or SD1, has the bit of the next one until that is sent. */
 void count_request(uint8_t *t, size_t count);
 void request_sent(void);
 

@@ -10,7 +10,7 @@
 
 typedef int64_t read_call(uint8_t *memory, uint64_t memory_len, uint32_t kind, uint32_t index);
 typedef int64_t write_call(uint8_t *memory, uint64_t memory_len, uint32_t kind, uint32_t index, uint8_t octet);
-typedef int64_t gap_call(uint8_t *memory, uint64_t memory_len);
+typedef int64_t alone_call(uint8_t *memory, uint64_t memory_len);
 typedef int64_t octet_call(uint8_t *memory, uint64_t memory_len, uint8_t octet, uint8_t bad);
 typedef int64_t window_read_call(uint8_t *memory, uint64_t memory_len, uint32_t order, uint32_t address);
 typedef int64_t window_write_call(uint8_t *memory, uint64_t memory_len, uint32_t order, uint32_t address,
@@ -20,7 +20,8 @@ typedef int64_t start_call(uint8_t *memory, uint64_t memory_len, uint32_t addres
                            uint32_t diagnosis_len, uint8_t *get_cfg, uint64_t get_cfg_len);
 read_call __real_dp_read, __wrap_dp_read;
 write_call __real_dp_write, __wrap_dp_write;
-gap_call __real_dp_gap, __wrap_dp_gap;
+alone_call __real_dp_gap, __wrap_dp_gap;
+alone_call __real_dp_take_outputs, __wrap_dp_take_outputs;
 octet_call __real_dp_octet, __wrap_dp_octet;
 start_call __real_dp_start, __wrap_dp_start;
 window_read_call __real_dp_window_read, __wrap_dp_window_read;
@@ -31,34 +32,15 @@ static int is(const char *mistake)
     return strcmp(getenv("WRONG"), mistake) == 0;
 }
 
-int64_t __wrap_dp_read(uint8_t *memory, uint64_t memory_len, uint32_t kind, uint32_t index)
-{
-    int64_t answer = __real_dp_read(memory, memory_len, kind, index);
-    if (is("look-changes"))
-        memory[memory_len - 1] ^= 1;
-    if (is("behind-memory"))
-        memory[memory_len] ^= 1;
-    if (is("before-memory"))
-        memory[-1] ^= 1;
-    if (is("other-refusal") && answer == -DP_REFUSED_ABSENT)
-        return -DP_REFUSED_RANGE;
-    return answer + (is("one-alignment") && (uintptr_t)memory % 8 == 5);
-}
+/* ---- The state part's octets, as docs/memory.md has them ---- */
 
-int64_t __wrap_dp_write(uint8_t *memory, uint64_t memory_len, uint32_t kind, uint32_t index, uint8_t octet)
-{
-    int64_t answer = __real_dp_write(memory, memory_len, kind, index, octet);
-    if (is("refusal-changes") && answer < 0)
-        memory[memory_len - 1] ^= 1;
-    return answer;
-}
+enum { OWNER = 0, FLAGS = 3, REPLY_CONTROL = 12, SENDING = 17, DRAWN = 18, ADDRESS = 20, OUTPUT_SET = 29 };
+enum { READING = 31, DESTINATION = 34, SOURCE = 35, CONTROL = 36 };
+enum { OUTPUT_LEN = 48, INPUT_LEN = 49, COUNTED = 54, COUNTED_MASTER = 55 };
+enum { READING_END = 10, READING_COMPLETE = 11, SENDING_E5 = 9, DRAWN_EXCHANGE = 4, DRAWN_SLAVE_DIAG = 8 };
+enum { FLAG_STAT_DIAG = 0x10, FLAG_DIAG = 0x40, HELD_BACK = 0x04, FC_FCV = 0x10, FC_FCB = 0x20, NOBODY = 127 };
 
-/* ---- Repeats, by the state part's octets as docs/memory.md has them ---- */
-
-enum { OWNER = 0, FLAGS = 3, ADDRESS = 20, READING = 31, DESTINATION = 34, SOURCE = 35, CONTROL = 36 };
-enum { COUNTED = 54, COUNTED_MASTER = 55 };
-enum { READING_END = 10, READING_COMPLETE = 11, COUNTED_SLAVE_DIAG = 8, NOBODY = 127 };
-enum { FLAG_STAT_DIAG = 0x10, FLAG_DIAG = 0x40, FC_FCV = 0x10, FC_FCB = 0x20 };
+/* ---- Repeats ---- */
 
 /* The last request whose frame count bit counts: octets 54 and 55. */
 struct chain {
@@ -120,13 +102,60 @@ static void mistake_repeat(uint8_t *memory, struct telegram t)
 static void mistake_behind(uint8_t *memory, struct telegram t, struct chain c)
 {
     bool clears = memory[OWNER] == t.master && (memory[FLAGS] & FLAG_STAT_DIAG) == 0;
-    bool diagnosis = c.counted >> 1 == COUNTED_SLAVE_DIAG;
+    bool diagnosis = c.counted >> 1 == DRAWN_SLAVE_DIAG;
     if (is("repeat-clears-diag-flag") && repeats(t, c) && diagnosis && clears)
         memory[FLAGS] &= (uint8_t)~FLAG_DIAG;
     if (!repeats(t, c))
         sum_of_request = sum;
     if (c.master != NOBODY)
         ended_by_another = c.master != t.master ? c : no_chain;
+}
+
+/* ---- Stations without outputs or without inputs ---- */
+
+/* Other lengths than Start is given, for a wrong station to judge by. */
+static void mistake_lengths(uint32_t *output_len, uint32_t *input_len)
+{
+    if (is("length-0-refused") && (*output_len == 0 || *input_len == 0))
+        *output_len = *input_len = 0;
+    if (is("both-lengths-0") && *output_len == 0 && *input_len == 0)
+        *input_len = 1;
+}
+
+/* Behind the last octet of a request: what it held back, and what it drew. */
+static void mistake_one_sided(uint8_t *memory)
+{
+    bool without_inputs = memory[INPUT_LEN] == 0 && memory[DRAWN] == DRAWN_EXCHANGE;
+    if (is("empty-list-not-held") && memory[OUTPUT_LEN] == 0)
+        memory[OUTPUT_SET] &= (uint8_t)~HELD_BACK;
+    if (is("diag-flag-not-in-fc") && without_inputs)
+        memory[REPLY_CONTROL] = 0x08;
+    if (is("always-e5") && without_inputs)
+        memory[SENDING] = SENDING_E5;
+}
+
+/* ---- The calls ---- */
+
+int64_t __wrap_dp_read(uint8_t *memory, uint64_t memory_len, uint32_t kind, uint32_t index)
+{
+    int64_t answer = __real_dp_read(memory, memory_len, kind, index);
+    if (is("look-changes"))
+        memory[memory_len - 1] ^= 1;
+    if (is("behind-memory"))
+        memory[memory_len] ^= 1;
+    if (is("before-memory"))
+        memory[-1] ^= 1;
+    if (is("other-refusal") && answer == -DP_REFUSED_ABSENT)
+        return -DP_REFUSED_RANGE;
+    return answer + (is("one-alignment") && (uintptr_t)memory % 8 == 5);
+}
+
+int64_t __wrap_dp_write(uint8_t *memory, uint64_t memory_len, uint32_t kind, uint32_t index, uint8_t octet)
+{
+    int64_t answer = __real_dp_write(memory, memory_len, kind, index, octet);
+    if (is("refusal-changes") && answer < 0)
+        memory[memory_len - 1] ^= 1;
+    return answer;
 }
 
 int64_t __wrap_dp_octet(uint8_t *memory, uint64_t memory_len, uint8_t octet, uint8_t bad)
@@ -142,10 +171,12 @@ int64_t __wrap_dp_octet(uint8_t *memory, uint64_t memory_len, uint8_t octet, uin
     int64_t answer = __real_dp_octet(memory, memory_len, octet, bad);
     if (memory[READING] != READING_COMPLETE)
         return answer;
-    if (request)
+    if (request) {
         mistake_behind(memory, t, c);
-    else if (is("control-ends-chain") && (t.fc & 0x0F) == 6)
+        mistake_one_sided(memory);
+    } else if (is("control-ends-chain") && (t.fc & 0x0F) == 6) {
         put_chain(memory, no_chain);
+    }
     return answer;
 }
 
@@ -155,10 +186,17 @@ int64_t __wrap_dp_gap(uint8_t *memory, uint64_t memory_len)
     return __real_dp_gap(memory, is("half-length") ? (uint32_t)memory_len : memory_len);
 }
 
+int64_t __wrap_dp_take_outputs(uint8_t *memory, uint64_t memory_len)
+{
+    int64_t answer = __real_dp_take_outputs(memory, memory_len);
+    return is("empty-list-not-new") && memory[OUTPUT_LEN] == 0 && answer == 1 ? 0 : answer;
+}
+
 int64_t __wrap_dp_start(uint8_t *memory, uint64_t memory_len, uint32_t address, uint16_t ident, uint32_t output_len,
                         uint32_t input_len, uint32_t parameter_len, uint32_t configuration_len, uint32_t diagnosis_len,
                         uint8_t *get_cfg, uint64_t get_cfg_len)
 {
+    mistake_lengths(&output_len, &input_len);
     int64_t answer = __real_dp_start(memory, memory_len, address, ident, output_len, input_len, parameter_len,
                                      configuration_len, diagnosis_len, get_cfg, get_cfg_len);
     if (answer == 0)

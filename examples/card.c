@@ -1,7 +1,8 @@
 /*
  * A card's firmware around the station: what stands in the interrupts, what in the main loop, and what keeps the two
  * apart. On a card the functions of card.h are entered by hardware; here master.c calls them. The vat program is the
- * one at the end, or the older one of older.c.
+ * one at the end, or the older one of older.c. The lamp panel of panel.c and the sensor of sensor.c are such cards too,
+ * started with other lengths, and with programs of their own.
  */
 #include "firmware.h"
 #include "refusals.h"
@@ -57,7 +58,7 @@ void card_power_up(void)
 void card_power_up_older(void)
 {
     card_power_up();
-    write_diagnosis();
+    write_diagnosis(vat.temperature);
     CALL(dp_new_diagnosis(MEMORY, CARD_DIAGNOSIS, 0));
 }
 
@@ -109,6 +110,12 @@ bool write_octets(uint32_t kind, uint32_t first, const uint8_t *octets, uint32_t
     return true;
 }
 
+bool write_diagnosis(uint8_t octet)
+{
+    const uint8_t block[CARD_DIAGNOSIS - DP_DIAGNOSIS_MIN] = {sizeof block, octet};
+    return write_octets(DP_KIND_DIAGNOSIS, DP_DIAGNOSIS_MIN, block, sizeof block);
+}
+
 /* ---- The vat ---- */
 
 /* A vat at room temperature, and what it may reach. */
@@ -132,28 +139,12 @@ void measure_vat(uint8_t *inputs)
     inputs[INPUT_LEVEL] = vat.level;
 }
 
-/* A block of two octets, its length and the temperature. */
-bool write_diagnosis(void)
-{
-    const uint8_t block[CARD_DIAGNOSIS - DP_DIAGNOSIS_MIN] = {sizeof block, vat.temperature};
-    return write_octets(DP_KIND_DIAGNOSIS, DP_DIAGNOSIS_MIN, block, sizeof block);
-}
-
 bool good_parameters(const uint8_t *octets, uint32_t count)
 {
     return count == CARD_PARAMETERS && octets[PARAMETER_LIMIT] >= COLD;
 }
 
-bool good_configuration(const uint8_t *octets, uint32_t count)
-{
-    return count == sizeof configuration && memcmp(octets, configuration, sizeof configuration) == 0;
-}
-
-/* ---- The vat program ---- */
-
-/* The highest temperature allowed, 0 before good parameters; and whether the master was told that it is exceeded. */
-static uint8_t limit;
-static bool reported_hot;
+/* ---- A round of a program ---- */
 
 void print_octets(const uint8_t *octets, size_t count)
 {
@@ -161,47 +152,42 @@ void print_octets(const uint8_t *octets, size_t count)
         printf(" %02X", octets[i]);
 }
 
-/* The newest outputs; reads after a take are all of one telegram, whatever comes on the line meanwhile. In sync the
-   newest are those that the master's last sync or unsync let through, or the station's zeros. */
-static void obey_outputs(void)
+/* Reads after a take are all of one telegram, whatever comes on the line meanwhile. In sync the newest outputs are
+   those that the master's last sync or unsync let through, or the station's zeros. */
+void newest_outputs(const struct program *program, uint8_t *outputs, uint32_t count)
 {
     static const char *const news[] = {"has the same outputs:", "takes new outputs:", "takes the station's zeros:"};
-    uint8_t outputs[CARD_OUTPUTS];
     int64_t taken = CALL(dp_take_outputs(MEMORY));
-    read_octets(DP_KIND_OUTPUTS, outputs, CARD_OUTPUTS);
-    printf("    vat      %s", news[taken]);
-    print_octets(outputs, CARD_OUTPUTS);
+    read_octets(DP_KIND_OUTPUTS, outputs, count);
+    printf("    %-8s %s", program->name, news[taken]);
+    print_octets(outputs, count);
     printf("\n");
-    run_vat(outputs);
 }
 
 /* All inputs are written before they go out together. In freeze the newest wait for the next freeze or unfreeze. */
-static void give_inputs(void)
+void hand_over_inputs(const struct program *program, const uint8_t *inputs, uint32_t count)
 {
-    uint8_t inputs[CARD_INPUTS];
-    measure_vat(inputs);
-    write_octets(DP_KIND_INPUTS, 0, inputs, CARD_INPUTS);
+    write_octets(DP_KIND_INPUTS, 0, inputs, count);
     CALL(dp_hand_over_inputs(MEMORY));
-    printf("    vat      hands over inputs:");
-    print_octets(inputs, CARD_INPUTS);
+    printf("    %-8s hands over inputs:", program->name);
+    print_octets(inputs, count);
     printf("\n");
 }
 
-/* Too hot, or no longer: the master is to know. What cannot be said now is said in the next round. */
-static void report_diagnosis(void)
+bool give_diagnosis(const struct program *program, const char *fault, uint8_t octet)
 {
-    bool hot = limit != 0 && vat.temperature > limit;
-    if (hot == reported_hot || !write_diagnosis())
-        return;
-    uint32_t count = hot ? CARD_DIAGNOSIS : DP_DIAGNOSIS_MIN;
-    CALL(dp_new_diagnosis(MEMORY, count, hot ? DP_DIAGNOSIS_EXT : 0));
-    reported_hot = hot;
-    printf("    vat      gives a new diagnosis: %s\n", hot ? "too hot" : "no fault");
+    if (!write_diagnosis(octet))
+        return false;
+    uint32_t count = fault != NULL ? CARD_DIAGNOSIS : DP_DIAGNOSIS_MIN;
+    CALL(dp_new_diagnosis(MEMORY, count, fault != NULL ? DP_DIAGNOSIS_EXT : 0));
+    printf("    %-8s gives a new diagnosis: %s\n", program->name, fault != NULL ? fault : "no fault");
+    return true;
 }
 
-static void print_judgement(const char *what, const uint8_t *octets, uint32_t count, bool good, int64_t answer)
+static void print_judgement(const struct program *program, const char *what, const uint8_t *octets, uint32_t count,
+                            bool good, int64_t answer)
 {
-    printf("    vat      %s", what);
+    printf("    %-8s %s", program->name, what);
     print_octets(octets, count);
     if (answer == -DP_REFUSED_JUDGING)
         printf(": cannot be judged now\n");
@@ -211,32 +197,32 @@ static void print_judgement(const char *what, const uint8_t *octets, uint32_t co
         printf(": judged %s\n", good ? "good" : "bad");
 }
 
-/* Reading and judging are one piece: no telegram may put another set in the place of the one that is judged. */
-static void judge_parameters(void)
+/* The station itself has looked at the standard's octets. What is not read may be judged at any time: whichever set is
+   open by then, it is good. */
+void accept_parameters(const struct program *program)
 {
-    uint8_t octets[CARD_PARAMETERS];
-    lock();
-    uint32_t count = read_octets(DP_KIND_PARAMETERS, octets, CARD_PARAMETERS);
-    bool good = good_parameters(octets, count);
-    int64_t answer = CALL_UNLESS(DP_REFUSED_JUDGING, dp_judge_parameters(MEMORY, good ? DP_GOOD : DP_BAD));
-    unlock();
-    if (answer == 0 && good)
-        limit = octets[PARAMETER_LIMIT];
-    print_judgement("reads parameters:", octets, count, good, answer);
+    int64_t answer = CALL_UNLESS(DP_REFUSED_JUDGING, dp_judge_parameters(MEMORY, DP_GOOD));
+    print_judgement(program, "has no parameters of its own", NULL, 0, true, answer);
 }
 
-static void judge_configuration(void)
+bool good_configuration(const struct program *program, const uint8_t *octets, uint32_t count)
+{
+    return count == program->module_count && memcmp(octets, program->modules, count) == 0;
+}
+
+/* Reading and judging are one piece: no telegram may put another set in the place of the one that is judged. */
+static void judge_configuration(const struct program *program)
 {
     uint8_t octets[CARD_CONFIGURATION];
     lock();
     uint32_t count = read_octets(DP_KIND_CONFIGURATION, octets, CARD_CONFIGURATION);
-    bool good = good_configuration(octets, count);
+    bool good = good_configuration(program, octets, count);
     int64_t answer = CALL_UNLESS(DP_REFUSED_JUDGING, dp_judge_configuration(MEMORY, good ? DP_GOOD : DP_BAD));
     unlock();
-    print_judgement("reads configuration:", octets, count, good, answer);
+    print_judgement(program, "reads configuration:", octets, count, good, answer);
 }
 
-static void print_event(unsigned event)
+static void print_event(const struct program *program, unsigned event)
 {
     static const char *const names[DP_NO_EVENT] = {
         [DP_EVENT_DATA_EXCH] = "exchange of data entered or left",
@@ -247,28 +233,62 @@ static void print_event(unsigned event)
         [DP_EVENT_DIAGNOSIS] = "diagnosis changed",
         [DP_EVENT_OUTPUTS] = "outputs published",
     };
-    printf("    vat      event %u: %s\n", event, names[event] != NULL ? names[event] : "not known");
+    const char *name = names[event] != NULL ? names[event] : "not known";
+    printf("    %-8s event %u: %s\n", program->name, event, name);
 }
 
 /* Acknowledged before they are acted on, so that none is lost that comes meanwhile. Parameters are judged first. */
-static void look_at_events(void)
+void look_at_events(const struct program *program)
 {
     uint16_t word = (uint16_t)CALL(dp_events(MEMORY));
     CALL(dp_acknowledge(MEMORY, word));
     for (unsigned event = 0; event < DP_NO_EVENT; event++) {
         if ((word & DP_EVENT_BIT(event)) != 0)
-            print_event(event);
+            print_event(program, event);
     }
     if ((word & DP_EVENT_BIT(DP_EVENT_PARAMETERS)) != 0)
-        judge_parameters();
+        program->judge_parameters(program);
     if ((word & DP_EVENT_BIT(DP_EVENT_CONFIGURATION)) != 0)
-        judge_configuration();
+        judge_configuration(program);
+}
+
+/* ---- The vat program ---- */
+
+/* The highest temperature allowed, 0 before good parameters; and whether the master was told that it is exceeded. */
+static uint8_t limit;
+static bool reported_hot;
+
+/* Reading and judging are one piece here too. */
+static void judge_parameters(const struct program *program)
+{
+    uint8_t octets[CARD_PARAMETERS];
+    lock();
+    uint32_t count = read_octets(DP_KIND_PARAMETERS, octets, CARD_PARAMETERS);
+    bool good = good_parameters(octets, count);
+    int64_t answer = CALL_UNLESS(DP_REFUSED_JUDGING, dp_judge_parameters(MEMORY, good ? DP_GOOD : DP_BAD));
+    unlock();
+    if (answer == 0 && good)
+        limit = octets[PARAMETER_LIMIT];
+    print_judgement(program, "reads parameters:", octets, count, good, answer);
+}
+
+const struct program vat_program = {"vat", configuration, sizeof configuration, judge_parameters};
+
+/* Too hot, or no longer: the master is to know. What cannot be said now is said in the next round. */
+static void report_temperature(void)
+{
+    bool hot = limit != 0 && vat.temperature > limit;
+    if (hot != reported_hot && give_diagnosis(&vat_program, hot ? "too hot" : NULL, vat.temperature))
+        reported_hot = hot;
 }
 
 void vat_cycle(void)
 {
-    obey_outputs();
-    give_inputs();
-    report_diagnosis();
-    look_at_events();
+    uint8_t outputs[CARD_OUTPUTS], inputs[CARD_INPUTS];
+    newest_outputs(&vat_program, outputs, CARD_OUTPUTS);
+    run_vat(outputs);
+    measure_vat(inputs);
+    hand_over_inputs(&vat_program, inputs, CARD_INPUTS);
+    report_temperature();
+    look_at_events(&vat_program);
 }

@@ -15,6 +15,15 @@ enum { CARD_PARAMETERS = 8, CARD_CONFIGURATION = 8, CARD_DIAGNOSIS = 8 };
 /* The modules, as Get_Cfg sends them and Chk_Cfg has to bring them: two octets of inputs, two of outputs. */
 #define CARD_MODULES 0x11, 0x21
 
+/* Other cards: a lamp panel, which has no inputs, and a sensor, which has no outputs. Their Set_Prm has the standard's
+   octets alone. */
+enum { PANEL_ADDRESS = 6, PANEL_IDENT = 0x80B4, PANEL_OUTPUTS = 1, PANEL_PARAMETERS = 7 };
+enum { SENSOR_ADDRESS = 7, SENSOR_IDENT = 0x80B5, SENSOR_INPUTS = 2, SENSOR_PARAMETERS = 7 };
+
+/* Their modules: one octet of outputs; two of inputs. */
+#define PANEL_MODULES 0x20
+#define SENSOR_MODULES 0x11
+
 /* What the transmitter gets when there is nothing to send. */
 enum { CARD_SILENT = -1 };
 
@@ -24,6 +33,10 @@ void card_power_up(void);
 /* The same for the older vat program. Its diagnosis gets count and flags here, once: the chip had them in its RAM, and
    the window cannot change them. */
 void card_power_up_older(void);
+
+/* Power-up of the other cards. Their interrupts are those below. */
+void panel_power_up(void);
+void sensor_power_up(void);
 
 /* The receive interrupt. bad: not 0 if the receiver flags the octet. */
 void card_on_octet(uint8_t octet, uint8_t bad);
@@ -43,5 +56,9 @@ void vat_cycle(void);
 
 /* One round of the older vat program's, in place of that one: it works through the window of registers alone. */
 void older_vat_cycle(void);
+
+/* One round of the other cards' programs. */
+void panel_cycle(void);
+void sensor_cycle(void);
 
 #endif

@@ -1,6 +1,6 @@
 /*
- * What the vat programs share with the rest of the firmware, all of it in card.c: the station's memory and how calls on
- * it are kept apart, the octets of its buffers, and the vat.
+ * What the programs share with the rest of the firmware, all of it in card.c: the station's memory and how calls on it
+ * are kept apart, the octets of its buffers, the vat, and what any program does in a round of its loop.
  */
 #ifndef FIRMWARE_H
 #define FIRMWARE_H
@@ -13,7 +13,7 @@
 
 /* ---- Calls are kept apart ---- */
 
-/* The station's whole world. It needs no more than the least length here. */
+/* The station's whole world. On every card here it needs no more than the least length. */
 extern uint8_t memory[DP_MEMORY_MIN];
 #define MEMORY memory, sizeof memory
 
@@ -37,6 +37,9 @@ uint32_t read_octets(uint32_t kind, uint8_t *octets, uint32_t most);
    the diagnosis while the last one is delayed. */
 bool write_octets(uint32_t kind, uint32_t first, const uint8_t *octets, uint32_t count);
 
+/* A diagnosis behind the station's six octets: a block of two, its length and an octet. Answers as write_octets. */
+bool write_diagnosis(uint8_t octet);
+
 /* ---- The vat ---- */
 
 /* The outputs are the orders of the master: which valves are open, how much is heated. */
@@ -59,13 +62,41 @@ void run_vat(const uint8_t *outputs);
 /* What is measured, as inputs. */
 void measure_vat(uint8_t *inputs);
 
-/* The vat's diagnosis, behind the station's six octets. Answers as write_octets. */
-bool write_diagnosis(void);
-
-/* What the vat asks of the sets that a master sends. */
+/* What the vat asks of parameters. */
 bool good_parameters(const uint8_t *octets, uint32_t count);
-bool good_configuration(const uint8_t *octets, uint32_t count);
+
+/* ---- A round of a program ---- */
 
 void print_octets(const uint8_t *octets, size_t count);
+
+/* What programs differ in there. Their stations are all started with CARD_CONFIGURATION and CARD_DIAGNOSIS. */
+struct program {
+    const char *name;       /* printed in front of what it does */
+    const uint8_t *modules; /* the configuration, as Chk_Cfg has to bring it */
+    uint32_t module_count;
+    void (*judge_parameters)(const struct program *program);
+};
+
+/* Takes the outputs and reads them, as many octets as they have. */
+void newest_outputs(const struct program *program, uint8_t *outputs, uint32_t count);
+
+/* Writes the inputs, all of them, and hands them over. */
+void hand_over_inputs(const struct program *program, const uint8_t *inputs, uint32_t count);
+
+/* A new diagnosis: the fault in words and an octet on it, or, with NULL, that there is none. False, and nothing is
+   given, while the last one is delayed. */
+bool give_diagnosis(const struct program *program, const char *fault, uint8_t octet);
+
+/* Whether a configuration is the program's. */
+bool good_configuration(const struct program *program, const uint8_t *octets, uint32_t count);
+
+/* For judge_parameters, where Set_Prm has no octet of the program's own. */
+void accept_parameters(const struct program *program);
+
+/* Acknowledges the events that are set, and judges the sets that they tell of. */
+void look_at_events(const struct program *program);
+
+/* The vat program of card.c. The older one asks for the same configuration. */
+extern const struct program vat_program;
 
 #endif

@@ -40,9 +40,15 @@ static void expect(const char *what, int64_t answer, int64_t expected)
     exit(EXIT_FAILURE);
 }
 
+/* len: that of parameters, configuration, diagnosis and Get_Cfg. */
+static int64_t started_with(size_t memory_len, uint32_t address, uint32_t outputs, uint32_t inputs, uint32_t len)
+{
+    return start(memory, memory_len, address, 0x80B3, outputs, inputs, len, len, len, get_cfg, len);
+}
+
 static int64_t started(size_t memory_len, uint32_t address, uint32_t len)
 {
-    return start(memory, memory_len, address, 0x80B3, len, len, len, len, len, get_cfg, len);
+    return started_with(memory_len, address, len, len, len);
 }
 
 /* Every call but Start on a memory in which no station was started. With 99 for an index, a count, flags or an address
@@ -71,6 +77,29 @@ static void expect_start(void)
     expect("dp_start, room", started(DP_MEMORY_MAX - DP_MEMORY_STEP, 5, DP_LENGTH_MAX), -DP_REFUSED_ROOM);
     expect("dp_start, all lengths 244", started(DP_MEMORY_MAX, DP_ADDRESS_MAX, DP_LENGTH_MAX), 0);
     expect("dp_start, all lengths 88", started(DP_MEMORY_MIN, 5, SHORT), 0);
+}
+
+/* kind: that of the length 0. It has no octet, and the calls that could move one answer as ever. */
+static void expect_no_octet(uint32_t kind)
+{
+    uint8_t *m = memory;
+    size_t n = DP_MEMORY_MIN;
+    expect("dp_read, length 0", dp_read(m, n, kind, 0), -DP_REFUSED_RANGE);
+    expect("dp_write, length 0", dp_write(m, n, kind, 0, 0x21), -DP_REFUSED_RANGE);
+    expect("dp_hand_over_inputs", dp_hand_over_inputs(m, n), 0);
+    expect("dp_take_outputs", dp_take_outputs(m, n), 0);
+    expect("dp_leave_master", dp_leave_master(m, n), 0);
+    expect("dp_take_outputs", dp_take_outputs(m, n), 2);
+}
+
+/* Outputs and inputs may be 0, but not both. */
+static void expect_lengths_0(void)
+{
+    expect("dp_start, neither", started_with(DP_MEMORY_MIN, 5, 0, 0, SHORT), -DP_REFUSED_LENGTH);
+    expect("dp_start, no outputs", started_with(DP_MEMORY_MIN, 5, 0, SHORT, SHORT), 0);
+    expect_no_octet(DP_KIND_OUTPUTS);
+    expect("dp_start, no inputs", started_with(DP_MEMORY_MIN, 5, SHORT, 0, SHORT), 0);
+    expect_no_octet(DP_KIND_INPUTS);
 }
 
 static void expect_fresh(void)
@@ -142,6 +171,7 @@ static void expect_window(void)
 int main(void)
 {
     expect_damaged();
+    expect_lengths_0();
     expect_start();
     expect_fresh();
     expect_window();

@@ -1,8 +1,9 @@
 /*
  * A master that takes the card of card.c through a start-up, some exchanges of data, a diagnosis and a clear, falls
  * silent, and comes back to run the vat in step with others, by sync and freeze. Then it meets the older vat program of
- * older.c, and at last misses a reply. It prints each telegram; the vat program prints what it sees. Nothing depends on
- * time or chance.
+ * older.c, and misses a reply. At last it turns to other stations: the lamp panel of panel.c, which has no inputs, and
+ * the sensor of sensor.c, which has no outputs. It prints each telegram; the programs print what they see. Nothing
+ * depends on time or chance.
  */
 #include "card.h"
 
@@ -26,14 +27,30 @@ enum { CLEAR = 0x02, UNFREEZE = 0x04, FREEZE = 0x08, UNSYNC = 0x10, SYNC = 0x20 
 /* Set_Prm with the watchdog on: 3 x 2 ticks. */
 enum { WATCHDOG_FACTOR_1 = 3, WATCHDOG_FACTOR_2 = 2, WATCHDOG_TICKS = WATCHDOG_FACTOR_1 * WATCHDOG_FACTOR_2 };
 
+/* A station as the master has to know it. */
+struct station {
+    const char *direction; /* printed in front of its replies */
+    uint8_t address;
+    uint16_t ident;
+    size_t parameters; /* how many octets its Set_Prm has */
+    uint8_t modules[2];
+    size_t module_count;
+};
+static const struct station card = {"card   >", CARD_ADDRESS, CARD_IDENT, CARD_PARAMETERS, {CARD_MODULES}, 2};
+static const struct station panel = {"panel  >", PANEL_ADDRESS, PANEL_IDENT, PANEL_PARAMETERS, {PANEL_MODULES}, 1};
+static const struct station sensor = {"sensor >", SENSOR_ADDRESS, SENSOR_IDENT, SENSOR_PARAMETERS, {SENSOR_MODULES}, 1};
+
+/* The one that it talks to. */
+static const struct station *slave = &card;
+
 enum { LONGEST = 255 };
 struct telegram {
     uint8_t octets[LONGEST];
     size_t count;
 };
 
-/* The FC of a new request. The frame count bit changes with each; left as it was, it tells the card that the master asks
-   once more for a reply that it missed. */
+/* The FC of a new request. The frame count bit changes with each; left as it was, it tells the station that the master
+   asks once more for a reply that it missed. */
 static uint8_t next_request(void)
 {
     static uint8_t fc = FC_REQUEST | FRAME_COUNT_BIT;
@@ -66,7 +83,7 @@ static void append_end(struct telegram *t, size_t from)
 
 static struct telegram without_data(uint8_t fc)
 {
-    struct telegram t = {{SD1, CARD_ADDRESS, MASTER, fc}, 4};
+    struct telegram t = {{SD1, slave->address, MASTER, fc}, 4};
     append_end(&t, 1);
     return t;
 }
@@ -81,7 +98,7 @@ static struct telegram with_data(uint8_t da, uint8_t sa, uint8_t fc, const uint8
     return t;
 }
 
-/* The reply octet by octet, as long as the card has one and up to a count. */
+/* The reply octet by octet, as long as the station has one and up to a count. */
 static struct telegram fetch_octets(size_t most)
 {
     struct telegram reply = {{0}, 0};
@@ -91,7 +108,7 @@ static struct telegram fetch_octets(size_t most)
             break;
         append(&reply, (uint8_t)octet);
     }
-    print_octets("card   >", reply.octets, reply.count);
+    print_octets(slave->direction, reply.octets, reply.count);
     return reply;
 }
 
@@ -131,7 +148,7 @@ static struct telegram ask_point(uint8_t da, uint8_t fc, uint8_t dsap, const uin
 
 static struct telegram slave_diag_telegram(void)
 {
-    return to_point(CARD_ADDRESS, next_request(), 60, NULL, 0);
+    return to_point(slave->address, next_request(), 60, NULL, 0);
 }
 
 static void slave_diag(void)
@@ -139,19 +156,18 @@ static void slave_diag(void)
     ask(slave_diag_telegram());
 }
 
-/* allowed: PRM_SYNC, PRM_FREEZE, both or 0; limit: the vat's own parameter. */
+/* allowed: PRM_SYNC, PRM_FREEZE, both or 0; limit: the vat's own parameter, which the other stations do not get. */
 static void set_prm(uint8_t allowed, uint8_t limit)
 {
     const uint8_t status = PRM_LOCK | PRM_WATCHDOG | allowed;
-    const uint8_t data[] = {
-        status, WATCHDOG_FACTOR_1, WATCHDOG_FACTOR_2, 0x0B, CARD_IDENT >> 8, CARD_IDENT & 0xFF, 0x01, limit};
-    ask_point(CARD_ADDRESS, next_request(), 61, data, sizeof data);
+    const uint8_t high = (uint8_t)(slave->ident >> 8), low = (uint8_t)slave->ident;
+    const uint8_t data[] = {status, WATCHDOG_FACTOR_1, WATCHDOG_FACTOR_2, 0x0B, high, low, 0x01, limit};
+    ask_point(slave->address, next_request(), 61, data, slave->parameters);
 }
 
 static void chk_cfg(void)
 {
-    const uint8_t data[] = {CARD_MODULES};
-    ask_point(CARD_ADDRESS, next_request(), 62, data, sizeof data);
+    ask_point(slave->address, next_request(), 62, slave->modules, slave->module_count);
 }
 
 /* To all stations of all groups; nobody answers. */
@@ -167,11 +183,33 @@ static struct telegram exchange_telegram(uint8_t valves, uint8_t heating)
     return with_data(CARD_ADDRESS, MASTER, next_request(), data, sizeof data);
 }
 
+/* Whether the reply to a Data_Exchange tells of a new diagnosis. E5 tells of none. */
+static int has_diag_flag(struct telegram reply)
+{
+    return reply.count > 6 && reply.octets[6] == FC_DIAG_FLAG;
+}
+
 /* Answers whether the card has a new diagnosis. */
 static int data_exchange(uint8_t valves, uint8_t heating)
 {
-    struct telegram reply = ask(exchange_telegram(valves, heating));
-    return reply.count > 6 && reply.octets[6] == FC_DIAG_FLAG;
+    return has_diag_flag(ask(exchange_telegram(valves, heating)));
+}
+
+/* The same for the panel, with a bit for each lamp. */
+static struct telegram lamps_telegram(uint8_t lamps)
+{
+    return with_data(PANEL_ADDRESS, MASTER, next_request(), &lamps, PANEL_OUTPUTS);
+}
+
+static int light_lamps(uint8_t lamps)
+{
+    return has_diag_flag(ask(lamps_telegram(lamps)));
+}
+
+/* And for the sensor: without outputs there is no data, and the shortest telegram does. */
+static void poll_sensor(void)
+{
+    ask(without_data(next_request()));
 }
 
 /* The main loop runs when it runs: here while a telegram is half here. */
@@ -203,6 +241,25 @@ static void title(const char *text)
 {
     static int number;
     printf("%d. %s\n", ++number, text);
+}
+
+/* From parameters to the exchange of data, with rounds of the station's program. */
+static void enter_exchange(uint8_t allowed, uint8_t limit, void (*cycle)(void))
+{
+    set_prm(allowed, limit);
+    cycle();
+    chk_cfg();
+    cycle();
+}
+
+/* A request whose reply the master misses, and the same again, with a round of the station's program behind each. */
+static void ask_twice(struct telegram t, void (*cycle)(void), const char *title_of_second)
+{
+    ask(t);
+    cycle();
+    title(title_of_second);
+    ask(t);
+    cycle();
 }
 
 static void start_up(void)
@@ -275,10 +332,7 @@ static void clear_and_silence(void)
 static void start_up_again(void)
 {
     title("Set_Prm: sync and freeze are allowed (B8). Chk_Cfg. The exchange of data begins again.");
-    set_prm(PRM_SYNC | PRM_FREEZE, 0x1E);
-    vat_cycle();
-    chk_cfg();
-    vat_cycle();
+    enter_exchange(PRM_SYNC | PRM_FREEZE, 0x1E, vat_cycle);
 }
 
 static void sync_outputs(void)
@@ -370,16 +424,75 @@ static void older_diagnosis(void)
 /* The vat program runs before the master asks once more, so that there are new inputs by then and no outputs to take. */
 static void missed_reply(void)
 {
-    struct telegram t = exchange_telegram(0x02, 0x10);
     title("Data_Exchange: second valve open, heating 10. The master misses the reply.");
-    ask(t);
-    older_vat_cycle();
-    title("The same telegram again: the same inputs, with the FC of now. There are no outputs a second time.");
-    ask(t);
-    older_vat_cycle();
+    ask_twice(exchange_telegram(0x02, 0x10), older_vat_cycle,
+              "The same telegram again: the same inputs, with the FC of now. There are no outputs a second time.");
     title("Data_Exchange: a new one, the frame count bit has changed. The card sends the newest inputs.");
     data_exchange(0x02, 0x08);
     older_vat_cycle();
+}
+
+static void panel_start_up(void)
+{
+    title("A lamp panel at address 6: outputs and no inputs. Set_Prm and Chk_Cfg, and the exchange of data begins.");
+    slave = &panel;
+    panel_power_up();
+    enter_exchange(0, 0, panel_cycle);
+    title("Data_Exchange: lamps 1 and 3. There are no inputs to be sent, the reply is E5.");
+    light_lamps(0x05);
+    panel_cycle();
+}
+
+static void panel_diagnosis(void)
+{
+    title("Data_Exchange: lamp 2 too, which takes no current. That is a new diagnosis.");
+    light_lamps(0x07);
+    panel_cycle();
+    title("Data_Exchange: FC is 0A, with one octet 00. Slave_Diag: Ext_Diag (08), and 02 02.");
+    if (light_lamps(0x07))
+        slave_diag();
+    panel_cycle();
+}
+
+/* The program runs before the master asks once more, so that there is a new diagnosis by then. */
+static void panel_missed_reply(void)
+{
+    title("Data_Exchange: lamp 2 off. The reply is E5 again, and the master misses it. There is a new diagnosis.");
+    ask_twice(lamps_telegram(0x05), panel_cycle,
+              "The same telegram again: E5 again, new diagnosis or not. There are no outputs a second time.");
+    title("Data_Exchange: a new one. FC is 0A, and the diagnosis has no Ext_Diag and only the six octets.");
+    if (light_lamps(0x05))
+        slave_diag();
+    panel_cycle();
+}
+
+static void sensor_polls(void)
+{
+    title("A sensor at address 7: inputs and no outputs. Set_Prm, with sync allowed (A8), and Chk_Cfg.");
+    slave = &sensor;
+    sensor_power_up();
+    enter_exchange(PRM_SYNC, 0, sensor_cycle);
+    title("Data_Exchange: without data. The reply has the inputs. The sensor is told of the poll and measures anew.");
+    poll_sensor();
+    sensor_cycle();
+    title("Data_Exchange: the newest inputs. The sensor is told of a poll once.");
+    poll_sensor();
+    sensor_cycle();
+    sensor_cycle();
+}
+
+static void sensor_sync(void)
+{
+    title("Global_Control: sync. Data_Exchange: the inputs are sent as before, but the poll is held back.");
+    global_control(SYNC);
+    poll_sensor();
+    sensor_cycle();
+    title("Global_Control: sync again. The poll is published, and the sensor measures.");
+    global_control(SYNC);
+    sensor_cycle();
+    title("Data_Exchange: what was measured at the sync.");
+    poll_sensor();
+    sensor_cycle();
 }
 
 int main(void)
@@ -397,5 +510,10 @@ int main(void)
     older_exchange();
     older_diagnosis();
     missed_reply();
+    panel_start_up();
+    panel_diagnosis();
+    panel_missed_reply();
+    sensor_polls();
+    sensor_sync();
     return 0;
 }

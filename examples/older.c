@@ -90,7 +90,7 @@ static void judge_configuration(void)
     uint8_t octets[CARD_CONFIGURATION];
     lock();
     uint32_t count = read_octets(DP_KIND_CONFIGURATION, octets, CARD_CONFIGURATION);
-    uint8_t command = good_configuration(octets, count) ? USER_CFG_DATA_OK : USER_CFG_DATA_NOK;
+    uint8_t command = good_configuration(&vat_program, octets, count) ? USER_CFG_DATA_OK : USER_CFG_DATA_NOK;
     uint8_t answer = read_register(command);
     unlock();
     print_command(command, answer, "configuration", octets, count);
@@ -121,7 +121,7 @@ static void report_temperature(void)
     if (known.limit == 0 || temperature <= known.limit || temperature == known.reported)
         return;
     lock();
-    write_diagnosis();
+    write_diagnosis(temperature);
     uint8_t answer = read_register(NEW_DIAG_BUFFER_CMD);
     unlock();
     if (answer != NOT_ALLOWED)

@@ -16,7 +16,7 @@ static inline const char *refusal_in_words(int64_t answer)
     case DP_REFUSED_ADDRESS:
         return "the station address is above 126";
     case DP_REFUSED_LENGTH:
-        return "a length or the Get_Cfg slice is outside its range";
+        return "a length or the Get_Cfg slice is outside its range, or outputs and inputs are both 0";
     case DP_REFUSED_ROOM:
         return "the buffers would end beyond the memory";
     case DP_REFUSED_DAMAGED:

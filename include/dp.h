@@ -31,6 +31,12 @@
  * the owner's watchdog: parameters, configuration and outputs come to the vat program once, with one event. A request
  * of another master, or one with FC bit 4 clear, ends that; Global_Control does not.
  *
+ * Without inputs or without outputs. A station that sends nothing, such as a lamp panel, is started with an input
+ * length of 0, one that takes nothing, such as a sensor, with an output length of 0; never with both. Without inputs a
+ * Data_Exchange is answered by E5, or, while there is a new diagnosis, by FC 0A with one octet 00. Without outputs it
+ * comes without data, and one with data is a Cfg_Fault. It publishes an empty list, which is new outputs like any:
+ * event 13 and dp_take_outputs tell the vat program that the master has polled, and sync holds it back.
+ *
  * The window. A vat program that was written for the chip (SPC3) reads and writes registers by their addresses.
  * dp_window_read and dp_window_write give it those from 000H to 015H, in the order of an Intel or of a Motorola
  * processor. Behind a cell that does something stands one of the other calls (enum dp_cell), and a program may use
@@ -69,7 +75,7 @@ enum {
     DP_MEMORY_STEP = 8,    /* its length is a multiple of this */
     DP_ADDRESS_MAX = 126,  /* station addresses are 0 to this */
     DP_LENGTH_MAX = 244,   /* greatest length of outputs, inputs, parameters, configuration, diagnosis, Get_Cfg */
-    DP_PARAMETERS_MIN = 7, /* least length of parameters; of outputs, inputs, configuration and Get_Cfg it is 1 */
+    DP_PARAMETERS_MIN = 7, /* least length of parameters; of configuration, Get_Cfg it is 1, of outputs and inputs 0 */
     DP_DIAGNOSIS_MIN = 6,  /* least length and count of diagnosis; its first index to read and write */
     DP_NO_OCTET = 256,     /* dp_send: no octet is left */
     DP_NO_EVENT = 16       /* dp_pending: no event is set */
@@ -80,7 +86,7 @@ enum dp_refusal {
     /* the starter */
     DP_REFUSED_MEMORY_LENGTH = 1, /* the memory is too short or too long, or its length is no multiple of 8 */
     DP_REFUSED_ADDRESS = 2,       /* the address is above 126 */
-    DP_REFUSED_LENGTH = 3,        /* one of the six lengths, the Get_Cfg slice's too, is outside its range */
+    DP_REFUSED_LENGTH = 3,        /* one of the six lengths is outside its range, or outputs and inputs are both 0 */
     DP_REFUSED_ROOM = 4,          /* the buffers would end beyond the memory */
     /* whoever damaged the memory */
     DP_REFUSED_DAMAGED = 5, /* the memory holds no station: never started, overwritten, or its length is wrong */
@@ -106,7 +112,8 @@ enum dp_event {
 /* The bit of an event in the event word and in the mask of dp_acknowledge. */
 #define DP_EVENT_BIT(event) ((uint16_t)(1u << (event)))
 
-/* Kinds of octets for dp_read; dp_write takes the last two. */
+/* Kinds of octets for dp_read; dp_write takes the last two. Outputs or inputs of length 0 have no octets: each index of
+   the kind is then refused by 7. */
 enum dp_kind {
     DP_KIND_OUTPUTS = 1,       /* the outputs that the last take brought */
     DP_KIND_PARAMETERS = 2,    /* the parameter set that is shown */
@@ -152,12 +159,12 @@ enum dp_cell {
 
 /*
  * Start: sets a fresh station up in the memory, whatever was there before. It waits for a gap and then for Set_Prm.
- * Data_Exchange brings output_len octets and is answered with input_len (1 to 244 each). A parameter set has at most
- * parameter_len octets (7 to 244), a configuration set configuration_len (1 to 244), a diagnosis diagnosis_len (6 to
- * 244). get_cfg are the get_cfg_len octets (1 to 244) that Get_Cfg sends; they are copied. The station needs 128 octets
- * of the memory and, with each length rounded up to a multiple of 8, four times the outputs, three times the inputs,
- * parameters and configuration, twice the diagnosis and once Get_Cfg's octets. So DP_MEMORY_MIN is room enough where
- * all six lengths are at most 88, and DP_MEMORY_MAX always is.
+ * Data_Exchange brings output_len octets and is answered with input_len (0 to 244 each, not both 0). A parameter set
+ * has at most parameter_len octets (7 to 244), a configuration set configuration_len (1 to 244), a diagnosis
+ * diagnosis_len (6 to 244). get_cfg are the get_cfg_len octets (1 to 244) that Get_Cfg sends; they are copied. The
+ * station needs 128 octets of the memory and, with each length rounded up to a multiple of 8 (0 stays 0), four times
+ * the outputs, three times the inputs, parameters and configuration, twice the diagnosis and once Get_Cfg's octets. So
+ * DP_MEMORY_MIN is room enough where all six lengths are at most 88, and DP_MEMORY_MAX always is.
  * Answers 0. Refused by 1, 2, 3, 4.
  */
 int64_t dp_start(uint8_t *memory, uint64_t memory_len, uint32_t address, uint16_t ident, uint32_t output_len,
@@ -193,7 +200,8 @@ int64_t dp_tick(uint8_t *memory, uint64_t memory_len);
 /*
  * Take outputs: the newest whole outputs are now the ones to be read, until the next take.
  * Answers 0 nothing new, and the same outputs stay; 1 new; 2 new, and they are zeros that the station published
- * itself. Outputs that sync holds back do not count until they are published. Refused by 5.
+ * itself. Outputs that sync holds back do not count until they are published. A station without outputs has none to be
+ * read, but the same answers: 1 after a Data_Exchange, 2 after zeros of its own. Refused by 5.
  */
 int64_t dp_take_outputs(uint8_t *memory, uint64_t memory_len);
 
@@ -215,7 +223,8 @@ int64_t dp_write(uint8_t *memory, uint64_t memory_len, uint32_t kind, uint32_t i
 
 /*
  * Hand over inputs: all that was written goes out together, with the next Data_Exchange. In freeze it waits for the
- * master's next freeze or unfreeze, which brings the newest that was handed over before it.
+ * master's next freeze or unfreeze, which brings the newest that was handed over before it. A station without inputs
+ * has no use for it.
  * Answers 0. Refused by 5.
  */
 int64_t dp_hand_over_inputs(uint8_t *memory, uint64_t memory_len);
@@ -223,8 +232,8 @@ int64_t dp_hand_over_inputs(uint8_t *memory, uint64_t memory_len);
 /*
  * New diagnosis: the vat program's buffer becomes the station's. count: of all octets, the six of the station at the
  * front among them, 6 to diagnosis_len; flags: enum dp_diagnosis_flag, 0 to 7. The master is told by FC 0A until its
- * Slave_Diag, with Stat_Diag after it too. While a Slave_Diag reply is being sent all of this is delayed until that has
- * ended.
+ * Slave_Diag, with Stat_Diag after it too; without inputs, in a reply of one octet 00. While a Slave_Diag reply is
+ * being sent all of this is delayed until that has ended.
  * Answers 0. Refused by 5; 7 count or flags; 9 an earlier one is delayed.
  */
 int64_t dp_new_diagnosis(uint8_t *memory, uint64_t memory_len, uint32_t count, uint32_t flags);
