@@ -1,15 +1,11 @@
 -- The bits of a word after the operations on words, at every width.
-use Prim.Native.Nat.{ℕ, zero, suc, _/_, _%_, _^_, _≤_, _<_}
-use native.Mathlib.Nat.{mod-lt, zero-lt-suc, div-one, zero-div, div-eq-of-lt, div-div-eq-div-mul, div-lt-iff-lt-mul, mul-div-mul-right, mul-mod-left, pow-suc, pow-succ', lt-of-lt-of-le, lt-of-le-of-lt, le-refl, not-suc-le-zero, le-of-suc-le-suc}
-use native.Mathlib.Omega.{arith}
-use mathlib.Core.Path.{_≡_, refl, sym, ap, ap₂, _∙_, subst}
-use mathlib.Core.Bool.{Bool, true, false, not, cond, _&&_, _||_, false≢true}
+use Prim.Native.Nat.{ℕ, zero, suc, _/_, _%_, _^_}
+use native.Mathlib.Nat.{mod-lt, zero-lt-suc, div-one, zero-div, div-eq-of-lt, mul-div-mul-right, mul-mod-left, pow-suc}
+use mathlib.Core.Path.{_≡_, refl, sym, ap, ap₂, _∙_}
+use mathlib.Core.Bool.{Bool, true, false, not, cond, _&&_, _||_}
 use lib.Dec.{eqb, eqb·zero-suc, eqb·suc-zero, eqb·suc-suc}
-use lib.Arith.{lt-of-le-ne}
-use lib.Pow.{pow-mono, pow-lt}
-use lib.Bits.{bitAnd, bitOr, bitXor, and-shr, or-shr, xor-shr, and-mod, or-mod, xor-mod, xor-lt, and-le-l}
-use lib.Count.{trailingZeros, under, trailing-le}
-use borrow.Author.Tests.{eq-eqb}
+use lib.Pow.{pow-lt}
+use lib.Bits.{bitAnd, bitOr, bitXor, and-shr, or-shr, xor-shr, and-mod, or-mod, xor-mod}
 use Rattle.buffers.specs.Events.{bit, without}
 use Rattle.buffers.proofs.Below.{Each, below}
 
@@ -60,11 +56,6 @@ pub bit-zero : (n : ℕ) → bit 0 n ≡ false
 unfolding bit
 bit-zero n = ap (λ x. eqb (x % 2) 1) (zero-div (2 ^ n))
 
--- a word of k bits has none from k on
-pub bit-high : (k w n : ℕ) → w < 2 ^ k → k ≤ n → bit w n ≡ false
-unfolding bit
-bit-high k w n h l = ap (λ x. eqb (x % 2) 1) (div-eq-of-lt (lt-of-lt-of-le h (pow-mono l)))
-
 -- a power of two has its own bit alone
 pub bit-power : (k n : ℕ) → bit (2 ^ k) n ≡ eqb k n
 unfolding bit
@@ -75,48 +66,3 @@ bit-power (suc k) zero =
 bit-power (suc k) (suc n) =
     ap (λ x. eqb (x % 2) 1) (ap₂ (λ x y. x / y) (pow-suc 2 k) (pow-suc 2 n) ∙ mul-div-mul-right (2 ^ k) (2 ^ n) (zero-lt-suc 1))
     ∙ bit-power k n ∙ sym (eqb·suc-suc k n)
-
--- a word of k bits stays one
-pub without-lt : (k w mask : ℕ) → w < 2 ^ k → without w mask < 2 ^ k
-without-lt k w mask h = xor-lt k w (bitAnd w mask) h (lt-of-le-of-lt (and-le-l w mask) h)
-
--- ---- the lowest bit that is set
-
--- the next bit of a word is the bit of its half
-bit-suc : (w n : ℕ) → bit w (suc n) ≡ bit (w / 2) n
-unfolding bit
-bit-suc w n = ap (λ x. eqb (x % 2) 1) (ap (λ x. w / x) (pow-succ' 2 n) ∙ sym (div-div-eq-div-mul w 2 (2 ^ n)))
-
--- the first bit is the remainder by 2
-bit-first : (w : ℕ) → bit w 0 ≡ eqb (w % 2) 1
-unfolding bit
-bit-first w = ap (λ x. eqb (x % 2) 1) (div-one w)
-
--- below it no bit is set
-pub lowest-below : (k w n : ℕ) → n < trailingZeros k w → bit w n ≡ false
-unfolding trailingZeros
-lowest-below zero w n h = absurd (not-suc-le-zero h)
-lowest-below (suc k) w n h = go (w % 2) refl n h (lowest-below k (w / 2))
-  where
-    go : (r : ℕ) → w % 2 ≡ r → (m : ℕ) → m < under r (trailingZeros k (w / 2))
-        → ((m : ℕ) → m < trailingZeros k (w / 2) → bit (w / 2) m ≡ false) → bit w m ≡ false
-    go zero e zero g ih = bit-first w ∙ ap (λ x. eqb x 1) e
-    go zero e (suc m) g ih = bit-suc w m ∙ ih m (le-of-suc-le-suc g)
-    go (suc r) e m g ih = absurd (not-suc-le-zero g)
-
--- it is set, if any of the k bits is
-pub lowest-set : (k w : ℕ) → 0 < w → w < 2 ^ k → bit w (trailingZeros k w) ≡ true
-unfolding trailingZeros
-lowest-set zero w p h = absurd (let z : w < 1 = h in omega arith)
-lowest-set (suc k) w p h = go (w % 2) refl (λ q. lowest-set k (w / 2) q (div-lt-iff-lt-mul (zero-lt-suc 1) .1 (subst (λ x. w < x) (pow-suc 2 k) h)))
-  where
-    go : (r : ℕ) → w % 2 ≡ r → (0 < w / 2 → bit (w / 2) (trailingZeros k (w / 2)) ≡ true)
-        → bit w (under r (trailingZeros k (w / 2))) ≡ true
-    go zero e ih = bit-suc w (trailingZeros k (w / 2)) ∙ ih (omega arith)
-    go (suc r) e ih = bit-first w ∙ eq-eqb (w % 2) 1 (omega arith)
-
--- and it is one of the k
-pub lowest-lt : (k w : ℕ) → 0 < w → w < 2 ^ k → trailingZeros k w < k
-lowest-lt k w p h =
-    lt-of-le-ne (trailing-le k w)
-    (λ e. false≢true (sym (bit-high k w k h (le-refl k)) ∙ ap (bit w) (sym e) ∙ lowest-set k w p h))

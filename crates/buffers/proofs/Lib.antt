@@ -6,3 +6,5 @@ pub mod Numbers
 pub mod Flag
 pub mod Bits
 pub mod Word
+pub mod Pending
+mod WrongPending

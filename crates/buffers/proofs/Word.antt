@@ -1,16 +1,12 @@
--- The event word after its operations, event by event, and what is pending.
-use Prim.Native.Nat.{ℕ, zero, suc, _^_, _<_}
-use native.Mathlib.Omega.{arith}
+-- The event word after its operations, event by event.
+use Prim.Native.Nat.{ℕ, _^_, _<_}
 use mathlib.Core.Path.{_≡_, refl, ap, _∙_}
 use mathlib.Core.Bool.{Bool, true, false, not, cond, _&&_, _||_, and-true, and-false, or-true, or-false}
 use lib.Dec.{eqb, ltb}
-use lib.Pow.{pow-pos, pow-lt}
-use lib.Bits.{or-lt}
-use lib.Count.{trailing-of-zero}
-use borrow.Author.Tests.{eq-eqb, ne-eqb, lt-ltb, ltb-true}
+use borrow.Author.Tests.{eq-eqb, ne-eqb, lt-ltb}
 use Rattle.buffers.specs.declared.events.Events.{Events}
-use Rattle.buffers.specs.Events.{width, configurationEvent, parametersEvent, keptEvents, bit, without, noEvents, only, raised, cleared, acknowledged, pendingOf, AcknowledgeClears, PendingNames}
-use Rattle.buffers.proofs.Bits.{bit-or, bit-without, bit-zero, bit-power, without-lt, lowest-below, lowest-set, lowest-lt}
+use Rattle.buffers.specs.Events.{width, configurationEvent, parametersEvent, keptEvents, bit, without, noEvents, only, raised, cleared, acknowledged, AcknowledgeClears}
+use Rattle.buffers.proofs.Bits.{bit-or, bit-without, bit-zero, bit-power}
 
 -- ---- event by event
 
@@ -91,52 +87,7 @@ acknowledged-clears e mask n h =
     acknowledged-bit e mask n ∙ ap (λ t. bit (e .word) n && not (bit mask n && not t)) h
     ∙ ap (λ t. bit (e .word) n && not t) (and-true (bit mask n))
 
--- ---- a word of 16 bits stays one
-
--- one event fits the word
-only-lt : (k : ℕ) → only k .word < 2 ^ width
-only-lt k = go (ltb k width) refl
-  where
-    go : (t : Bool) → ltb k width ≡ t → cond t (2 ^ k) 0 < 2 ^ width
-    go true e = pow-lt (ltb-true k width e)
-    go false e = pow-pos width
-
--- after each operation
-pub raised-lt : (e : Events) (k : ℕ) → e .word < 2 ^ width → raised e k .word < 2 ^ width
-raised-lt e k h = or-lt width (e .word) (only k .word) h (only-lt k)
-
-pub cleared-lt : (e : Events) (k : ℕ) → e .word < 2 ^ width → cleared e k .word < 2 ^ width
-cleared-lt e k h = without-lt width (e .word) (only k .word) h
-
-pub acknowledged-lt : (e : Events) (mask : ℕ) → e .word < 2 ^ width → acknowledged e mask .word < 2 ^ width
-acknowledged-lt e mask h = without-lt width (e .word) (without mask keptEvents) h
-
--- ---- pending
-
--- no event
-pub pending-none : (e : Events) → e .word ≡ 0 → pendingOf e ≡ width
-pending-none e h = ap (λ w. pendingOf (record { word = w })) h ∙ trailing-of-zero width
-
--- an event that is set
-pub pending-set : (e : Events) → 0 < e .word → e .word < 2 ^ width → (pendingOf e < width) × (bit (e .word) (pendingOf e) ≡ true)
-pending-set e p h = (lowest-lt width (e .word) p h, lowest-set width (e .word) p h)
-
--- the width is answered for no event alone
-pub pending-width : (e : Events) → e .word < 2 ^ width → pendingOf e ≡ width → e .word ≡ 0
-pending-width e h q = go (e .word) refl
-  where
-    go : (w : ℕ) → e .word ≡ w → e .word ≡ 0
-    go zero z = z
-    go (suc w) z = let l = lowest-lt width (e .word) (omega arith) h in absurd (omega arith)
-
--- the lowest
-pub pending-lowest : (e : Events) (n : ℕ) → n < pendingOf e → bit (e .word) n ≡ false
-pending-lowest e n h = lowest-below width (e .word) n h
-
 -- ---- what the specs claim
 
 pub acknowledge-clears : AcknowledgeClears
 acknowledge-clears e mask n = acknowledged-bit e mask n ∙ ap (λ t. bit (e .word) n && not (bit mask n && not t)) (kept-bit n)
-
-pub pending-names : PendingNames
-pending-names = record { none-set = pending-none; some-set = pending-set }

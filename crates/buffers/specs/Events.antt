@@ -1,10 +1,10 @@
 -- The event word, a bit for each event.
-use Prim.Native.Nat.{ℕ, _/_, _%_, _^_, _<_}
+use Prim.Native.Nat.{ℕ, zero, suc, _/_, _%_, _^_, _<_}
 use mathlib.Core.Path.{_≡_}
-use mathlib.Core.Bool.{Bool, true, cond, not, _&&_, _||_}
+use mathlib.Core.Bool.{Bool, true, false, cond, not, _&&_, _||_}
+use mathlib.Core.Logic.{_↔_, _⊎_}
 use lib.Dec.{eqb, ltb}
 use lib.Bits.{bitAnd, bitOr, bitXor}
-use lib.Count.{trailingZeros}
 use Rattle.buffers.specs.declared.events.Events.{Events}
 
 -- the event numbers are those below the width
@@ -71,9 +71,14 @@ cleared e n = record { word = without (e .word) (only n .word) }
 abbrev pub acknowledged : Events → ℕ → Events
 acknowledged e mask = record { word = without (e .word) (without mask keptEvents) }
 
--- the number of the lowest event that is set, or the width for none
+-- the smallest of the k numbers from n on whose bit is set in a word, or n + k if none is
+unfoldable pub smallestFrom : ℕ → ℕ → ℕ → ℕ
+smallestFrom w n zero = n
+smallestFrom w n (suc k) = cond (bit w n) n (smallestFrom w (suc n) k)
+
+-- what Pending answers: the smallest number of a set event, or the width for none
 abbrev pub pendingOf : Events → ℕ
-pendingOf e = trailingZeros width (e .word)
+pendingOf e = smallestFrom (e .word) 0 width
 
 -- an event that ends with its set: 10 or 11
 abbrev pub endsWithSet : ℕ → Bool
@@ -83,7 +88,16 @@ endsWithSet n = eqb configurationEvent n || eqb parametersEvent n
 abbrev pub AcknowledgeClears : Type 0
 AcknowledgeClears = (e : Events) (mask n : ℕ) → bit (acknowledged e mask .word) n ≡ (bit (e .word) n && not (bit mask n && not (endsWithSet n)))
 
--- "Pending: the number of some set event, which one is left free, or 16"
-pub record PendingNames : Type 0 where
-  pub none-set : (e : Events) → e .word ≡ 0 → pendingOf e ≡ 16
-  pub some-set : (e : Events) → 0 < e .word → e .word < 2 ^ width → (pendingOf e < 16) × (bit (e .word) (pendingOf e) ≡ true)
+-- n is the smallest number of a set event of a word: event n is set, and none below it is; the width stands for none
+pub record SmallestSet (w n : ℕ) : Type 0 where
+  pub set-or-none : ((n < width) × (bit w n ≡ true)) ⊎ (n ≡ width)
+  pub none-below : (k : ℕ) → k < n → bit w k ≡ false
+
+-- a function answers n exactly if n is the smallest number of a set event
+abbrev pub AnswersSmallest : (Events → ℕ) → Type 0
+AnswersSmallest answer = (e : Events) (n : ℕ) → (answer e ≡ n) ↔ SmallestSet (e .word) n
+
+-- "Pending returns the smallest number of a set event" (document 02, Req 06), and nothing is left to choose: whatever answers so answers the same
+pub record PendingExactly : Type 0 where
+  pub smallest : AnswersSmallest pendingOf
+  pub no-choice : (answer : Events → ℕ) → AnswersSmallest answer → (e : Events) → answer e ≡ pendingOf e

@@ -74,7 +74,7 @@ impl Events {
         self
     }
 
-    // The number of the lowest event that is set, or COUNT for none.
+    // The smallest number of a set event, or COUNT for none.
     pub fn pending(self) -> u8
         ensures { λ r. ⌜ r ≡ pendingOf self ⌝ }
     {

@@ -162,7 +162,7 @@ pub extern "C" fn dp_acknowledge(memory: &mut [u8], mask: u16) -> i64
     answer.code()
 }
 
-// The number of some event that is set, 16 for none.
+// The smallest number of a set event, 16 for none.
 #[no_mangle]
 pub extern "C" fn dp_pending(memory: &mut [u8]) -> i64
     ensures { λ r. ⌜ Returns (called (now (memory .entry)) pending) r (now (memory .exit)) ⌝ }

@@ -1,6 +1,6 @@
 -- What a list of calls computes with: `unfolding computing` opens all that the ledger leaves shut.
 use Prim.Native.Nat.{ℕ}
-use lib.Count.{trailingZeros}
+use Rattle.buffers.specs.Events.{bit, smallestFrom}
 use Rattle.telegram.proofs.Computing.{computing as reading}
 use Rattle.rules.specs.Phases.{waitPrm, waitCfg, dataExch}
 use Rattle.state.specs.Number.{drawnNumbered}
@@ -14,5 +14,5 @@ use Rattle.ledger.specs.Bus.{answered, heard, paused, afterSend, elapsed
 use Rattle.ledger.specs.User.{takeOutputs, readOctet, writeOctet, handOver, newDiagnosis, judgeParameters, judgeConfiguration, acknowledgeEvents, leaveMaster}
 
 unfoldable pub computing : ℕ
-unfolding heard paused afterSend elapsed answered afterReply settle takeOutputs readOctet writeOctet handOver newDiagnosis judgeParameters judgeConfiguration acknowledgeEvents leaveMaster headerOf diagnosed delaying ticked waitPrm waitCfg dataExch refilled serviceOf parametrized setPrm chkCfg dataExchange slaveDiag globalControl judgedParameters judgedConfiguration reading trailingZeros drawnNumbered
+unfolding heard paused afterSend elapsed answered afterReply settle takeOutputs readOctet writeOctet handOver newDiagnosis judgeParameters judgeConfiguration acknowledgeEvents leaveMaster headerOf diagnosed delaying ticked waitPrm waitCfg dataExch refilled serviceOf parametrized setPrm chkCfg dataExchange slaveDiag globalControl judgedParameters judgedConfiguration reading bit smallestFrom drawnNumbered
 computing = 0

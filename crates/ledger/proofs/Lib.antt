@@ -27,3 +27,4 @@ mod Cases
 mod ModeCases
 mod RetryCases
 mod OneWayCases
+mod PendingCases

@@ -107,7 +107,7 @@ eventWord l = told (l .control .events .word) l
 unfoldable pub acknowledgeEvents : Ledger → ℕ → Told
 acknowledgeEvents l mask = told 0 (withControl l (withEvents (l .control) (acknowledged (l .control .events) mask)))
 
--- pending: one function of the event word
+-- pending: the smallest number of a set event, or 16
 abbrev pub pendingEvent : Ledger → Told
 pendingEvent l = told (pendingOf (l .control .events)) l
 

@@ -137,7 +137,7 @@ pub fn acknowledge(mem: &mut [u8], mask: u16) -> Answer
     over_memory::acknowledge(mem, mask)
 }
 
-// The number of an event that is set, or 16.
+// The smallest number of a set event, or 16.
 pub fn pending(mem: &mut [u8]) -> Answer
     ensures { λ r. ⌜ Meets (called (now (mem .entry)) pending) r (now (mem .exit)) ⌝ }
 {

@@ -121,7 +121,7 @@ pub fn acknowledge(mem: &mut [u8], mask: u16) -> Answer
     user::acknowledge(mem, mask)
 }
 
-// The number of an event that is set, or 16.
+// The smallest number of a set event, or 16.
 pub fn pending(mem: &mut [u8]) -> Answer
     requires { ⌜ Holds (now mem) (unpacked (now mem)) ⌝ }
     ensures { λ r. ⌜ Meets (stepOver (now (mem .entry)) pending) r (now (mem .exit)) ⌝ }

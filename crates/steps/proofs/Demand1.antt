@@ -1,4 +1,5 @@
--- Demand 1 (specs/Demand1.antt): refusal 5 is the damage check's alone, and a refusal leaves the memory.
+-- Demand 1 (specs/Demand1.antt): refusal 5 is the damage check's alone, a refusal leaves the memory, and what Events and Pending
+-- answer.
 use Prim.Native.Nat.{ℕ}
 use native.Mathlib.Omega.{arith}
 use mathlib.Core.Path.{_≡_, refl, sym, ap, subst, _∙_}
@@ -9,26 +10,30 @@ use lib.Dec.{ltb}
 use lib.ListN.{length}
 use Rattle.telegram.specs.Telegram.{Octets}
 use Rattle.telegram.proofs.OctetLists.{octet-at}
+use Rattle.buffers.specs.Events.{pendingOf, SmallestSet}
+use Rattle.buffers.proofs.Pending.{pending-exactly}
 use Rattle.state.specs.declared.answer.Answer.{Answer}
 use Rattle.state.specs.declared.answer.Answer.the-variants.{Value, Refused}
 use Rattle.state.specs.declared.answer.Refusal.{Refusal}
 use Rattle.state.specs.declared.answer.Refusal.the-variants.{MemoryLength, Address, Length, Room, Damaged, Judging, Range, Absent, Delayed, Cell}
 use Rattle.state.specs.declared.setup.Setup.{Setup}
+use Rattle.state.specs.declared.state.State.{State}
 use Rattle.state.specs.Answer.{Called}
 use Rattle.state.specs.declared.start.Asked.{Asked}
 use Rattle.state.specs.Layout.{endOf}
+use Rattle.state.specs.Memory.{Holds, kept}
 use Rattle.state.specs.Unpack.{unpacked}
 use Rattle.state.specs.Start.{lengthsOk, asked}
 use Rattle.state.proofs.Choice.{by-test, either}
 use Rattle.state.proofs.Codes.{codes-equal}
-use Rattle.state.proofs.Damage.{passes-holds}
+use Rattle.state.proofs.Damage.{passes-holds, fronted-same}
 use Rattle.state.proofs.Round.{image-injective}
-use Rattle.rules.specs.Call.{Call}
+use Rattle.rules.specs.Call.{Call, events, pending}
 use Rattle.steps.specs.Stepped.{Told}
-use Rattle.steps.specs.Step.{packed, stepOver}
+use Rattle.steps.specs.Step.{step, packed, stepOver}
 use Rattle.steps.specs.Calls.{lengthOk, startedIn, startedAs, started, wellMemory, called}
-use Rattle.steps.specs.Demand1.{Undamaged, Demand1}
-use Rattle.steps.proofs.Holding.{ByUser, step-cases}
+use Rattle.steps.specs.Demand1.{LengthIn, Undamaged, EventsTold, Demand1}
+use Rattle.steps.proofs.Holding.{ByUser, step-cases, whole, step-whole}
 use Rattle.steps.proofs.KeepsSound.{step-sound}
 use Rattle.steps.proofs.StaysUndamaged.{stays-undamaged}
 use Rattle.steps.proofs.Guarded.{well-length, well-passes, holds-well, called-steps, called-damaged, started-begins, begins-started, refused-same}
@@ -99,6 +104,34 @@ called-same : (m : List ℕ) (c : Call) (why : Refusal) → called m c .answer �
 unfolding called
 called-same m c why = by-test (λ (x : Called). x .answer ≡ Refused why → x .memory ≡ m) (wellMemory m) _ _ (λ _. step-same m c why) (λ _ e. refl)
 
+-- ---- events
+
+module _ (m : List ℕ) (s : State) (n : LengthIn (length m)) (h : Holds m s) where
+  -- a call's step is made on the state that the memory holds
+  by-state : (c : Call) → called m c ≡ whole (step s m c)
+  by-state c = called-steps m c (holds-well m s n h) ∙ step-whole m s c h
+
+  -- and answers what it tells
+  answer-by-state : (c : Call) → called m c .answer ≡ step s m c .answer
+  answer-by-state c = ap (λ (x : Called). x .answer) (by-state c)
+
+  events-told : EventsTold m s
+  events-told = record {
+    word = answer-by-state events;
+    smallest = λ k. (λ e. exactly k .0 (same-value (sym (answer-by-state pending) ∙ e)), λ p. answer-by-state pending ∙ ap Value (exactly k .1 p));
+    events-leaves = ap (λ (x : Called). x .memory) (by-state events) ∙ same;
+    pending-leaves = ap (λ (x : Called). x .memory) (by-state pending) ∙ same;
+  }
+    where
+      exactly : (k : ℕ) → (pendingOf (s .control .events) ≡ k) ↔ SmallestSet (s .control .events .word) k
+      exactly = pending-exactly .smallest (s .control .events)
+
+      same : kept s m ≡ m
+      same = sym (fronted-same m s h)
+
+      same-value : {j k : ℕ} → Value j ≡ Value k → j ≡ k
+      same-value e = cc
+
 pub demand-1 : Demand1
 demand-1 = record {
   damage-check = record { exactly = exactly; not-by-start = λ m s slice e. subst ByStart e (by-start m s slice) };
@@ -107,5 +140,6 @@ demand-1 = record {
   numbers-apart = codes-equal;
   sound-kept = step-sound;
   stays-undamaged = stays-undamaged;
+  events-told = λ m u. events-told m (u .state) (u .length-in) (u .holds);
   start-answers = λ m s slice. (started-begins m s slice, λ b. ap (λ (x : Called). x .answer) (begins-started m s slice b));
 }

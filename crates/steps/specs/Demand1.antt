@@ -7,6 +7,7 @@ use mathlib.Core.List.{List}
 use mathlib.Core.Logic.{_↔_}
 use lib.ListN.{length}
 use Rattle.telegram.specs.Telegram.{Octets}
+use Rattle.buffers.specs.Events.{SmallestSet}
 use Rattle.state.specs.declared.answer.Answer.{Answer}
 use Rattle.state.specs.declared.answer.Answer.the-variants.{Value, Refused}
 use Rattle.state.specs.declared.answer.Refusal.{Refusal}
@@ -18,7 +19,7 @@ use Rattle.state.specs.Image.{image}
 use Rattle.state.specs.Layout.{endOf}
 use Rattle.state.specs.Memory.{Holds}
 use Rattle.state.specs.Sound.{Within, Ranged, Sound}
-use Rattle.rules.specs.Call.{Call}
+use Rattle.rules.specs.Call.{Call, events, pending}
 use Rattle.steps.specs.Step.{step}
 use Rattle.steps.specs.Calls.{started, called}
 
@@ -69,6 +70,16 @@ OneImage = (s t : State) → Sound s → Sound t → image s ≡ image t → s �
 abbrev pub NumbersApart : Type 0
 NumbersApart = (a b : Answer) → answerNumber a ≡ answerNumber b → a ≡ b
 
+-- what Events and Pending do on a memory that holds the state s (document 02, Req 06)
+pub record EventsTold (m : List ℕ) (s : State) : Type 0 where
+  -- Events answers the event word
+  pub word : called m events .answer ≡ Value (s .control .events .word)
+  -- Pending answers the smallest number of an event that is set in it, or 16 if none is, and nothing else
+  pub smallest : (n : ℕ) → (called m pending .answer ≡ Value n) ↔ SmallestSet (s .control .events .word) n
+  -- neither changes anything
+  pub events-leaves : called m events .memory ≡ m
+  pub pending-leaves : called m pending .memory ≡ m
+
 -- all of it
 pub record Demand1 : Type 0 where
   pub damage-check : DamageCheck
@@ -78,3 +89,4 @@ pub record Demand1 : Type 0 where
   pub numbers-apart : NumbersApart
   pub sound-kept : SoundKept
   pub stays-undamaged : StaysUndamaged
+  pub events-told : (m : List ℕ) (u : Undamaged m) → EventsTold m (u .state)

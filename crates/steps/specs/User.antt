@@ -93,7 +93,7 @@ eventWord s m = told (s .control .events .word) s m
 unfoldable pub acknowledgeEvents : State → List ℕ → ℕ → Told
 acknowledgeEvents s m mask = told 0 (withControl s (withEvents (s .control) (acknowledged (s .control .events) mask))) m
 
--- pending: one function of the event word
+-- pending: the smallest number of a set event, or 16
 abbrev pub pendingEvent : State → List ℕ → Told
 pendingEvent s m = told (pendingOf (s .control .events)) s m
 
