@@ -1,7 +1,7 @@
 //! The window, sentence by sentence of document 02, Req 02, on the second implementation.
 
 use crate::draft;
-use crate::line::Line;
+use crate::line::{does_nothing, seen, stations, Line};
 
 const ORDERS: [&str; 2] = ["i", "m"];
 
@@ -32,87 +32,11 @@ const BEYOND: [u32; 12] = [
     u32::MAX,
 ];
 
-/// Stations in which the commands come to different things; diagnosis count 6 and no flags are in force.
-fn stations() -> Vec<Line> {
-    let fresh = Line::fresh();
-    let mut shown = Line::fresh();
-    shown.set_prm(draft::ALLOW_NONE);
-    let mut waiting = shown.clone();
-    waiting.set_prm(draft::ALLOW_BOTH);
-    let mut early = shown.clone();
-    early.chk_cfg();
-    let mut checked = early.clone();
-    assert_eq!(checked.call("judgeprm 1"), 0);
-    let mut checked_twice = checked.clone();
-    checked_twice.chk_cfg();
-    let mut exchange = checked.clone();
-    assert_eq!(exchange.call("judgecfg 1"), 0);
-    let mut outputs = exchange.clone();
-    outputs.exchange(0x11);
-    outputs.hand_over(0x21);
-    let mut many_events = outputs.clone();
-    many_events.control(draft::CLEAR);
-    assert_eq!(many_events.call("diag 6 0"), 0);
-    many_events.chk_cfg();
-    let mut diagnosis_asked = exchange.clone();
-    diagnosis_asked.ask_for_diagnosis();
-    let mut left = outputs.clone();
-    assert_eq!(left.call("leave"), 0);
-    vec![
-        fresh,
-        shown,
-        waiting,
-        early,
-        checked,
-        checked_twice,
-        exchange,
-        outputs,
-        many_events,
-        diagnosis_asked,
-        left,
-    ]
-}
-
-/// Enough answers to tell two stations apart.
-fn seen(mut line: Line) -> Vec<i64> {
-    let looks = [
-        "events",
-        "read 1 0",
-        "read 2 6",
-        "read 3 0",
-        "read 4 0",
-        "read 5 6",
-        "take",
-        "read 1 0",
-        "write 4 0 55",
-        "handover",
-        "read 4 0",
-    ];
-    let mut answers: Vec<i64> = looks.iter().map(|look| line.call(look)).collect();
-    let replies = [
-        line.rest_of_reply(),
-        line.request(draft::SLAVE_DIAG, Vec::new()),
-        line.send_output(0x12),
-        line.request(draft::READ_INPUTS, Vec::new()),
-    ];
-    answers.extend(replies.concat().into_iter().map(i64::from));
-    answers.push(line.call("judgeprm 1"));
-    answers.push(line.call("judgecfg 1"));
-    answers.push(line.call("events"));
-    answers
-}
-
 /// The access answers and leaves the station as the call does.
 fn acts_as(before: &Line, access: &str, call: &str) {
     let (mut by_window, mut by_call) = (before.clone(), before.clone());
     assert_eq!(by_window.call(access), by_call.call(call), "{access}");
     assert_eq!(seen(by_window), seen(by_call), "{access}, {call}");
-}
-
-fn does_nothing(before: &Line, access: &str, answer: i64) {
-    let mut line = before.clone();
-    assert_eq!(line.call(access), answer, "{access}");
-    assert_eq!(seen(line), seen(before.clone()), "{access}");
 }
 
 #[test]

@@ -29,7 +29,8 @@ pub struct Pair {
 pub struct Difference {
     number: usize,
     call: Call,
-    ledger: i64,
+    /// None where the second implementation was not asked.
+    ledger: Option<i64>,
     library: String,
     recent: VecDeque<(usize, Call, i64)>,
 }
@@ -141,11 +142,16 @@ impl Pair {
         Ok(())
     }
 
-    fn difference(&self, call: &Call, ledger: i64, library: String) -> Box<Difference> {
+    fn difference(
+        &self,
+        call: &Call,
+        ledger: impl Into<Option<i64>>,
+        library: String,
+    ) -> Box<Difference> {
         Box::new(Difference {
             number: self.calls,
             call: call.clone(),
-            ledger,
+            ledger: ledger.into(),
             library,
             recent: self.recent.clone(),
         })
@@ -153,7 +159,7 @@ impl Pair {
 
     /// A difference that another check found after the last call.
     pub fn found(&self, call: &Call, misdeed: String) -> Box<Difference> {
-        self.difference(call, 0, misdeed)
+        self.difference(call, None, misdeed)
     }
 }
 
@@ -181,7 +187,9 @@ fn meaning(answer: i64) -> &'static str {
 impl fmt::Display for Difference {
     fn fmt(&self, f: &mut fmt::Formatter<'_>) -> fmt::Result {
         writeln!(f, "call {}: {}", self.number, self.call)?;
-        writeln!(f, "  the second implementation {}", answered(self.ledger))?;
+        if let Some(answer) = self.ledger {
+            writeln!(f, "  the second implementation {}", answered(answer))?;
+        }
         writeln!(f, "  the C library {}", self.library)?;
         writeln!(f, "the calls before it, with the answers of both:")?;
         for (number, call, answer) in &self.recent {

@@ -2,15 +2,17 @@
 //! these checks hold the C library to the documents alone: an image that is no state's is refused with 5 by every call
 //! but Start and stays as it is; one that is a state's is never refused with 5, whatever is called. Which images are
 //! a state's is said by docs/memory.md (image.rs), and every image here is held to it. In all cases no octet outside
-//! the lent memory is touched and every answer is one that the call can have.
+//! the lent memory is touched, every answer is one that the call can have, and Pending fits Events.
 
 use crate::call::{Call, Order, StartValues};
 use crate::card::{call_library, first_change, is_possible, only_looks, Card, Memory, STATE};
 use crate::draft::{self, Draft};
 use crate::image::{is_state, sides, CHAIN, FURTHER, LENGTHS};
+use crate::ledger::smallest_event;
 use crate::outcome::{Outcome, Tally};
 use crate::random::Random;
 use crate::telegram::{self, Form, Telegram};
+use std::ops::Range;
 
 /// The longest reply: SD2 with LE 249.
 const LONGEST_REPLY: usize = 249 + 6;
@@ -49,6 +51,9 @@ const DRAWN_READ_INPUTS: u8 = 5;
 const DRAWN_READ_OUTPUTS: u8 = 6;
 const DRAWN_GET_CFG: u8 = 7;
 const DRAWN_SLAVE_DIAG: u8 = 8;
+
+/// Where the events stand, low octet first.
+const EVENTS: Range<usize> = 4..6;
 
 /// Where Diag_Flag stands, and its bit.
 const DIAG_FLAG: (usize, u8) = (3, 0x40);
@@ -154,6 +159,36 @@ fn every_call() -> Vec<Call> {
             octet: 0xFF,
         },
     ]
+}
+
+/// Every word of events in a memory that is not damaged: each is a state's, also with numbers that no rule sets. Events
+/// answers it, Pending its smallest number, and the memory stays as it is. Answers the number of calls.
+pub fn try_every_event_word(mut memory: Memory) -> Result<u64, String> {
+    let mut calls = 0;
+    for word in 0..=u16::MAX {
+        memory.contents_mut()[EVENTS].copy_from_slice(&word.to_le_bytes());
+        let right = [
+            (Call::Events, word.into()),
+            (Call::Pending, smallest_event(word)),
+        ];
+        for (call, expected) in right {
+            only_answers(&mut memory, &call, expected)
+                .map_err(|misdeed| format!("with the events {word:04X} {misdeed}"))?;
+            calls += 1;
+        }
+    }
+    Ok(calls)
+}
+
+/// The call answers this and leaves the memory as it is.
+fn only_answers(memory: &mut Memory, call: &Call, expected: i64) -> Result<(), String> {
+    let before = memory.contents().to_vec();
+    let answer = memory.call(call);
+    if answer != expected {
+        return Err(format!("answers {answer} to {call} instead of {expected}"));
+    }
+    unchanged(&before, memory.contents())?;
+    guards(memory)
 }
 
 /// The damage that is tried on one reached state.
@@ -679,6 +714,7 @@ fn refused_by_all(memory: &mut Memory) -> Result<(), String> {
     guards(memory)
 }
 
+/// One call on a memory that passed for a state: never 5, and Pending fits what Events answers right behind it.
 fn checked_on_state(memory: &mut Memory, call: &Call) -> Result<i64, String> {
     let answer = memory.call(call);
     if answer == -5 || !is_possible(call, answer) {
@@ -686,8 +722,20 @@ fn checked_on_state(memory: &mut Memory, call: &Call) -> Result<i64, String> {
             "takes it for a state and then answers {answer} to {call}"
         ));
     }
+    if matches!(call, Call::Pending) {
+        fits_events(answer, memory.call(&Call::Events))?;
+    }
     guards(memory)?;
     Ok(answer)
+}
+
+fn fits_events(pending: i64, events: i64) -> Result<(), String> {
+    match u16::try_from(events).map(smallest_event) {
+        Ok(smallest) if smallest == pending => Ok(()),
+        _ => Err(format!(
+            "answers {pending} to pending and {events} to events"
+        )),
+    }
 }
 
 fn unchanged(before: &[u8], now: &[u8]) -> Result<(), String> {

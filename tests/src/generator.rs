@@ -4,7 +4,7 @@
 
 use crate::call::{Call, Order, StartValues};
 use crate::draft::{self, Draft};
-use crate::ledger::{Drawn, Ledger, Phase, Station, DIAGNOSIS_HEAD};
+use crate::ledger::{smallest_event, Drawn, Ledger, Phase, Station, DIAGNOSIS_HEAD};
 use crate::random::Random;
 use crate::telegram::{self, Form, EXTENSION};
 
@@ -387,7 +387,7 @@ impl Generator {
             return self.one_sided();
         }
         match self.random.weighted(&[
-            10, 14, 22, 10, 10, 8, 10, 10, 6, 1, 6, 12, 10, 10, 8, 10, 60, 4,
+            10, 14, 22, 10, 10, 8, 10, 10, 6, 1, 6, 12, 10, 10, 8, 10, 60, 4, 10,
         ]) {
             0 => self.reach_exchange(),
             1 => self.delayed_diagnosis(),
@@ -406,7 +406,8 @@ impl Generator {
             14 => self.writes_without_effect(),
             15 => self.points_asked_in_turn(),
             16 => self.retries(),
-            _ => self.retry_of_an_early_request(),
+            17 => self.retry_of_an_early_request(),
+            _ => self.branch_on_pending(),
         }
     }
 
@@ -2160,6 +2161,64 @@ impl Generator {
             },
         };
         self.put_whole(&draft);
+    }
+}
+
+/// A vat program that asks for the smallest event and does what that one wants. Otherwise event 1, which is set early and
+/// seldom acknowledged, would hide the rest.
+impl Generator {
+    fn branch_on_pending(&mut self) {
+        self.open_a_set_or_exchange();
+        for _ in 0..self.random.between(2, 4) {
+            self.raise_an_event();
+        }
+        for _ in 0..self.random.between(3, 9) {
+            let told = smallest_event(self.ledger().events);
+            self.call(Call::Pending);
+            if self.random.chance(20) {
+                self.raise_an_event();
+            }
+            self.serve(told);
+        }
+    }
+
+    /// 13, 12, 8, 10, 11, or 1 and 3, with others that come along; what the phase does not allow raises none.
+    fn raise_an_event(&mut self) {
+        let draft = match self.random.below(6) {
+            0 => self.good_exchange(),
+            1 => {
+                let diagnosis = self.some_diagnosis();
+                return self.call(diagnosis);
+            }
+            2 => self.global_control(),
+            3 => self.good_chk_cfg(),
+            4 => {
+                let watchdog = self.short_watchdog();
+                self.good_set_prm(watchdog)
+            }
+            _ => return self.ask_for_a_clear(),
+        };
+        self.put_quietly(&draft);
+        self.hear_quietly();
+    }
+
+    /// Parameters are judged first, or 6 refuses to judge the configuration.
+    fn serve(&mut self, event: i64) {
+        let judgement = self.judgement();
+        match event {
+            10 => {
+                self.judge_parameters_good();
+                self.call(Call::JudgeConfiguration(judgement));
+            }
+            11 => self.call(Call::JudgeParameters(judgement)),
+            16 => self.raise_an_event(),
+            _ => {
+                if event == 13 {
+                    self.call(Call::Take);
+                }
+                self.call(Call::Acknowledge(1 << event));
+            }
+        }
     }
 }
 

@@ -1,6 +1,6 @@
-//! A second implementation of the station: the ledger of document 01 (section "The ledger") with Req 01 and Req 05 of
-//! document 02, on lists. The window of Req 02 is in window.rs, the retries of Req 04 are in retries.rs. Req 03 changes no
-//! answer.
+//! A second implementation of the station: the ledger of document 01 (section "The ledger") with Req 01, Req 05 and Req 06
+//! of document 02, on lists. The window of Req 02 is in window.rs, the retries of Req 04 are in retries.rs. Req 03 changes
+//! no answer.
 //!
 //! It is fed the arguments of the calls alone and has no memory, no buffers and no roles. A telegram's octets are
 //! gathered and acted on whole at the last one; a reply is fixed whole when it is drawn. Where a document can be read in
@@ -1900,22 +1900,33 @@ impl Ledger {
         0
     }
 
-    /// The choice that document 01 leaves free: the lowest event that is set.
+    /// The smallest event: where others are set too they are greater ones. No rule sets one above 13.
     fn pending(&mut self) -> i64 {
-        let number = i64::from(self.events.trailing_zeros());
-        self.note(match number {
-            1 => Outcome::Pending1,
-            3 => Outcome::Pending3,
-            8 => Outcome::Pending8,
-            10 => Outcome::Pending10,
-            11 => Outcome::Pending11,
-            12 => Outcome::Pending12,
-            13 => Outcome::Pending13,
-            NO_EVENT => Outcome::Pending16,
+        let number = smallest_event(self.events);
+        let (answered, ahead) = match number {
+            1 => (Outcome::Pending1, Some(Outcome::Pending1Ahead)),
+            3 => (Outcome::Pending3, Some(Outcome::Pending3Ahead)),
+            8 => (Outcome::Pending8, Some(Outcome::Pending8Ahead)),
+            10 => (Outcome::Pending10, Some(Outcome::Pending10Ahead)),
+            11 => (Outcome::Pending11, Some(Outcome::Pending11Ahead)),
+            12 => (Outcome::Pending12, Some(Outcome::Pending12Ahead)),
+            13 => (Outcome::Pending13, None),
+            NO_EVENT => (Outcome::Pending16, None),
             _ => unreachable!("no rule sets event {number}"),
-        });
+        };
+        let others_too = self.events.count_ones() > 1;
+        self.note(answered);
+        if let Some(ahead) = ahead {
+            self.note_if(others_too, ahead);
+        }
         number
     }
+}
+
+/// Document 02, Req 06: "the smallest number of a set event". None is 16, as in document 01.
+pub fn smallest_event(events: u16) -> i64 {
+    let is_set = |number: &i64| events >> number & 1 == 1;
+    (0..NO_EVENT).find(is_set).unwrap_or(NO_EVENT)
 }
 
 fn shown_octet(sets: &Sets, index: usize) -> Result<u8, Refusal> {

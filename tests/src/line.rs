@@ -151,3 +151,80 @@ pub fn exchange(output: u8) -> Draft {
 pub fn global_control(control: u8) -> Draft {
     Draft::global_control(127, MASTER, control, 0)
 }
+
+/// Stations in which the vat program's calls come to different things; diagnosis count 6 and no flags are in force.
+pub fn stations() -> Vec<Line> {
+    let fresh = Line::fresh();
+    let mut shown = Line::fresh();
+    shown.set_prm(draft::ALLOW_NONE);
+    let mut waiting = shown.clone();
+    waiting.set_prm(draft::ALLOW_BOTH);
+    let mut early = shown.clone();
+    early.chk_cfg();
+    let mut checked = early.clone();
+    assert_eq!(checked.call("judgeprm 1"), 0);
+    let mut checked_twice = checked.clone();
+    checked_twice.chk_cfg();
+    let mut exchange = checked.clone();
+    assert_eq!(exchange.call("judgecfg 1"), 0);
+    let mut outputs = exchange.clone();
+    outputs.exchange(0x11);
+    outputs.hand_over(0x21);
+    let mut many_events = outputs.clone();
+    many_events.control(draft::CLEAR);
+    assert_eq!(many_events.call("diag 6 0"), 0);
+    many_events.chk_cfg();
+    let mut diagnosis_asked = exchange.clone();
+    diagnosis_asked.ask_for_diagnosis();
+    let mut left = outputs.clone();
+    assert_eq!(left.call("leave"), 0);
+    vec![
+        fresh,
+        shown,
+        waiting,
+        early,
+        checked,
+        checked_twice,
+        exchange,
+        outputs,
+        many_events,
+        diagnosis_asked,
+        left,
+    ]
+}
+
+/// Enough answers to tell two stations apart.
+pub fn seen(mut line: Line) -> Vec<i64> {
+    let looks = [
+        "events",
+        "read 1 0",
+        "read 2 6",
+        "read 3 0",
+        "read 4 0",
+        "read 5 6",
+        "take",
+        "read 1 0",
+        "write 4 0 55",
+        "handover",
+        "read 4 0",
+    ];
+    let mut answers: Vec<i64> = looks.iter().map(|look| line.call(look)).collect();
+    let replies = [
+        line.rest_of_reply(),
+        line.request(draft::SLAVE_DIAG, Vec::new()),
+        line.send_output(0x12),
+        line.request(draft::READ_INPUTS, Vec::new()),
+    ];
+    answers.extend(replies.concat().into_iter().map(i64::from));
+    answers.push(line.call("judgeprm 1"));
+    answers.push(line.call("judgecfg 1"));
+    answers.push(line.call("events"));
+    answers
+}
+
+/// The call answers this and leaves the station as it was.
+pub fn does_nothing(before: &Line, call: &str, answer: i64) {
+    let mut line = before.clone();
+    assert_eq!(line.call(call), answer, "{call}");
+    assert_eq!(seen(line), seen(before.clone()), "{call}");
+}

@@ -1,4 +1,4 @@
-//! Compares the C library of the station with a second implementation of document 01 and of Req 01 to 05 of document 02.
+//! Compares the C library of the station with a second implementation of document 01 and of Req 01 to 06 of document 02.
 //! See tests/README.md.
 
 #[cfg(test)]
@@ -27,6 +27,8 @@ mod repeats;
 mod retries;
 mod systematic;
 mod telegram;
+#[cfg(test)]
+mod urgent;
 mod vectors;
 mod window;
 

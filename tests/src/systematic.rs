@@ -1,12 +1,13 @@
 //! What need not be left to chance. From a handful of reached states every telegram of a small collection is tried with
 //! each octet changed to each value, with each other call at each place inside it and inside its reply, and the
 //! octets that decide what a telegram is are run through all their values with a check sum that is right. Every address of
-//! the window is read and written in both orders. Each kind of request follows each other one with every choice of master
-//! and of the bits that tell a repeat; elsewhere FCV is clear, so that a telegram shows its own rule. Some of the states are
-//! those of stations without outputs or without inputs.
+//! the window is read and written in both orders, and every word of events is put into the memory. Each kind of request
+//! follows each other one with every choice of master and of the bits that tell a repeat; elsewhere FCV is clear, so that
+//! a telegram shows its own rule. Some of the states are those of stations without outputs or without inputs.
 
 use crate::call::{Call, Order, StartValues};
 use crate::compare::{Difference, Pair};
+use crate::damage::try_every_event_word;
 use crate::draft::{self, Draft};
 use crate::ledger::Phase;
 use crate::random::Random;
@@ -536,6 +537,7 @@ pub fn run(threads: usize) -> Result<u64, String> {
     let mut tasks = tasks(&all, &modes);
     for base in all.iter().chain(&modes).chain(&events) {
         push_all(&mut tasks, base, &OF_THE_WINDOW);
+        push_all(&mut tasks, base, &OF_THE_EVENTS);
     }
     let next = AtomicUsize::new(0);
     let failures: Mutex<Vec<(usize, String)>> = Mutex::new(Vec::new());
@@ -624,6 +626,8 @@ const OF_THE_WINDOW: [Named; 2] = [
     ("every window access", every_access),
     ("every octet written to the window", every_octet_written),
 ];
+
+const OF_THE_EVENTS: [Named; 1] = [("every event word", every_event_word)];
 
 fn push_telegrams<'a>(tasks: &mut Vec<Task<'a>>, base: &'a Base) {
     let ways: [(&str, fn(&mut Walker, &[u8]) -> Compared); 4] = [
@@ -763,6 +767,13 @@ fn every_octet_written(walker: &mut Walker) -> Compared {
             }
         }
     }
+    Ok(())
+}
+
+/// In the memory of the state, whatever is on the line in it.
+fn every_event_word(walker: &mut Walker) -> Compared {
+    walker.calls += try_every_event_word(walker.base.card.memory.clone())
+        .map_err(|misdeed| walker.base.found(&Call::Pending, misdeed))?;
     Ok(())
 }
 
