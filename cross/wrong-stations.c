@@ -22,6 +22,7 @@ read_call __real_dp_read, __wrap_dp_read;
 write_call __real_dp_write, __wrap_dp_write;
 alone_call __real_dp_gap, __wrap_dp_gap;
 alone_call __real_dp_take_outputs, __wrap_dp_take_outputs;
+alone_call __real_dp_pending, __wrap_dp_pending;
 octet_call __real_dp_octet, __wrap_dp_octet;
 start_call __real_dp_start, __wrap_dp_start;
 window_read_call __real_dp_window_read, __wrap_dp_window_read;
@@ -34,7 +35,7 @@ static int is(const char *mistake)
 
 /* ---- The state part's octets, as docs/memory.md has them ---- */
 
-enum { OWNER = 0, FLAGS = 3, REPLY_CONTROL = 12, SENDING = 17, DRAWN = 18, ADDRESS = 20, OUTPUT_SET = 29 };
+enum { OWNER = 0, FLAGS = 3, EVENTS = 4, REPLY_CONTROL = 12, SENDING = 17, DRAWN = 18, ADDRESS = 20, OUTPUT_SET = 29 };
 enum { READING = 31, DESTINATION = 34, SOURCE = 35, CONTROL = 36 };
 enum { OUTPUT_LEN = 48, INPUT_LEN = 49, COUNTED = 54, COUNTED_MASTER = 55 };
 enum { READING_END = 10, READING_COMPLETE = 11, SENDING_E5 = 9, DRAWN_EXCHANGE = 4, DRAWN_SLAVE_DIAG = 8 };
@@ -134,6 +135,22 @@ static void mistake_one_sided(uint8_t *memory)
         memory[SENDING] = SENDING_E5;
 }
 
+/* ---- Pending ---- */
+
+/* Other events than are set, for a wrong station to tell of. For the greatest the smallest are left out one by one. */
+static uint16_t mistaken_events(uint16_t word)
+{
+    const uint16_t configuration = DP_EVENT_BIT(DP_EVENT_CONFIGURATION);
+    const uint16_t sets = configuration | DP_EVENT_BIT(DP_EVENT_PARAMETERS);
+    if (is("sets-not-told"))
+        word &= (uint16_t)~sets;
+    if (is("parameters-first") && (word & sets) == sets)
+        word &= (uint16_t)~configuration;
+    while (is("greatest-first") && (word & (word - 1)) != 0)
+        word &= (uint16_t)(word - 1);
+    return word;
+}
+
 /* ---- The calls ---- */
 
 int64_t __wrap_dp_read(uint8_t *memory, uint64_t memory_len, uint32_t kind, uint32_t index)
@@ -190,6 +207,20 @@ int64_t __wrap_dp_take_outputs(uint8_t *memory, uint64_t memory_len)
 {
     int64_t answer = __real_dp_take_outputs(memory, memory_len);
     return is("empty-list-not-new") && memory[OUTPUT_LEN] == 0 && answer == 1 ? 0 : answer;
+}
+
+int64_t __wrap_dp_pending(uint8_t *memory, uint64_t memory_len)
+{
+    const uint8_t low = memory[EVENTS], high = memory[EVENTS + 1];
+    uint16_t mistaken = mistaken_events((uint16_t)(high << 8 | low));
+    memory[EVENTS] = (uint8_t)mistaken;
+    memory[EVENTS + 1] = (uint8_t)(mistaken >> 8);
+    int64_t answer = __real_dp_pending(memory, memory_len);
+    memory[EVENTS] = low;
+    memory[EVENTS + 1] = high;
+    if (is("pending-acknowledges") && answer >= 0)
+        dp_acknowledge(memory, memory_len, DP_EVENT_BIT(answer));
+    return answer;
 }
 
 int64_t __wrap_dp_start(uint8_t *memory, uint64_t memory_len, uint32_t address, uint16_t ident, uint32_t output_len,

@@ -237,19 +237,37 @@ static void print_event(const struct program *program, unsigned event)
     printf("    %-8s event %u: %s\n", program->name, event, name);
 }
 
-/* Acknowledged before they are acted on, so that none is lost that comes meanwhile. Parameters are judged first. */
+/* The event to act on next: the most urgent one, but parameters ahead of configuration, which cannot be judged before
+   them. The bus may go on between the two calls: what comes then is found by the next look, and a set that is dropped
+   then cannot be judged, which refusal 6 says. */
+static unsigned next_event(void)
+{
+    unsigned event = (unsigned)CALL(dp_pending(MEMORY));
+    if (event != DP_EVENT_CONFIGURATION)
+        return event;
+    bool parameters = (CALL(dp_events(MEMORY)) & DP_EVENT_BIT(DP_EVENT_PARAMETERS)) != 0;
+    return parameters ? DP_EVENT_PARAMETERS : DP_EVENT_CONFIGURATION;
+}
+
+/* Seven events can be set at once, a newer set of each kind can wait, and judging can raise event 1 again. All of these
+   fit into a round; what a busy line adds is left to the next one, or it could keep the main loop here. */
+enum { EVENTS_IN_A_ROUND = 10 };
+
+/* Acknowledged before it is acted on, so that it is not lost if it comes again meanwhile. That does nothing to 10 and
+   11: they are met again until their set is judged or dropped, and so a newer set is judged next. */
 void look_at_events(const struct program *program)
 {
-    uint16_t word = (uint16_t)CALL(dp_events(MEMORY));
-    CALL(dp_acknowledge(MEMORY, word));
-    for (unsigned event = 0; event < DP_NO_EVENT; event++) {
-        if ((word & DP_EVENT_BIT(event)) != 0)
-            print_event(program, event);
+    for (int count = 0; count < EVENTS_IN_A_ROUND; count++) {
+        unsigned event = next_event();
+        if (event == DP_NO_EVENT)
+            return;
+        CALL(dp_acknowledge(MEMORY, DP_EVENT_BIT(event)));
+        print_event(program, event);
+        if (event == DP_EVENT_PARAMETERS)
+            program->judge_parameters(program);
+        else if (event == DP_EVENT_CONFIGURATION)
+            judge_configuration(program);
     }
-    if ((word & DP_EVENT_BIT(DP_EVENT_PARAMETERS)) != 0)
-        program->judge_parameters(program);
-    if ((word & DP_EVENT_BIT(DP_EVENT_CONFIGURATION)) != 0)
-        judge_configuration(program);
 }
 
 /* ---- The vat program ---- */

@@ -93,7 +93,8 @@ bool good_configuration(const struct program *program, const uint8_t *octets, ui
 /* For judge_parameters, where Set_Prm has no octet of the program's own. */
 void accept_parameters(const struct program *program);
 
-/* Acknowledges the events that are set, and judges the sets that they tell of. */
+/* Acts on the events that are set, one at a time and the most urgent first: each is acknowledged, and the set that it
+   tells of is judged. */
 void look_at_events(const struct program *program);
 
 /* The vat program of card.c. The older one asks for the same configuration. */

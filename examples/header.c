@@ -1,6 +1,6 @@
 /*
- * The header in C99 and in C++17: every call has its type and is in the library, so that this links, and the constants
- * are the numbers that the station answers.
+ * The header in C99 and in C++17: every call has its type and is in the library, so that this links, the constants are
+ * the numbers that the station answers, and of several events the smallest is told.
  */
 #include "dp.h"
 #include "dp.h" /* a second time: the guard holds */
@@ -121,6 +121,54 @@ static void expect_fresh(void)
     expect("dp_take_outputs", dp_take_outputs(m, n), 2);
 }
 
+/* A telegram behind a gap. */
+static void put_on_line(const uint8_t *octets, size_t count)
+{
+    expect("dp_gap", dp_gap(memory, DP_MEMORY_MIN), 0);
+    for (size_t i = 0; i < count; i++)
+        expect("dp_octet", octet(memory, DP_MEMORY_MIN, octets[i], 0), 0);
+}
+
+/* Events 13, 12, 11 and 10 come one after the other: each is told ahead of the earlier ones. */
+static void expect_smallest(void)
+{
+    static const uint8_t set_prm[] = {0x68, 0x0C, 0x0C, 0x68, 0x85, 0x82, 0x4D, 0x3D, 0x3E,
+                                      0x80, 0x00, 0x00, 0x0B, 0x80, 0xB3, 0x00, 0x8D, 0x16};
+    static const uint8_t chk_cfg[] = {0x68, 0x06, 0x06, 0x68, 0x85, 0x82, 0x4D, 0x3E, 0x3E, 0x20, 0xF0, 0x16};
+    uint8_t *m = memory;
+    size_t n = DP_MEMORY_MIN;
+    expect("dp_start", started(n, 5, SHORT), 0);
+    expect("dp_pending, no event", dp_pending(m, n), DP_NO_EVENT);
+    expect("dp_leave_master", dp_leave_master(m, n), 0);
+    expect("dp_pending, 13", dp_pending(m, n), DP_EVENT_OUTPUTS);
+    expect("dp_new_diagnosis", dp_new_diagnosis(m, n, DP_DIAGNOSIS_MIN, 0), 0);
+    expect("dp_pending, 12 and 13", dp_pending(m, n), DP_EVENT_DIAGNOSIS);
+    put_on_line(set_prm, sizeof set_prm);
+    expect("dp_pending, 11 to 13", dp_pending(m, n), DP_EVENT_PARAMETERS);
+    put_on_line(chk_cfg, sizeof chk_cfg);
+    expect("dp_pending, 10 to 13", dp_pending(m, n), DP_EVENT_CONFIGURATION);
+    expect("dp_events, 10 to 13", dp_events(m, n), 0x3C00);
+}
+
+/* From there on each is told until it is ended: 10 and 11 by judging, which raises 1, the others by acknowledging. */
+static void expect_ended(void)
+{
+    static const uint32_t others[] = {DP_EVENT_DATA_EXCH, DP_EVENT_DIAGNOSIS, DP_EVENT_OUTPUTS};
+    uint8_t *m = memory;
+    size_t n = DP_MEMORY_MIN;
+    expect("dp_acknowledge, 10 and 11", dp_acknowledge(m, n, 0x0C00), 0);
+    expect("dp_judge_configuration, too early", dp_judge_configuration(m, n, DP_GOOD), -DP_REFUSED_JUDGING);
+    expect("dp_pending, 10 to 13", dp_pending(m, n), DP_EVENT_CONFIGURATION);
+    expect("dp_judge_parameters", dp_judge_parameters(m, n, DP_GOOD), 0);
+    expect("dp_pending, 10, 12 and 13", dp_pending(m, n), DP_EVENT_CONFIGURATION);
+    expect("dp_judge_configuration", dp_judge_configuration(m, n, DP_GOOD), 0);
+    for (size_t i = 0; i < COUNT(others); i++) {
+        expect("dp_pending, 1, 12 and 13 in turn", dp_pending(m, n), others[i]);
+        expect("dp_acknowledge", dp_acknowledge(m, n, DP_EVENT_BIT(others[i])), 0);
+    }
+    expect("dp_pending, no event left", dp_pending(m, n), DP_NO_EVENT);
+}
+
 /* What does not depend on the order. Every command here leaves the events as they were. */
 static void expect_cells(uint32_t order)
 {
@@ -174,6 +222,8 @@ int main(void)
     expect_lengths_0();
     expect_start();
     expect_fresh();
+    expect_smallest();
+    expect_ended();
     expect_window();
     return 0;
 }

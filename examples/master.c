@@ -1,9 +1,9 @@
 /*
  * A master that takes the card of card.c through a start-up, some exchanges of data, a diagnosis and a clear, falls
- * silent, and comes back to run the vat in step with others, by sync and freeze. Then it meets the older vat program of
- * older.c, and misses a reply. At last it turns to other stations: the lamp panel of panel.c, which has no inputs, and
- * the sensor of sensor.c, which has no outputs. It prints each telegram; the programs print what they see. Nothing
- * depends on time or chance.
+ * silent, and comes back to run the vat in step with others, by sync and freeze. Once the vat program is late and finds
+ * several events at once. Then the master meets the older vat program of older.c, and misses a reply. At last it turns
+ * to other stations: the lamp panel of panel.c, which has no inputs, and the sensor of sensor.c, which has no outputs.
+ * It prints each telegram; the programs print what they see. Nothing depends on time or chance.
  */
 #include "card.h"
 
@@ -237,6 +237,15 @@ static void slave_diag_with_older_cycles_inside(void)
     fetch_reply();
 }
 
+/* The timer goes on while the line is silent. */
+static void pass_ticks(int first, int last)
+{
+    for (int tick = first; tick <= last; tick++) {
+        printf("    tick %d\n", tick);
+        card_on_tick();
+    }
+}
+
 static void title(const char *text)
 {
     static int number;
@@ -319,12 +328,10 @@ static void clear_and_silence(void)
     data_exchange(0x01, 0x08);
     vat_cycle();
     title("Silence. The watchdog expires at the sixth tick; the vat program runs after the fifth and after that.");
-    for (int tick = 1; tick <= WATCHDOG_TICKS; tick++) {
-        printf("    tick %d\n", tick);
-        card_on_tick();
-        if (tick >= WATCHDOG_TICKS - 1)
-            vat_cycle();
-    }
+    pass_ticks(1, WATCHDOG_TICKS - 1);
+    vat_cycle();
+    pass_ticks(WATCHDOG_TICKS, WATCHDOG_TICKS);
+    vat_cycle();
     title("Slave_Diag: the station waits for parameters and has no master (02 05 00 FF).");
     slave_diag();
 }
@@ -376,6 +383,21 @@ static void end_sync_and_freeze(void)
     vat_cycle();
     title("Slave_Diag: sync and freeze are off (00 0C 00 02).");
     slave_diag();
+}
+
+/* The events of all this are set when the vat program looks at last: 13 came first and is told last. */
+static void late_round(void)
+{
+    title("Data_Exchange, silence until the watchdog expires, Set_Prm, Chk_Cfg, all before the vat program's round.");
+    data_exchange(0x02, 0x10);
+    pass_ticks(1, WATCHDOG_TICKS);
+    set_prm(0, 0x1E);
+    chk_cfg();
+    title("Its round: the smallest event first, but 11 ahead of 10; the 1 that judging raises comes ahead of 13.");
+    vat_cycle();
+    title("Data_Exchange: the exchange of data goes on.");
+    data_exchange(0x02, 0x10);
+    vat_cycle();
 }
 
 static void older_start_up(void)
@@ -506,6 +528,7 @@ int main(void)
     sync_outputs();
     freeze_inputs();
     end_sync_and_freeze();
+    late_round();
     older_start_up();
     older_exchange();
     older_diagnosis();

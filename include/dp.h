@@ -98,7 +98,8 @@ enum dp_refusal {
     DP_REFUSED_CELL = 10    /* an address of the window above 015H */
 };
 
-/* Events: numbers of bits in the event word. The other bits are never set. */
+/* Events: numbers of bits in the event word, the most urgent first, as dp_pending tells them. The other bits are never
+   set. */
 enum dp_event {
     DP_EVENT_DATA_EXCH = 1,      /* DATA_EXCH was entered or left */
     DP_EVENT_WATCHDOG = 3,       /* the watchdog expired */
@@ -269,8 +270,12 @@ int64_t dp_events(uint8_t *memory, uint64_t memory_len);
 int64_t dp_acknowledge(uint8_t *memory, uint64_t memory_len, uint16_t mask);
 
 /*
- * Pending: some event that is set; do not rely on which one if there are several.
- * Answers its number, 0 to 15, or DP_NO_EVENT. Refused by 5.
+ * Pending: the smallest number of an event that is set, so the most urgent one. Asking changes nothing: an event stays
+ * ahead of those with greater numbers until it is ended, by dp_acknowledge; 10 and 11 end when their set is judged
+ * and no newer one waited, or is dropped. 10 comes ahead of 11 although parameters are judged first (until they are good
+ * dp_judge_configuration is refused by 6): a program that branches on the answer looks for 11 in dp_events when it gets
+ * 10.
+ * Answers the number, 0 to 15, or DP_NO_EVENT where none is set. Refused by 5.
  */
 int64_t dp_pending(uint8_t *memory, uint64_t memory_len);
 
