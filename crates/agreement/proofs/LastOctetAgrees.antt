@@ -19,6 +19,7 @@ use Rattle.state.specs.declared.control.Control.{Control}
 use Rattle.state.specs.declared.state.State.{State}
 use Rattle.state.specs.Layout.{parametersAt}
 use Rattle.rules.specs.declared.outcome.Outcome.{Outcome}
+use Rattle.rules.specs.Control.{bit}
 use Rattle.rules.specs.Requests.{masterOf}
 use Rattle.rules.specs.Services.{outcomeBy}
 use Rattle.ledger.specs.Ledger.{Ledger, withLine}
@@ -38,22 +39,25 @@ use Rattle.agreement.proofs.OnePartChanges.{reading-changed, replied, r
 use Rattle.agreement.proofs.ReplyDrawn.{draws}
 use Rattle.rules.proofs.Served.{Served}
 use Rattle.steps.proofs.OutcomeServed.{outcome-served}
-use Rattle.rules.proofs.LookedAt.{same-outcome}
+use Rattle.rules.proofs.LookedAt.{SamePrm, same-base, same-outcome}
 use Rattle.agreement.proofs.LineStays.{begins-whole, reply-line, ignored-agrees}
 use Rattle.agreement.proofs.OutcomeCarried.{received-agrees}
 
--- Set_Prm's octets, where there are enough of them
+-- Set_Prm's octets, where there are enough of them; what stands at octet 7 is the telegram's only if that has one
 prm-same : (s : State) (m : List ℕ) (ds : List ℕ) → 7 ≤ length ds
-    → part m (parametersAt (s .setup) (fillOf (s .parameters .set .place))) (length ds) ≡ ds → prmIn s m ≡ bus.prmBy ds
-prm-same s m ds h e =
-    λ j. record {
-      status = (ap (λ (x : ℕ). getD m x 0) (sym (add-zero at)) ∙ octet 0 (omega arith)) j;
-      factor1 = octet 1 (omega arith) j;
-      factor2 = octet 2 (omega arith) j;
-      «ident_high» = octet 4 (omega arith) j;
-      «ident_low» = octet 5 (omega arith) j;
-      group = octet 6 (omega arith) j;
-    }
+    → part m (parametersAt (s .setup) (fillOf (s .parameters .set .place))) (length ds) ≡ ds → SamePrm (length ds) (prmIn s m) (bus.prmBy ds)
+prm-same s m ds h e = record {
+  others = λ j. record {
+    status = (ap (λ (x : ℕ). getD m x 0) (sym (add-zero at)) ∙ octet 0 (omega arith)) j;
+    factor1 = octet 1 (omega arith) j;
+    factor2 = octet 2 (omega arith) j;
+    «ident_high» = octet 4 (omega arith) j;
+    «ident_low» = octet 5 (omega arith) j;
+    group = octet 6 (omega arith) j;
+    base = getD m (at + 7) 0;
+  };
+  base = same-base (length ds) (prmIn s m) (bus.prmBy ds) (λ there. ap (λ (x : ℕ). bit x 2) (octet 7 (omega arith)));
+}
   where
     at : ℕ
     at = parametersAt (s .setup) (fillOf (s .parameters .set .place))

@@ -72,7 +72,7 @@ pub extern "C" fn dp_send(memory: &mut [u8]) -> i64
     answer.code()
 }
 
-// A Tick, every 10 ms.
+// A Tick, every 1 ms.
 #[no_mangle]
 pub extern "C" fn dp_tick(memory: &mut [u8]) -> i64
     ensures { λ r. ⌜ Returns (called (now (memory .entry)) tick) r (now (memory .exit)) ⌝ }

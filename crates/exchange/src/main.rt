@@ -19,7 +19,7 @@ fn take_turn(memory: &mut [u8], telegram: &[u8], count: usize) {
     }
 }
 
-// Start, Set_Prm and Chk_Cfg with their judgements: address 5, ident 80B3, one output, one input, master 2, 10 Ticks.
+// Start, Set_Prm and Chk_Cfg with their judgements: address 5, ident 80B3, one output, one input, master 2, 100 Ticks.
 fn set_up(memory: &mut [u8]) {
     station::start::start(memory, 5, 0x80B3, 1, 1, 7, 1, 6, b"\x31");
     let prm = b"\x68\x0C\x0C\x68\x85\x82\x5D\x3D\x3E\x88\x01\x0A\x0B\x80\xB3\x00\xB0\x16";
@@ -73,5 +73,5 @@ fn exchange(count: usize) {
 fn main() {
     exchange(3);
     // the watchdog runs out
-    exchange(10);
+    exchange(100);
 }

@@ -13,6 +13,7 @@ use Rattle.ledger.proofs.ModesKept.{modes-always}
 use Rattle.ledger.proofs.RequestKept.{chain-kept, chain-goes-on, start-has-none}
 use Rattle.ledger.proofs.Repeats.{in-octets, repeat-is, drawn-again, e5-again, set-prm-once, no-deed-again}
 use Rattle.ledger.proofs.OneWay.{one-way}
+use Rattle.ledger.proofs.Watchdog.{watchdog-base}
 use Rattle.ledger.proofs.Fit.{replies-read}
 use Rattle.ledger.proofs.Octets.{sent-octets}
 
@@ -44,6 +45,7 @@ demand-2 = record {
   set-prm-once = set-prm-once;
   no-deed-again = no-deed-again;
   one-way = one-way;
+  watchdog-base = watchdog-base;
   sending = sending;
   reading-back = replies-read;
   sent-octets = sent-octets;

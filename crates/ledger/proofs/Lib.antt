@@ -19,6 +19,9 @@ pub mod RequestKept
 pub mod FlagKept
 pub mod Repeats
 pub mod OneWay
+pub mod Expiry
+pub mod Refills
+pub mod Watchdog
 pub mod Demand2
 pub mod Scripts
 mod Computing
@@ -28,3 +31,4 @@ mod ModeCases
 mod RetryCases
 mod OneWayCases
 mod PendingCases
+mod WatchdogCases

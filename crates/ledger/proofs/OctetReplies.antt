@@ -57,7 +57,7 @@ pub record ListOctets (b : Buffers) : Type 0 where
 -- The reply.
 
 -- a flag is one bit
-one-low : (t : Bool) → one t ≤ 1
+pub one-low : (t : Bool) → one t ≤ 1
 one-low true = omega arith
 one-low false = omega arith
 

@@ -21,14 +21,14 @@ use Rattle.rules.specs.Diagnosis.{delaying}
 use Rattle.rules.specs.Line.{clearOn, ticked}
 use Rattle.rules.specs.User.{judgedParameters, judgedConfiguration}
 use Rattle.rules.specs.Call.{Call, octet, gap, send, tick, take, read, write, hand-over, new-diagnosis, judge-parameters, judge-configuration, events, acknowledge, pending, leave}
-use Rattle.rules.proofs.Owner.{clear-owned, ticked-owned, parameters-owned, configuration-owned, telegram-owned}
+use Rattle.rules.proofs.Bounded.{Factors, clear-bounded, ticked-bounded, parameters-bounded, configuration-bounded, telegram-bounded}
 use Rattle.ledger.specs.Lists.{some, takenOutputs, handedOver, Buffers, withOutputs, withInputs}
 use Rattle.ledger.specs.Ledger.{Line, Ledger, begun, busy, occupied, fresh}
 use Rattle.ledger.specs.Outcome.{carried}
 use Rattle.ledger.specs.Bus.{telegramOn, requestBy, dataBy, outcomeOf, answered, completed, brokenOff, lengthened, beginning, sendTold, sendLeft, silenced, heardAs, heard, paused, afterSend, elapsed, gapped}
 use Rattle.ledger.specs.User.{octetsOfKind, writtenOctet, handOver, acknowledgeEvents, leaveMaster}
 use Rattle.ledger.specs.Calls.{step, after}
-use Rattle.ledger.specs.ReadBack.{Fit}
+use Rattle.ledger.specs.ReadBack.{StartTakes, Fit}
 use Rattle.ledger.specs.Octets.{OctetsIn, AllOctets, AnswersOctets, SentOctets}
 use Rattle.ledger.proofs.ByCases.{take-cases, read-cases, write-cases, diagnosis-cases, parameters-cases, configuration-cases}
 use Rattle.ledger.proofs.Fit.{master-low, drawn-valid, step-fit, replies-read}
@@ -47,15 +47,19 @@ heard-octets xs b false o e =
     let w = framing ys .whole .0 (ap status (run-snoc xs b) ∙ e) in
     subst (λ (t : Telegram). Octets (payloadOf t)) (sym (framing ys .told (w .0) (w .1) (w .2))) (payload-octets (w .0) (subst Octets (sym (w .2)) o))
 
+-- so are the factors of a Set_Prm
+factor-octets : (ds : List ℕ) → Octets ds → Factors (dataBy ds .prm)
+factor-octets ds q = record { first = octet-at ds q 1; second = octet-at ds q 2 }
+
 -- a complete telegram with octets for data
 completed-octal : {l : Ledger} (t : Telegram) → Fit l → Octal l → Octets (payloadOf t) → Octal (completed l t)
 unfolding answered
 completed-octal {l} t k f q =
     let o = outcomeOf l (requestBy t) (payloadOf t) in
-    let g = carried-octal f o (payloadOf t) q (telegram-owned (l .setup) (l .control) (occupied l) (requestBy t) (dataBy (payloadOf t)) (f .owner)) in
+    let g = carried-octal f o (payloadOf t) q (telegram-bounded (l .setup) (l .control) (occupied l) (requestBy t) (dataBy (payloadOf t)) (factor-octets (payloadOf t) q) (f .control)) in
     on-line g (completed l t .line) tt
     (reply-octets (l .setup) (l .slice) (o .control) (carried l o (payloadOf t) .buffers) (masterOf (requestBy t)) (master-low (requestBy t))
-    (k .start-takes .ranged .address) (f .ident) (g .owner) (f .slice) (g .lists) (o .drawn) (drawn-valid k t))
+    (k .start-takes .ranged .address) (f .ident) (g .control .0) (f .slice) (g .lists) (o .drawn) (drawn-valid k t))
 
 -- an octet, by what the octets are with it
 heard-octal : {l : Ledger} (b : ℕ) (bad : Bool) (s : Status) → b < 256 → status (readerAfter (run (l .line .telegram)) b bad) ≡ s → Fit l → Octal l → Octal (heardAs s l b)
@@ -86,33 +90,33 @@ step-octal l send h k f =
     settle-octal (on-line f (sendLeft (l .line) (l .line .reply)) (w .0) (w .1))
 step-octal l tick h k f =
     either Octal (l .control .noted) (settle-octal (on-line f (silenced l) tt tt))
-    (carried-octal f (ticked (busy l) (l .control)) [] tt (ticked-owned (l .control) (f .owner) (busy l)))
+    (carried-octal f (ticked (busy l) (l .control)) [] tt (ticked-bounded (l .control) (f .control) (busy l)))
 step-octal l take h k f =
     take-cases (λ t. Octal (t .ledger)) l (λ _. f)
-    (λ _. on-lists f (withOutputs (l .buffers) (takenOutputs (l .buffers .outputs))) (l .control) (taken-octal f) (f .owner))
+    (λ _. on-lists f (withOutputs (l .buffers) (takenOutputs (l .buffers .outputs))) (l .control) (taken-octal f) (f .control))
 step-octal l (read kind index) h k f = read-cases (λ t. Octal (t .ledger)) l kind index (λ _. f) f
 step-octal l (write kind index x) h k f =
     write-cases (λ t. Octal (t .ledger)) l kind index x (λ _. f)
-    (on-lists f (writtenOctet (l .buffers) kind index x) (l .control) (written-octal f kind index x h) (f .owner))
+    (on-lists f (writtenOctet (l .buffers) kind index x) (l .control) (written-octal f kind index x h) (f .control))
 step-octal l hand-over h k f =
     on-lists f (withInputs (l .buffers) (handedOver (l .buffers .inputs))) (l .control)
     (on-inputs f (handedOver (l .buffers .inputs))
-    (record { sending = f .lists .inputs .sending; next = f .lists .inputs .held; held = f .lists .inputs .next })) (f .owner)
+    (record { sending = f .lists .inputs .sending; next = f .lists .inputs .held; held = f .lists .inputs .next })) (f .control)
 step-octal l (new-diagnosis count flags) h k f =
     diagnosis-cases (λ t. Octal (t .ledger)) l count flags (λ _. f)
-    (λ _. on-lists f (l .buffers) (delaying (l .control) count flags) (f .lists) (f .owner)) (λ _. changed-octal f count flags)
+    (λ _. on-lists f (l .buffers) (delaying (l .control) count flags) (f .lists) (f .control)) (λ _. changed-octal f count flags)
 step-octal l (judge-parameters j) h k f =
     let waits = some (l .buffers .parameters .waiting) in
     parameters-cases (λ t. Octal (t .ledger)) l j (λ _ _. f)
-    (λ _. carried-octal f (judgedParameters (l .control) waits (eqb j 1)) [] tt (parameters-owned (l .control) (f .owner) waits (eqb j 1)))
+    (λ _. carried-octal f (judgedParameters (l .control) waits (eqb j 1)) [] tt (parameters-bounded (l .control) (f .control) waits (eqb j 1)))
 step-octal l (judge-configuration j) h k f =
     let waits = some (l .buffers .configuration .waiting) in
     configuration-cases (λ t. Octal (t .ledger)) l j (λ _ _. f)
-    (λ _. carried-octal f (judgedConfiguration (l .control) waits (eqb j 1)) [] tt (configuration-owned (l .control) (f .owner) waits (eqb j 1)))
+    (λ _. carried-octal f (judgedConfiguration (l .control) waits (eqb j 1)) [] tt (configuration-bounded (l .control) (f .control) waits (eqb j 1)))
 step-octal l events h k f = f
-step-octal l (acknowledge mask) h k f = on-lists f (l .buffers) (step l (acknowledge mask) .ledger .control) (f .lists) (f .owner)
+step-octal l (acknowledge mask) h k f = on-lists f (l .buffers) (step l (acknowledge mask) .ledger .control) (f .lists) (f .control)
 step-octal l pending h k f = f
-step-octal l leave h k f = carried-octal f (clearOn (busy l) (l .control)) [] tt (clear-owned (l .control) (f .owner) (busy l))
+step-octal l leave h k f = carried-octal f (clearOn (busy l) (l .control)) [] tt (clear-bounded (l .control) (f .control) (busy l))
 
 -- ---------------------------------------------------------------------------------------------------
 -- Every list.
@@ -122,7 +126,7 @@ fresh-octal : (s : Setup) (slice : List ℕ) → Octets slice → s .ident < 655
 fresh-octal s slice x i = record {
   ident = i;
   slice = x;
-  owner = omega arith;
+  control = (omega arith, record { left = omega arith; most = omega arith });
   lists = record {
     outputs = record { held = zero-octets (s .«output_len»); next = zero-octets (s .«output_len»); back = tt };
     inputs = record { sending = zero-octets (s .«input_len»); next = zero-octets (s .«input_len»); held = zero-octets (s .«input_len») };
@@ -165,6 +169,8 @@ octal-answers l f = record {
 }
 
 -- from Start on
+pub always-octal : (s : Setup) (slice : List ℕ) (cs : List Call) → StartTakes s slice → Octets slice → s .ident < 65536 → AllOctets cs → Octal (after (fresh s slice) cs)
+always-octal s slice cs a x i h = after-octal (fresh s slice) cs h (replies-read s slice [] a .fit) (fresh-octal s slice x i)
+
 pub sent-octets : SentOctets
-sent-octets s slice cs a x i h =
-    octal-answers (after (fresh s slice) cs) (after-octal (fresh s slice) cs h (replies-read s slice [] a .fit) (fresh-octal s slice x i))
+sent-octets s slice cs a x i h = octal-answers (after (fresh s slice) cs) (always-octal s slice cs a x i h)

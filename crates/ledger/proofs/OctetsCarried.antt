@@ -16,7 +16,7 @@ use Rattle.rules.specs.declared.outcome.SetDeed.the-variants as set-deed
 use Rattle.rules.specs.declared.outcome.Outcome.{Outcome}
 use Rattle.rules.specs.Diagnosis.{delayed, diagnosed}
 use Rattle.rules.specs.Line.{clearNoted}
-use Rattle.rules.proofs.Owner.{Owned, noted-owned}
+use Rattle.rules.proofs.Bounded.{Bounded, BoundedBy, noted-bounded}
 use Rattle.ledger.specs.Lists.{some, Outputs, takenOutputs, Inputs, writtenInput, Sets, Diagnoses, exchangedDiagnoses, writtenDiagnosis, Buffers, withOutputs, withInputs, withDiagnoses}
 use Rattle.ledger.specs.Ledger.{Line, Ledger, withLine, busy, diagnosisLeaves}
 use Rattle.ledger.specs.Outcome.{onOutputs, onInputs, onSets, onBuffers, carried, diagnosisChanged, afterReply, settle}
@@ -28,7 +28,7 @@ use Rattle.ledger.proofs.OctetReplies.{OutputOctets, InputOctets, SetOc
 pub record Octal (l : Ledger) : Type 0 where
   pub ident : l .setup .ident < 65536
   pub slice : Octets (l .slice)
-  pub owner : l .control .owner < 256
+  pub control : Bounded (l .control)
   pub lists : ListOctets (l .buffers)
   pub telegram : Octets (l .line .telegram)
   pub reply : Octets (l .line .reply)
@@ -73,12 +73,12 @@ lists-octal o s ds b q f = record {
 module _ {l : Ledger} (f : Octal l) where
   -- another line
   pub on-line : (n : Line) → Octets (n .telegram) → Octets (n .reply) → Octal (withLine l n)
-  on-line n x y = record { ident = f .ident; slice = f .slice; owner = f .owner; lists = f .lists; telegram = x; reply = y }
+  on-line n x y = record { ident = f .ident; slice = f .slice; control = f .control; lists = f .lists; telegram = x; reply = y }
 
   -- other lists and another control part
-  pub on-lists : (b : Buffers) (c : Control) → ListOctets b → c .owner < 256
+  pub on-lists : (b : Buffers) (c : Control) → ListOctets b → Bounded c
       → Octal (record { setup = l .setup; slice = l .slice; control = c; buffers = b; line = l .line })
-  on-lists b c x h = record { ident = f .ident; slice = f .slice; owner = h; lists = x; telegram = f .telegram; reply = f .reply }
+  on-lists b c x h = record { ident = f .ident; slice = f .slice; control = h; lists = x; telegram = f .telegram; reply = f .reply }
 
   -- other inputs
   pub on-inputs : (i : Inputs) → InputOctets i → ListOctets (withInputs (l .buffers) i)
@@ -120,7 +120,7 @@ module _ {l : Ledger} (f : Octal l) where
       (record { own = f .lists .diagnosis .own; user = set-octets (l .buffers .diagnosis .user) index x h (f .lists .diagnosis .user) }))
 
   -- an outcome
-  pub carried-octal : (o : Outcome) (ds : List ℕ) → Octets ds → Owned o → Octal (carried l o ds)
+  pub carried-octal : (o : Outcome) (ds : List ℕ) → Octets ds → BoundedBy o → Octal (carried l o ds)
   carried-octal o ds q h = on-lists (onBuffers o (l .setup) ds (l .buffers)) (o .control) (lists-octal o (l .setup) ds (l .buffers) q (f .lists)) h
 
   -- the two diagnosis lists change
@@ -128,7 +128,7 @@ module _ {l : Ledger} (f : Octal l) where
   unfolding diagnosed
   changed-octal count flags =
       on-lists (withDiagnoses (l .buffers) (exchangedDiagnoses (l .buffers .diagnosis))) (diagnosed (l .control) count flags)
-      (on-diagnoses (exchangedDiagnoses (l .buffers .diagnosis)) (record { own = f .lists .diagnosis .user; user = f .lists .diagnosis .own })) (f .owner)
+      (on-diagnoses (exchangedDiagnoses (l .buffers .diagnosis)) (record { own = f .lists .diagnosis .user; user = f .lists .diagnosis .own })) (f .control)
 
   -- a delayed diagnosis
   reply-octal : Octal (afterReply l)
@@ -141,4 +141,4 @@ pub settle-octal : {l : Ledger} → Octal l → Octal (settle l)
 unfolding settle
 settle-octal {l} f =
     let g = reply-octal f in
-    carried-octal g (clearNoted (busy l) (afterReply l .control)) [] tt (noted-owned (afterReply l .control) (g .owner) (busy l))
+    carried-octal g (clearNoted (busy l) (afterReply l .control)) [] tt (noted-bounded (afterReply l .control) (g .control) (busy l))

@@ -126,14 +126,14 @@ module _ (l : Ledger) (t : Telegram) where
   k = refilled g (l .control) r
 
   -- its service is served
-  served : {v : Service} → isRepeat g (l .control) r ≡ false → serviceOf g r ≡ v
+  pub served : {v : Service} → isRepeat g (l .control) r ≡ false → serviceOf g r ≡ v
       → outcomeOf l r (payloadOf t) ≡ chained g r (serve v g k (occupied l) r (dataBy (payloadOf t)))
   served n e =
       by-repeat g (l .control) (occupied l) r (dataBy (payloadOf t)) n
       ∙ ap (λ (v : Service). chained g r (serve v g k (occupied l) r (dataBy (payloadOf t)))) e
 
   -- what an outcome leaves
-  left-by : {o : Outcome} → outcomeOf l r (payloadOf t) ≡ o → completed l t ≡ answered l o (masterOf r) (payloadOf t)
+  pub left-by : {o : Outcome} → outcomeOf l r (payloadOf t) ≡ o → completed l t ≡ answered l o (masterOf r) (payloadOf t)
   left-by e = ap (λ (x : Outcome). answered l x (masterOf r) (payloadOf t)) e
 
   -- ---- Data_Exchange

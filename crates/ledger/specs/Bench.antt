@@ -27,14 +27,14 @@ f =
     does gap 0 ∷ hears (0x68 ∷ 0x04 ∷ 0x04 ∷ 0x68 ∷ 0x05 ∷ 0x02 ∷ 0x5D ∷ 0x7A ∷ 0xDE ∷ 0x16 ∷ [])
     ∷ sends (0x10 ∷ 0x02 ∷ 0x05 ∷ 0x03 ∷ 0x0A ∷ 0x16 ∷ []) ∷ does send 256 ∷ []
 
--- Set_Prm with a watchdog of 10 ticks: events 3 and 13 come at the tenth
+-- Set_Prm with a watchdog of 1 × 10 on a base of 10 ms, so 100 ticks (document 02, Req 07): events 3 and 13 come at the hundredth
 abbrev pub c : List Part
 c =
     does gap 0
     ∷ hears (0x68 ∷ 0x0C ∷ 0x0C ∷ 0x68 ∷ 0x85 ∷ 0x82 ∷ 0x5D ∷ 0x3D ∷ 0x3E ∷ 0x88 ∷ 0x01 ∷ 0x0A ∷ 0x0B ∷ 0x80 ∷ 0xB3 ∷ 0x00 ∷ 0xB0 ∷ 0x16 ∷ [])
     ∷ sends (0xE5 ∷ []) ∷ does send 256
-    ∷ does events 0x0800 ∷ does tick 0 ∷ does tick 0 ∷ does tick 0 ∷ does tick 0 ∷ does tick 0 ∷ does tick 0 ∷ does tick 0 ∷ does tick 0 ∷ does tick 0
-    ∷ does events 0x0800 ∷ does tick 0 ∷ does events 0x2008 ∷ does (acknowledge 0xFFFF) 0 ∷ []
+    ∷ does events 0x0800 ∷ (replicate 99 (does tick 0)
+    ++ does events 0x0800 ∷ does tick 0 ∷ does events 0x2008 ∷ does (acknowledge 0xFFFF) 0 ∷ [])
 
 -- on the way into the exchange: Set_Prm without a watchdog
 abbrev pub parametrize : List Part

@@ -39,6 +39,7 @@ prmBy ds =
       «ident_high» = getD ds 4 0;
       «ident_low» = getD ds 5 0;
       group = getD ds 6 0;
+      base = getD ds 7 0;
     }
 
 -- and all that the rules look at

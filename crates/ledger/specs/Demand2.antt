@@ -15,6 +15,7 @@ use Rattle.ledger.specs.EventsFollow.{EventsOpen, PublishingRaises}
 use Rattle.ledger.specs.ModesKept.{ModesAlways}
 use Rattle.ledger.specs.Repeats.{InOctets, ChainUnseen, RepeatExactly, RepeatIs, StartHasNone, NoneRepeated, ChainKept, ChainGoesOn, DrawnAgain, E5Again, SetPrmOnce, NoDeedAgain}
 use Rattle.ledger.specs.OneWay.{OneWay}
+use Rattle.ledger.specs.Watchdog.{WatchdogBase}
 
 pub record Demand2 : Type 0 where
   -- of every list of octets the reader tells what the grammar says
@@ -69,6 +70,8 @@ pub record Demand2 : Type 0 where
   pub no-deed-again : NoDeedAgain
   -- stations without inputs or without outputs: the empty list is published, and the reply without inputs is E5 or tells Diag_Flag
   pub one-way : OneWay
+  -- the watchdog has 1 or 10 times the product of its factors, by octet 7 of Set_Prm, and never more than 650,250 ticks
+  pub watchdog-base : WatchdogBase
   -- the sender of a telegram sends its octets
   pub sending : SendingPromise
   -- every reply but E5 reads back as a telegram with the same fields

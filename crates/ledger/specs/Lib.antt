@@ -17,4 +17,5 @@ pub mod Octets
 pub mod ModesKept
 pub mod Repeats
 pub mod OneWay
+pub mod Watchdog
 pub mod Demand2

@@ -19,7 +19,7 @@ pub fn octet(state: &mut State, memory: &mut [u8], value: u8, bad: bool)
     *state = hear(*state, memory, value, bad);
 }
 
-// A Tick: 10 ms.
+// A Tick: 1 ms.
 pub fn tick(state: &mut State, memory: &mut [u8])
     requires { ⌜ Safe (now state) (now memory) ⌝ }
     ensures { λ _. ⌜ Steps (elapsed (now (state .entry)) (now (memory .entry))) (now (state .exit)) (now (memory .exit)) ⌝ }

@@ -47,8 +47,8 @@ fn most_control() -> Control {
         group: 255,
         stored: 255,
         watchdog: Watchdog {
-            reload: 65025,
-            remaining: 65025,
+            reload: 4294967295,
+            remaining: 4294967295,
         },
         flags: all_flags(),
         events: Events { word: 65535 },
@@ -229,10 +229,18 @@ fn codes() {
 fn unused() {
     changed(62, 1);
     changed(63, 1);
-    changed(64, 1);
+    changed(68, 1);
     changed(96, 1);
     changed(127, 1);
     changed(128, 1);
+}
+
+// The ticks that remain and what they are refilled to: any octet, at the low end of each and at the high end.
+fn ticks() {
+    changed(44, 0);
+    changed(47, 0);
+    changed(64, 0);
+    changed(67, 0);
 }
 
 // Counts of the telegram that is read and of the reply, and sets that wait behind none.
@@ -317,6 +325,7 @@ fn main() {
     sides(0, 245);
     sides(245, 0);
     unused();
+    ticks();
     counts();
     // 88 ends at 1,536; 80 and 7 well before; 89 and 244 behind; 6 is no length of parameters
     room(88);

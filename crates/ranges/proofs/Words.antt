@@ -179,14 +179,21 @@ joined-none m at j k x y h p q =
     ∙ sym (at-most-append (part m at j) (replicate j 0) (part m (at + j) k) (replicate k 0) (part-length m at j h ∙ sym (length-replicate {A = ℕ} j 0)))
     ∙ ap₂ atMost (sym (take-add j k (drop at m) ∙ ap (λ l. part m at j ++ take k l) (drop-drop j at m))) (replicate-append-replicate {A = ℕ} j k 0)
 
--- and so are four for parts of one length
-pub four-none : (m : List ℕ) (at n w x y z : ℕ) → at + (n + n + n) ≤ length m
+-- and so are three for parts of one length
+pub three-none : (m : List ℕ) (at n w x y : ℕ) → at + (n + n) ≤ length m
     → eqb w 0 ≡ atMost (part m at n) (replicate n 0)
     → eqb x 0 ≡ atMost (part m (at + n) n) (replicate n 0)
     → eqb y 0 ≡ atMost (part m (at + (n + n)) n) (replicate n 0)
-    → eqb z 0 ≡ atMost (part m (at + (n + n + n)) n) (replicate n 0)
-    → eqb (bitOr (bitOr (bitOr w x) y) z) 0 ≡ atMost (part m at (n + n + n + n)) (replicate (n + n + n + n) 0)
-four-none m at n w x y z h p q r s =
-    joined-none m at (n + n + n) n (bitOr (bitOr w x) y) z h
-    (joined-none m at (n + n) n (bitOr w x) y (omega arith) (joined-none m at n n w x (omega arith) p q) r)
-    s
+    → eqb (bitOr (bitOr w x) y) 0 ≡ atMost (part m at (n + n + n)) (replicate (n + n + n) 0)
+three-none m at n w x y h p q r =
+    joined-none m at (n + n) n (bitOr w x) y h (joined-none m at n n w x (omega arith) p q) r
+
+-- and a fourth behind them for a part of any length
+pub four-none : (m : List ℕ) (at n k w x y z : ℕ) → at + (n + n + n) ≤ length m
+    → eqb w 0 ≡ atMost (part m at n) (replicate n 0)
+    → eqb x 0 ≡ atMost (part m (at + n) n) (replicate n 0)
+    → eqb y 0 ≡ atMost (part m (at + (n + n)) n) (replicate n 0)
+    → eqb z 0 ≡ atMost (part m (at + (n + n + n)) k) (replicate k 0)
+    → eqb (bitOr (bitOr (bitOr w x) y) z) 0 ≡ atMost (part m at (n + n + n + k)) (replicate (n + n + n + k) 0)
+four-none m at n k w x y z h p q r s =
+    joined-none m at (n + n + n) k (bitOr (bitOr w x) y) z h (three-none m at n w x y (omega arith) p q r) s

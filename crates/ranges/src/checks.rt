@@ -45,14 +45,22 @@ fn four_halves(mem: &[u8], at: usize) -> u32
         | word::half(mem, at + 12)
 }
 
-// Whether the sixty-four octets from a place on are 0.
+// 0 exactly if the twelve octets from a place on are.
+fn three_halves(mem: &[u8], at: usize) -> u32
+    requires { ⌜ at + 12 ≤ length (now mem) ⌝ }
+    ensures { λ r. ⌜ eqb r 0 ≡ atMost (part (now (mem .entry)) at 12) (replicate 12 0) ⌝ }
+{
+    word::half(mem, at) | word::half(mem, at + 4) | word::half(mem, at + 8)
+}
+
+// Whether the sixty octets from a place on are 0.
 pub fn nothing_in(mem: &[u8], at: usize) -> bool
-    requires { ⌜ at + 64 ≤ length (now mem) ⌝ }
-    ensures { λ r. ⌜ r ≡ atMost (part (now (mem .entry)) at 64) (replicate 64 0) ⌝ }
+    requires { ⌜ at + 60 ≤ length (now mem) ⌝ }
+    ensures { λ r. ⌜ r ≡ atMost (part (now (mem .entry)) at 60) (replicate 60 0) ⌝ }
 {
     (four_halves(mem, at)
         | four_halves(mem, at + 16)
         | four_halves(mem, at + 32)
-        | four_halves(mem, at + 48))
+        | three_halves(mem, at + 48))
         == 0
 }

@@ -1,6 +1,6 @@
 -- The outcomes of the rules by cases: nothing but a reply, WAIT_PRM entered, a set received, something done to the modes, the outputs and
 -- the inputs, a set judged. What holds of each of them holds of every outcome.
-use Prim.Native.Nat.{ℕ}
+use Prim.Native.Nat.{ℕ, _≤_}
 use native.Mathlib.Omega.{arith}
 use mathlib.Core.Path.{_≡_, refl, sym, ap, _∙_}
 use mathlib.Core.Bool.{Bool, true, false, cond, not, _&&_, _||_}
@@ -13,6 +13,7 @@ use Rattle.telegram.proofs.Run.{no-true}
 use Rattle.state.specs.declared.setup.Setup.{Setup}
 use Rattle.state.specs.declared.control.Flags.{Flags}
 use Rattle.state.specs.declared.control.Modes.{Modes}
+use Rattle.state.specs.declared.control.Watchdog.{Watchdog}
 use Rattle.state.specs.declared.chain.Chain.{Chain}
 use Rattle.state.specs.declared.control.Control.{Control}
 use Rattle.state.specs.declared.state.Drawn.{Drawn}
@@ -24,7 +25,6 @@ use Rattle.state.proofs.Tests.{within-true}
 use Rattle.rules.specs.declared.request.Request.{Request}
 use Rattle.rules.specs.declared.request.Data.{Data}
 use Rattle.rules.specs.declared.request.Occupied.{Occupied}
-use Rattle.rules.specs.declared.request.Prm.{Prm}
 use Rattle.rules.specs.declared.request.Service.{Service}
 use Rattle.rules.specs.declared.request.Service.the-variants.{Nothing, Status, Reject, GlobalControl, DataExchange, SetPrm, ChkCfg, SlaveDiag, GetCfg, ReadInputs, ReadOutputs}
 use Rattle.rules.specs.declared.outcome.OutputsDeed.{OutputsDeed}
@@ -37,7 +37,8 @@ use Rattle.rules.specs.Modes.{exchangeOutputs, commandsSync, commandedMo
 use Rattle.rules.specs.Phases.{drawing, enteringWaitPrm, dataExch}
 use Rattle.rules.specs.Requests.{masterOf, acts, toStation, refilled, serviceOf}
 use Rattle.rules.specs.Retries.{isRepeat, onChain, chainAfter, drew, repeated}
-use Rattle.rules.specs.Services.{otherOwns, otherIdent, wantsWatchdog, badFactors, goodPrm, setPrm, goodCfg, chkCfg, exchanges, dataExchange, slaveDiag, controls, storing, globalControl, serve, outcomeBy}
+use Rattle.rules.specs.Services.{otherOwns, otherIdent, goodPrm, setPrm, goodCfg, chkCfg, exchanges, dataExchange, slaveDiag, controls, storing, globalControl, serve, outcomeBy}
+use Rattle.rules.specs.Watchdog.{wantsWatchdog, badFactors}
 use Rattle.rules.specs.Line.{clearOn, clearNoted, counts, withRemaining, ticked}
 use Rattle.rules.specs.User.{changingSets, judgedParameters, judgedConfiguration}
 use Rattle.rules.proofs.MayDrawOutputs.{isOutputs}
@@ -58,19 +59,30 @@ another-raised e n x y z = record {
   configuration-same = raised-other e n configurationEvent z;
 }
 
--- a control part that is alike, with that owner and those modes, and with these events as they were
+-- the watchdog is refilled to as many ticks, and no more remain if no more remained
+pub record Counts (w v : Watchdog) : Type 0 where
+  pub reload-same : v .reload ≡ w .reload
+  pub left-within : w .remaining ≤ w .reload → v .remaining ≤ w .reload
+
+-- as it was
+pub counts-same : (w : Watchdog) → Counts w w
+counts-same w = record { reload-same = refl; left-within = λ h. h }
+
+-- a control part that is alike, with that owner and those modes, a watchdog that counts on or is refilled, and with these events as they were
 pub record Akin (c k : Control) : Type 0 where
   pub alike-is : Alike c k
   pub owner-same : k .owner ≡ c .owner
   pub modes-same : k .modes ≡ c .modes
+  pub watchdog-counts : Counts (c .watchdog) (k .watchdog)
   pub untouched : Untouched (c .events) (k .events)
 
 -- no event changes
-pub akin : {c k : Control} → Alike c k → k .owner ≡ c .owner → k .modes ≡ c .modes → k .events ≡ c .events → Akin c k
-akin a e m f = record {
+pub akin : {c k : Control} → Alike c k → k .owner ≡ c .owner → k .modes ≡ c .modes → Counts (c .watchdog) (k .watchdog) → k .events ≡ c .events → Akin c k
+akin a e m w f = record {
   alike-is = a;
   owner-same = e;
   modes-same = m;
+  watchdog-counts = w;
   untouched = record {
     outputs-same = ap (λ (x : Events). eventBit (x .word) outputsEvent) f;
     parameters-same = ap (λ (x : Events). eventBit (x .word) parametersEvent) f;
@@ -111,7 +123,7 @@ module _ (P : Outcome → Type 0) (c : Control)
 
   -- the control part stays
   same : Akin c c
-  same = akin (alike refl refl refl refl) refl refl refl
+  same = akin (alike refl refl refl refl) refl refl (counts-same (c .watchdog)) refl
 
   -- with nothing but such a reply
   stays : (d : Drawn) → isOutputs d ≡ false → P (drawing c d)
@@ -124,7 +136,13 @@ module _ (P : Outcome → Type 0) (c : Control)
     clear-akin k s =
         let a = s .alike-is in
         let n : Akin c (withNoted k true) =
-        record { alike-is = alike (a .phase-same) (a .good-same) (a .diagnosis-same) (a .chain-same); owner-same = s .owner-same; modes-same = s .modes-same; untouched = s .untouched } in
+        record {
+          alike-is = alike (a .phase-same) (a .good-same) (a .diagnosis-same) (a .chain-same);
+          owner-same = s .owner-same;
+          modes-same = s .modes-same;
+          watchdog-counts = s .watchdog-counts;
+          untouched = s .untouched;
+        } in
         by-test P busy _ _ (λ _. draws (withNoted k true) drawn.Nothing n refl) (λ e. clears e _ (a .diagnosis-same) (a .chain-same))
 
     -- leave master
@@ -147,9 +165,10 @@ module _ (P : Outcome → Type 0) (c : Control)
           alike-is = alike refl refl refl refl;
           owner-same = refl;
           modes-same = refl;
+          watchdog-counts = record { reload-same = refl; left-within = λ h. omega arith };
           untouched = another-raised (c .events) watchdogEvent (λ q. omega arith) (λ q. omega arith) (λ q. omega arith);
         }))
-        (draws _ drawn.Nothing (akin (alike refl refl refl refl) refl refl refl) refl))
+        (draws _ drawn.Nothing (akin (alike refl refl refl refl) refl refl (record { reload-same = refl; left-within = λ h. omega arith }) refl) refl))
 
   -- the others, which may enter WAIT_PRM at any time
   module _ (resets : (k : Control) (d : Drawn) → k .diagnosis ≡ c .diagnosis → k .chain ≡ c .chain → isOutputs d ≡ false → P (enteringWaitPrm k d)) where
@@ -166,22 +185,23 @@ module _ (P : Outcome → Type 0) (c : Control)
     configuration-cases waits good f g = by-test P waits _ _ f (λ _. either P good g (resets _ drawn.Nothing refl refl refl))
 
     -- the services. A set is received, or in DATA_EXCH something is done to the modes, the outputs and the inputs.
-    module _ (g : Setup) (r : Request) (opened : Occupied)
-        (receives-prm : (p : Prm) → To r 61 → Within 7 (r .count) (g .«parameter_len») → P (goodPrm c (opened .parameters) (masterOf r) p))
+    module _ (g : Setup) (r : Request) (opened : Occupied) (octets : Data)
+        (receives-prm : To r 61 → Within 7 (r .count) (g .«parameter_len») → P (goodPrm c (opened .parameters) r (octets .prm)))
         (receives-cfg : To r 62 → Within 1 (r .count) (g .«configuration_len») → P (goodCfg c (opened .configuration)))
         (moves : (k : Control) (m : Modes) (u : OutputsDeed) (v : InputsDeed) (d : Drawn) → Akin c k → isOutputs d ≡ false
         → Publishes (Plain r × (r .count ≡ g .«output_len»)) (opened .outputs ≡ true) Unit u
         → inExchange c ≡ true → Moved (c .modes) (opened .outputs) m u → P (moving k m u v d)) where
       -- Set_Prm
-      setPrm-cases : (p : Prm) → To r 61 → P (setPrm g c (opened .parameters) r p)
+      setPrm-cases : To r 61 → P (setPrm g c (opened .parameters) r (octets .prm))
       unfolding setPrm
-      setPrm-cases p h =
+      setPrm-cases h =
+          let p = octets .prm in
           either P (otherOwns c (masterOf r)) (stays drawn.Rejected refl)
           (by-test P (not (within 7 (r .count) (g .«parameter_len»))) _ _ (λ _. resets _ drawn.Acknowledge refl refl refl)
           (λ w. either P (bit (p .status) 6) (resets c drawn.Acknowledge refl refl refl)
           (either P (not (bit (p .status) 7)) (stays drawn.Acknowledge refl)
           (either P (otherIdent g p || (wantsWatchdog p && badFactors p)) (resets _ drawn.Acknowledge refl refl refl)
-          (receives-prm p h (within-true 7 (r .count) (g .«parameter_len») (not-false _ w)))))))
+          (receives-prm h (within-true 7 (r .count) (g .«parameter_len») (not-false _ w)))))))
 
       -- Chk_Cfg
       chkCfg-cases : To r 62 → P (chkCfg g c (opened .configuration) r)
@@ -206,7 +226,7 @@ module _ (P : Outcome → Type 0) (c : Control)
       slaveDiag-cases : P (slaveDiag c r)
       unfolding slaveDiag
       slaveDiag-cases =
-          either P (owns c (masterOf r) && not (c .flags .«stat_diag»)) (draws _ drawn.Diagnosis (akin (alike refl refl refl refl) refl refl refl) refl)
+          either P (owns c (masterOf r) && not (c .flags .«stat_diag»)) (draws _ drawn.Diagnosis (akin (alike refl refl refl refl) refl refl (counts-same (c .watchdog)) refl) refl)
           (stays drawn.Diagnosis refl)
 
       -- Global_Control
@@ -222,11 +242,12 @@ module _ (P : Outcome → Type 0) (c : Control)
         where
           stored : Akin c (storing c first)
           stored =
-              either (Akin c) (eqb first (c .stored)) (akin (alike refl refl refl refl) refl refl refl)
+              either (Akin c) (eqb first (c .stored)) same
               (record {
                 alike-is = alike refl refl refl refl;
                 owner-same = refl;
                 modes-same = refl;
+                watchdog-counts = counts-same (c .watchdog);
                 untouched = another-raised (c .events) controlEvent (λ q. omega arith) (λ q. omega arith) (λ q. omega arith);
               })
 
@@ -242,18 +263,18 @@ module _ (P : Outcome → Type 0) (c : Control)
       reads-cases d = by-test P (inExchange c) _ _ (λ e. replies c d same (λ _. e)) (λ _. stays drawn.Rejected refl)
 
       -- each of them, with the header that it has
-      pub serve-cases : (v : Service) (octets : Data) → Headed v r → P (serve v g c opened r octets)
-      serve-cases Nothing octets h = stays drawn.Nothing refl
-      serve-cases Status octets h = stays drawn.Status refl
-      serve-cases Reject octets h = stays drawn.Rejected refl
-      serve-cases GlobalControl octets h = globalControl-cases (octets .first) (octets .second)
-      serve-cases DataExchange octets h = dataExchange-cases h
-      serve-cases SetPrm octets h = setPrm-cases (octets .prm) h
-      serve-cases ChkCfg octets h = chkCfg-cases h
-      serve-cases SlaveDiag octets h = slaveDiag-cases
-      serve-cases GetCfg octets h = stays drawn.Configuration refl
-      serve-cases ReadInputs octets h = reads-cases drawn.Inputs
-      serve-cases ReadOutputs octets h = reads-cases drawn.Outputs
+      pub serve-cases : (v : Service) → Headed v r → P (serve v g c opened r octets)
+      serve-cases Nothing h = stays drawn.Nothing refl
+      serve-cases Status h = stays drawn.Status refl
+      serve-cases Reject h = stays drawn.Rejected refl
+      serve-cases GlobalControl h = globalControl-cases (octets .first) (octets .second)
+      serve-cases DataExchange h = dataExchange-cases h
+      serve-cases SetPrm h = setPrm-cases h
+      serve-cases ChkCfg h = chkCfg-cases h
+      serve-cases SlaveDiag h = slaveDiag-cases
+      serve-cases GetCfg h = stays drawn.Configuration refl
+      serve-cases ReadInputs h = reads-cases drawn.Inputs
+      serve-cases ReadOutputs h = reads-cases drawn.Outputs
 
 -- refilling the watchdog changes neither owner nor events nor modes
 pub refilled-same : (g : Setup) (c : Control) (r : Request)
@@ -263,9 +284,16 @@ refilled-same g c r =
     either (λ (k : Control). (k .owner ≡ c .owner) × (k .events ≡ c .events) × (k .modes ≡ c .modes)) (acts g r && toStation g r && owns c (masterOf r))
     (refl, refl, refl) (refl, refl, refl)
 
+-- then as many remain as it is refilled to
+refilled-counts : (g : Setup) (c : Control) (r : Request) → Counts (c .watchdog) (refilled g c r .watchdog)
+unfolding refilled
+refilled-counts g c r =
+    either (λ (k : Control). Counts (c .watchdog) (k .watchdog)) (acts g r && toStation g r && owns c (masterOf r))
+    (record { reload-same = refl; left-within = λ _. omega arith }) (counts-same (c .watchdog))
+
 -- so it changes nothing that counts
 pub refilled-akin : (g : Setup) (c : Control) (r : Request) → Akin c (refilled g c r)
-refilled-akin g c r = let w = refilled-same g c r in akin (refilled-alike g c r) (w .0) (w .2) (w .1)
+refilled-akin g c r = let w = refilled-same g c r in akin (refilled-alike g c r) (w .0) (w .2) (refilled-counts g c r) (w .1)
 
 -- a telegram: what holds of a reply alone and of every service, whatever the chain is, holds of it
 pub telegram-cases : (P : Outcome → Type 0) → ((o : Outcome) (h : Chain) → P o → P (onChain o h))

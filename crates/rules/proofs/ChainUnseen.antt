@@ -20,7 +20,8 @@ use Rattle.rules.specs.Control.{bit, inExchange, owns, withWatchdog, wit
 use Rattle.rules.specs.Phases.{drawing, waitPrm, enteringWaitPrm, waitCfg}
 use Rattle.rules.specs.Requests.{masterOf, acts, toStation, refilled, serviceOf}
 use Rattle.rules.specs.Retries.{isRepeat, onChain}
-use Rattle.rules.specs.Services.{otherOwns, otherIdent, wantsWatchdog, badFactors, prmFault, parametrized, goodPrm, setPrm, cfgFault, goodCfg, chkCfg, exchanges, goodExchange, dataExchange, slaveDiag, controls, obeyed, globalControl, serve, outcomeBy}
+use Rattle.rules.specs.Services.{otherOwns, otherIdent, prmFault, parametrized, goodPrm, setPrm, cfgFault, goodCfg, chkCfg, exchanges, goodExchange, dataExchange, slaveDiag, controls, obeyed, globalControl, serve, outcomeBy}
+use Rattle.rules.specs.Watchdog.{wantsWatchdog, badFactors}
 use Rattle.rules.proofs.Repeats.{by-repeat}
 
 module _ (g : Setup) (c : Control) (h k : Chain) (r : Request) where
@@ -33,11 +34,11 @@ module _ (g : Setup) (c : Control) (h k : Chain) (r : Request) where
   Blind f = onChain (f other) k ≡ onChain (f c) k
 
   -- Set_Prm
-  good-prm : (opened : Bool) (p : Prm) → Blind (λ x. goodPrm x opened (masterOf r) p)
+  good-prm : (opened : Bool) (p : Prm) → Blind (λ x. goodPrm x opened r p)
   unfolding parametrized waitCfg
   good-prm opened p = go (inExchange c) refl
     where
-      go : (t : Bool) → inExchange c ≡ t → Blind (λ x. goodPrm x opened (masterOf r) p)
+      go : (t : Bool) → inExchange c ≡ t → Blind (λ x. goodPrm x opened r p)
       go true e = rw e refl
       go false e = rw e refl
 
@@ -53,7 +54,7 @@ module _ (g : Setup) (c : Control) (h k : Chain) (r : Request) where
           (cond short (prmFault x)
           (cond unlocks (enteringWaitPrm x drawn.Acknowledge)
           (cond unlocked (drawing x drawn.Acknowledge)
-          (cond faulty (prmFault x) (goodPrm x opened (masterOf r) p))))))
+          (cond faulty (prmFault x) (goodPrm x opened r p))))))
       go true short unlocks unlocked faulty = refl
       go false true unlocks unlocked faulty = refl
       go false false true unlocked faulty = refl

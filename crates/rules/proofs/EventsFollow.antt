@@ -152,9 +152,9 @@ module _ (opened : Occupied) (waiting : Waiting) where
 
   module _ (c : Control) where
     -- a good Set_Prm
-    prm-follows : (master : ℕ) (p : Prm) → EventsAfter (c .events) opened waiting (goodPrm c (opened .parameters) master p)
+    prm-follows : (r : Request) (p : Prm) → EventsAfter (c .events) opened waiting (goodPrm c (opened .parameters) r p)
     unfolding parametrized
-    prm-follows master p =
+    prm-follows r p =
         let x = waitCfg c .events in
         let y = cleared x configurationEvent in
         record {
@@ -263,8 +263,8 @@ module _ (opened : Occupied) (waiting : Waiting) where
   -- each service
   serve-follows : (g : Setup) (c : Control) (r : Request) (octets : Data) → EventsAfter (c .events) opened waiting (serve (serviceOf g r) g c opened r octets)
   serve-follows g c r octets =
-      serve-cases (λ o. EventsAfter (c .events) opened waiting o) c (λ k d s _. replies-follow c k d s) (λ n d _ _ _. resets-follow (c .events) n d) g r opened
-      (λ p _ _. prm-follows c _ p) (λ _ _. cfg-follows c) (λ n m u v d s _ _ _ _. moving-follows c n m u v d s) (serviceOf g r) octets (headed r g)
+      serve-cases (λ o. EventsAfter (c .events) opened waiting o) c (λ k d s _. replies-follow c k d s) (λ n d _ _ _. resets-follow (c .events) n d) g r opened octets
+      (λ _ _. prm-follows c r (octets .prm)) (λ _ _. cfg-follows c) (λ n m u v d s _ _ _ _. moving-follows c n m u v d s) (serviceOf g r) (headed r g)
 
   -- the chain does not matter
   relinks-follow : (e : Events) (o : Outcome) (h : Chain) → EventsAfter e opened waiting o → EventsAfter e opened waiting (onChain o h)

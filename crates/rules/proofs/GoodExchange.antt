@@ -19,7 +19,8 @@ use Rattle.rules.specs.Control.{bit, owns, exchanging, inExchange}
 use Rattle.rules.specs.Phases.{drawing, enteringWaitPrm}
 use Rattle.rules.specs.Replies.{isExchange}
 use Rattle.rules.specs.Requests.{masterOf, refilled}
-use Rattle.rules.specs.Services.{otherOwns, otherIdent, wantsWatchdog, badFactors, setPrm, chkCfg, cfgFault, exchanges, goodExchange, dataExchange, slaveDiag, controls, globalControl, serve}
+use Rattle.rules.specs.Services.{otherOwns, otherIdent, setPrm, chkCfg, cfgFault, exchanges, goodExchange, dataExchange, slaveDiag, controls, globalControl, serve}
+use Rattle.rules.specs.Watchdog.{wantsWatchdog, badFactors}
 use Rattle.rules.proofs.Alike.{refilled-alike}
 use Rattle.rules.proofs.ByCases.{refilled-same}
 

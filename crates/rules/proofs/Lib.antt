@@ -8,7 +8,8 @@ pub mod Served
 pub mod Repeats
 pub mod ChainUnseen
 pub mod EventsFollow
-pub mod Owner
+pub mod Bounded
+pub mod WatchdogMoves
 pub mod ModesKept
 pub mod LookedAt
 pub mod GoodExchange

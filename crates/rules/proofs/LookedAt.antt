@@ -1,10 +1,11 @@
--- Which data octets the rules look at: Set_Prm's only where their count is right, Global_Control's only if there are two.
-use Prim.Native.Nat.{ℕ}
+-- Which data octets the rules look at: Set_Prm's only where their count is right, and of octet 7, if there are eight, bit 2 alone; Global_Control's
+-- only if there are two.
+use Prim.Native.Nat.{ℕ, _≤_}
 use mathlib.Core.Path.{_≡_, refl, sym, ap, _∙_}
 use mathlib.Core.Bool.{Bool, true, false, cond, not, _&&_, _||_}
 use lib.Bits.{bitAnd}
-use lib.Dec.{eqb}
-use borrow.Author.Tests.{eqb-true}
+use lib.Dec.{leb, eqb}
+use borrow.Author.Tests.{leb-true, eqb-true}
 use Rattle.state.specs.declared.setup.Setup.{Setup}
 use Rattle.state.specs.declared.control.Control.{Control}
 use Rattle.state.specs.declared.state.Drawn.the-variants as drawn
@@ -17,19 +18,55 @@ use Rattle.rules.specs.declared.request.Occupied.{Occupied}
 use Rattle.rules.specs.declared.request.Prm.{Prm}
 use Rattle.rules.specs.declared.request.Service.{Service}
 use Rattle.rules.specs.declared.request.Service.the-variants.{Nothing, Status, Reject, GlobalControl, DataExchange, SetPrm, ChkCfg, SlaveDiag, GetCfg, ReadInputs, ReadOutputs}
+use Rattle.rules.specs.Control.{bit}
 use Rattle.rules.specs.Phases.{drawing}
 use Rattle.rules.specs.Requests.{refilled, serviceOf}
 use Rattle.rules.specs.Retries.{isRepeat, chained, repeated}
-use Rattle.rules.specs.Services.{setPrm, exchanges, controls, obeyed, globalControl, serve, outcomeBy}
+use Rattle.rules.specs.Services.{parametrized, setPrm, exchanges, controls, obeyed, globalControl, serve, outcomeBy}
+use Rattle.rules.specs.Watchdog.{fastBase}
 use Rattle.rules.proofs.Headed.{To, Headed, headed}
 
+-- with another octet 7
+abbrev withBase : Prm → ℕ → Prm
+withBase p x =
+    record {
+      status = p .status;
+      factor1 = p .factor1;
+      factor2 = p .factor2;
+      «ident_high» = p .«ident_high»;
+      «ident_low» = p .«ident_low»;
+      group = p .group;
+      base = x;
+    }
+
+-- Set_Prm's octets are the same, but that octet 7 need only mean the same base
+pub record SamePrm (count : ℕ) (p q : Prm) : Type 0 where
+  pub others : p ≡ withBase q (p .base)
+  pub base : fastBase count p ≡ fastBase count q
+
+-- as it does if its bit 2 is the same where it is there
+pub same-base : (count : ℕ) (p q : Prm) → (8 ≤ count → bit (p .base) 2 ≡ bit (q .base) 2) → fastBase count p ≡ fastBase count q
+same-base count p q f = go (leb 8 count) refl
+  where
+    go : (t : Bool) → leb 8 count ≡ t → t && bit (p .base) 2 ≡ t && bit (q .base) 2
+    go true e = f (leb-true 8 count e)
+    go false e = refl
+
 module _ (g : Setup) (c : Control) (r : Request) where
-  setPrm-same : (opened : Bool) (p q : Prm) → (Within 7 (r .count) (g .«parameter_len») → p ≡ q) → setPrm g c opened r p ≡ setPrm g c opened r q
+  -- nothing but the base is looked at of octet 7
+  base-seen : (opened : Bool) (p : Prm) (x : ℕ) → fastBase (r .count) (withBase p x) ≡ fastBase (r .count) p → setPrm g c opened r (withBase p x) ≡ setPrm g c opened r p
+  unfolding setPrm parametrized
+  base-seen opened p x e = rw e
+
+  right-count : (opened : Bool) (p q : Prm) → SamePrm (r .count) p q → setPrm g c opened r p ≡ setPrm g c opened r q
+  right-count opened p q h = ap (setPrm g c opened r) (h .others) ∙ base-seen opened q (p .base) (h .base)
+
+  setPrm-same : (opened : Bool) (p q : Prm) → (Within 7 (r .count) (g .«parameter_len») → SamePrm (r .count) p q) → setPrm g c opened r p ≡ setPrm g c opened r q
   unfolding setPrm
   setPrm-same opened p q f = go (within 7 (r .count) (g .«parameter_len»)) refl
     where
       go : (t : Bool) → within 7 (r .count) (g .«parameter_len») ≡ t → setPrm g c opened r p ≡ setPrm g c opened r q
-      go true e = ap (setPrm g c opened r) (f (within-true 7 (r .count) (g .«parameter_len») e))
+      go true e = right-count opened p q (f (within-true 7 (r .count) (g .«parameter_len») e))
       go false e = rw e
 
   globalControl-same : (withheld : Bool) (first second first′ second′ : ℕ) → (r .count ≡ 2 → (first ≡ first′) × (second ≡ second′))
@@ -50,7 +87,7 @@ module _ (g : Setup) (c : Control) (r : Request) where
           ap (λ (t : Bool). cond t (obeyed c withheld first) (drawing c drawn.Nothing)) (off second e)
           ∙ sym (ap (λ (t : Bool). cond t (obeyed c withheld first′) (drawing c drawn.Nothing)) (off second′ e))
 
-  module _ (b : Occupied) (x y : Data) (e : To r 61 → Within 7 (r .count) (g .«parameter_len») → x .prm ≡ y .prm)
+  module _ (b : Occupied) (x y : Data) (e : To r 61 → Within 7 (r .count) (g .«parameter_len») → SamePrm (r .count) (x .prm) (y .prm))
       (f : r .count ≡ 2 → (x .first ≡ y .first) × (x .second ≡ y .second)) where
     by-service : (v : Service) → Headed v r → serve v g c b r x ≡ serve v g c b r y
     by-service Nothing h = refl
@@ -67,7 +104,7 @@ module _ (g : Setup) (c : Control) (r : Request) where
 
 -- data that is the same there has the same outcome
 pub same-outcome : (g : Setup) (c : Control) (b : Occupied) (r : Request) (x y : Data)
-    → (To r 61 → Within 7 (r .count) (g .«parameter_len») → x .prm ≡ y .prm)
+    → (To r 61 → Within 7 (r .count) (g .«parameter_len») → SamePrm (r .count) (x .prm) (y .prm))
     → (r .count ≡ 2 → (x .first ≡ y .first) × (x .second ≡ y .second))
     → outcomeBy g c b r x ≡ outcomeBy g c b r y
 same-outcome g c b r x y e f =

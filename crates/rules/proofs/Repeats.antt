@@ -26,7 +26,8 @@ use Rattle.rules.specs.declared.outcome.Outcome.{Outcome}
 use Rattle.rules.specs.Control.{bit}
 use Rattle.rules.specs.Requests.{masterOf, wantsNone, acts, refilled, serviceOf}
 use Rattle.rules.specs.Retries.{asks, isRequest, fcvOf, fcbOf, same, isRepeat, chainBy, drew, chained, repeated}
-use Rattle.rules.specs.Services.{otherOwns, otherIdent, wantsWatchdog, badFactors, setPrm, serve, outcomeBy}
+use Rattle.rules.specs.Services.{otherOwns, otherIdent, setPrm, serve, outcomeBy}
+use Rattle.rules.specs.Watchdog.{wantsWatchdog, badFactors}
 use Rattle.rules.proofs.Headed.{acts-master}
 use Rattle.rules.proofs.Alike.{refilled-alike}
 use Rattle.rules.proofs.ByCases.{refilled-same}

@@ -216,7 +216,7 @@ module _ (g : Setup) (c : Control) (withheld : Bool) (r : Request) where
   zeros-leave e = ap (λ (t : Bool). cond t outputs-deed.Zeros outputs-deed.Keep) e
 
   -- a good Set_Prm
-  prm-served : (opened : Bool) (p : Prm) → To r 61 → Within 7 (r .count) (g .«parameter_len») → ServedAnew g c withheld r (goodPrm c opened (masterOf r) p)
+  prm-served : (opened : Bool) (p : Prm) → To r 61 → Within 7 (r .count) (g .«parameter_len») → ServedAnew g c withheld r (goodPrm c opened r p)
   unfolding parametrized waitCfg
   prm-served opened p h w = record {
     lawful = record {
@@ -286,15 +286,15 @@ module _ (g : Setup) (c : Control) (withheld : Bool) (r : Request) where
 serve-served : (g : Setup) (c : Control) (b : Occupied) (r : Request) (octets : Data) → ServedAnew g c (b .outputs) r (serve (serviceOf g r) g c b r octets)
 serve-served g c b r octets =
     let w = b .outputs in
-    serve-cases (ServedAnew g c w r) c (replies g c w r) (resets g c w r) g r b (prm-served g c w r (b .parameters)) (cfg-served g c w r (b .configuration))
-    (λ k m u v x s f p _ _. moves-served g c w r k m u v x s f p) (serviceOf g r) octets (headed r g)
+    serve-cases (ServedAnew g c w r) c (replies g c w r) (resets g c w r) g r b octets (prm-served g c w r (b .parameters) (octets .prm)) (cfg-served g c w r (b .configuration))
+    (λ k m u v x s f p _ _. moves-served g c w r k m u v x s f p) (serviceOf g r) (headed r g)
 
 -- and it leaves the chain as it is
 pub serve-chain : (g : Setup) (c : Control) (b : Occupied) (r : Request) (octets : Data) → serve (serviceOf g r) g c b r octets .control .chain ≡ c .chain
 unfolding waitPrm parametrized
 serve-chain g c b r octets =
-    serve-cases (λ o. o .control .chain ≡ c .chain) c (λ _ _ s _. s .alike-is .chain-same) (λ _ _ _ h _. h) g r b (λ _ _ _. refl)
-    (λ _ _. waitCfg-same g c (b .outputs) r .2) (λ _ _ _ _ _ s _ _ _ _. s .alike-is .chain-same) (serviceOf g r) octets (headed r g)
+    serve-cases (λ o. o .control .chain ≡ c .chain) c (λ _ _ s _. s .alike-is .chain-same) (λ _ _ _ h _. h) g r b octets (λ _ _. refl)
+    (λ _ _. waitCfg-same g c (b .outputs) r .2) (λ _ _ _ _ _ s _ _ _ _. s .alike-is .chain-same) (serviceOf g r) (headed r g)
 
 -- the held outputs are drawn again only if they were drawn
 drew-outputs : (g : Setup) (o : Outcome) → isOutputs (drew g o) ≡ true → isOutputs (o .drawn) ≡ true

@@ -3,6 +3,7 @@ pub mod Modes
 pub mod Phases
 pub mod Requests
 pub mod Retries
+pub mod Watchdog
 pub mod Services
 pub mod Diagnosis
 pub mod Line

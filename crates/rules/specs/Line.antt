@@ -1,4 +1,4 @@
--- The clear, the watchdog and the Tick (document 01, User calls, last paragraph).
+-- The clear, the watchdog and the Tick (document 01, User calls, last paragraph); since document 02, Req 07, a Tick is 1 ms.
 use Prim.Native.Nat.{ℕ, _-_}
 use mathlib.Core.Bool.{Bool, true, false, cond, not, _&&_}
 use lib.Dec.{eqb, leb}

@@ -1,4 +1,4 @@
--- The services (document 01, Services; document 02, Req 01, 04 and 05): what comes of each, on the control part. opened: a set of that kind is open.
+-- The services (document 01, Services; document 02, Req 01, 04, 05 and 07): what comes of each, on the control part. opened: a set of that kind is open.
 use Prim.Native.Nat.{ℕ, _+_, _*_}
 use mathlib.Core.Bool.{Bool, cond, not, _&&_, _||_}
 use lib.Bits.{bitAnd}
@@ -25,6 +25,7 @@ use Rattle.rules.specs.Modes.{allowedModes, exchangeOutputs, exchangeInp
 use Rattle.rules.specs.Phases.{drawing, enteringWaitPrm, waitCfg, zerosIfLeft}
 use Rattle.rules.specs.Requests.{masterOf, refilled, serviceOf}
 use Rattle.rules.specs.Retries.{isRepeat, chained, repeated}
+use Rattle.rules.specs.Watchdog.{wantsWatchdog, badFactors, ticksOf}
 
 -- Set_Prm ---------------------------------------------------------------------------------------
 
@@ -36,18 +37,6 @@ otherOwns c master = not (eqb (c .owner) noOwner) && not (owns c master)
 abbrev pub otherIdent : Setup → Prm → Bool
 otherIdent s p = not (eqb (256 * p .«ident_high» + p .«ident_low») (s .ident))
 
--- bit 3 switches the watchdog on
-abbrev pub wantsWatchdog : Prm → Bool
-wantsWatchdog p = bit (p .status) 3
-
--- with octet 1 or 2 zero, or both 1
-abbrev pub badFactors : Prm → Bool
-badFactors p = eqb (p .factor1) 0 || eqb (p .factor2) 0 || (eqb (p .factor1) 1 && eqb (p .factor2) 1)
-
--- octet 1 × octet 2 ticks with bit 3, otherwise off
-abbrev pub ticksOf : Prm → ℕ
-ticksOf p = cond (wantsWatchdog p) (p .factor1 * p .factor2) 0
-
 -- fault: E5, Prm_Fault, WAIT_PRM
 abbrev pub prmFault : Control → Outcome
 prmFault c = enteringWaitPrm (withFlags c (withPrmFault (c .flags))) drawn.Acknowledge
@@ -57,14 +46,14 @@ abbrev pub showing : Events → Bool → ℕ → Events
 showing e opened event = cond opened e (raised e event)
 
 -- the control part of a good Set_Prm
-unfoldable pub parametrized : Control → Bool → ℕ → Prm → Control
-parametrized c opened master p =
+unfoldable pub parametrized : Control → Bool → Request → Prm → Control
+parametrized c opened r p =
     record {
       phase = waitCfg c .phase;
-      owner = master;
+      owner = masterOf r;
       group = p .group;
       stored = c .stored;
-      watchdog = record { reload = ticksOf p; remaining = ticksOf p };
+      watchdog = record { reload = ticksOf (r .count) p; remaining = ticksOf (r .count) p };
       flags = withoutFaults (c .flags);
       events = showing (cleared (waitCfg c .events) configurationEvent) opened parametersEvent;
       noted = c .noted;
@@ -74,10 +63,10 @@ parametrized c opened master p =
     }
 
 -- E5, owner, WAIT_CFG, flags cleared, configuration sets dropped, group, data shown, watchdog, sync and freeze allowed or not
-abbrev pub goodPrm : Control → Bool → ℕ → Prm → Outcome
-goodPrm c opened master p =
+abbrev pub goodPrm : Control → Bool → Request → Prm → Outcome
+goodPrm c opened r p =
     record {
-      control = parametrized c opened master p;
+      control = parametrized c opened r p;
       outputs = zerosIfLeft c;
       inputs = inputs-deed.Keep;
       parameters = set-deed.Receive;
@@ -93,7 +82,7 @@ setPrm s c opened r p =
     (cond (bit (p .status) 6) (enteringWaitPrm c drawn.Acknowledge)
     (cond (not (bit (p .status) 7)) (drawing c drawn.Acknowledge)
     (cond (otherIdent s p || (wantsWatchdog p && badFactors p)) (prmFault c)
-    (goodPrm c opened (masterOf r) p)))))
+    (goodPrm c opened r p)))))
 
 -- Chk_Cfg ---------------------------------------------------------------------------------------
 

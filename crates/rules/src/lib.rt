@@ -12,3 +12,4 @@ pub mod requests;
 pub mod retries;
 pub mod services;
 pub mod user;
+pub mod watchdog;

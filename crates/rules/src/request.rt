@@ -24,6 +24,8 @@ pub struct Prm {
     pub ident_low: u8,
     // octet 6
     pub group: u8,
+    // octet 7: the watchdog's base; what stands there means nothing with fewer than 8 data octets
+    pub base: u8,
 }
 
 // The data octets of a telegram that the rules look at.

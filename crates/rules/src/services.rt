@@ -25,6 +25,8 @@ use crate::requests::refilled;
 use crate::retries::chained;
 use crate::retries::repeated;
 use crate::retries::repeats;
+use crate::watchdog::bad_watchdog;
+use crate::watchdog::ticks_of;
 use buffers::events::Events;
 use state::control::Control;
 use state::control::Watchdog;
@@ -32,10 +34,9 @@ use state::setup::Setup;
 use state::state::Drawn;
 ghost use Prim.Native.Nat.{_≤_};
 ghost use mathlib.Core.Path.{_≡_};
-ghost use mathlib.Core.Bool.{_&&_};
 ghost use Rattle.rules.specs.Phases.{enteringWaitPrm};
 ghost use Rattle.rules.specs.Requests.{serviceOf};
-ghost use Rattle.rules.specs.Services.{otherOwns, otherIdent, wantsWatchdog, badFactors, ticksOf, prmFault, showing, parametrized, goodPrm, setPrm, cfgFault, goodCfg, chkCfg, exchanges, goodExchange, dataExchange, slaveDiag, readInputs, readOutputs, controls, storing, obeyed, globalControl, serve, outcomeBy};
+ghost use Rattle.rules.specs.Services.{otherOwns, otherIdent, prmFault, showing, parametrized, goodPrm, setPrm, cfgFault, goodCfg, chkCfg, exchanges, goodExchange, dataExchange, slaveDiag, readInputs, readOutputs, controls, storing, obeyed, globalControl, serve, outcomeBy};
 
 // An octet as a wider number.
 fn wide(x: u8) -> u16
@@ -58,24 +59,6 @@ fn other_ident(setup: Setup, p: Prm) -> bool
     256 * wide(p.ident_high) + wide(p.ident_low) != setup.ident
 }
 
-// Set_Prm: bit 3 set with octet 1 or 2 zero or both 1.
-fn bad_watchdog(p: Prm) -> bool
-    ensures { λ b. ⌜ b ≡ (wantsWatchdog p && badFactors p) ⌝ }
-{
-    (p.status / 8 % 2 == 1)
-        & ((p.factor1 == 0) | (p.factor2 == 0) | ((p.factor1 == 1) & (p.factor2 == 1)))
-}
-
-// Set_Prm: with bit 3 the watchdog is octet 1 × octet 2 ticks, otherwise off.
-fn ticks_of(p: Prm) -> u16
-    ensures { λ r. ⌜ r ≡ ticksOf p ⌝ }
-{
-    if p.status / 8 % 2 == 1 {
-        return wide(p.factor1) * wide(p.factor2);
-    }
-    0
-}
-
 // Set_Prm, fault: E5, Prm_Fault, WAIT_PRM.
 fn prm_fault(mut control: Control) -> Outcome
     ensures { λ o. ⌜ o ≡ prmFault control ⌝ }
@@ -96,13 +79,13 @@ fn showing(events: Events, opened: bool, event: u8) -> Events
 
 // Good Set_Prm: owner, WAIT_CFG, the fault bits and parameter OK cleared, group, watchdog, the events of the sets, sync and freeze
 // allowed or not.
-fn parametrized(control: Control, opened: bool, master: u8, p: Prm) -> Control
-    ensures { λ c. ⌜ c ≡ parametrized control opened master p ⌝ }
+fn parametrized(control: Control, opened: bool, r: Request, p: Prm) -> Control
+    ensures { λ c. ⌜ c ≡ parametrized control opened r p ⌝ }
 {
     let entered = wait_cfg(control);
     let dropped = entered.events.clear(Events::CONFIGURATION);
     let events = showing(dropped, opened, Events::PARAMETERS);
-    let ticks = ticks_of(p);
+    let ticks = ticks_of(r.count, p);
     let watchdog = Watchdog {
         reload: ticks,
         remaining: ticks,
@@ -116,7 +99,7 @@ fn parametrized(control: Control, opened: bool, master: u8, p: Prm) -> Control
     let chain = control.chain;
     Control {
         phase,
-        owner: master,
+        owner: master_of(r),
         group: p.group,
         stored: control.stored,
         watchdog,
@@ -130,11 +113,11 @@ fn parametrized(control: Control, opened: bool, master: u8, p: Prm) -> Control
 }
 
 // Good Set_Prm: E5, configuration sets dropped, data shown.
-fn good_prm(control: Control, opened: bool, master: u8, p: Prm) -> Outcome
-    ensures { λ o. ⌜ o ≡ goodPrm control opened master p ⌝ }
+fn good_prm(control: Control, opened: bool, r: Request, p: Prm) -> Outcome
+    ensures { λ o. ⌜ o ≡ goodPrm control opened r p ⌝ }
 {
     let outputs = zeros_if_left(control);
-    let changed = parametrized(control, opened, master, p);
+    let changed = parametrized(control, opened, r, p);
     Outcome {
         control: changed,
         outputs,
@@ -168,7 +151,7 @@ pub fn set_prm(setup: Setup, control: Control, opened: bool, r: Request, p: Prm)
     if other_ident(setup, p) | bad_watchdog(p) {
         return prm_fault(control);
     }
-    good_prm(control, opened, master, p)
+    good_prm(control, opened, r, p)
 }
 
 // Cfg_Fault, WAIT_PRM.

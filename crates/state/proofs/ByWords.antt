@@ -1,5 +1,5 @@
 -- Octets of a memory that are tested by words.
-use Prim.Native.Nat.{ℕ, suc, _+_, _≤_, _<_}
+use Prim.Native.Nat.{ℕ, suc, _+_, _*_, _≤_, _<_}
 use native.Mathlib.Omega.{arith}
 use mathlib.Core.Path.{_≡_, refl, sym, ap, _∙_}
 use mathlib.Core.Bool.{Bool, true, false, _&&_}
@@ -9,8 +9,10 @@ use lib.ListN.{length, getD, take, replicate}
 use lib.Seq.{drop-cons}
 use borrow.Author.Tests.{leb-true}
 use Rattle.octets.specs.Part.{part}
-use Rattle.ranges.specs.Octets.{atMost}
+use Rattle.ranges.specs.Octets.{number, atMost}
+use Rattle.ranges.proofs.Words.{quarter}
 use Rattle.state.specs.Short.{betweenTests}
+use Rattle.state.specs.Unpack.{doubleAt}
 use Rattle.state.specs.Well.{all, within, noneOr, setCounts, limitTests, setTests}
 use Rattle.state.proofs.Tests.{from-and, all-at}
 
@@ -52,6 +54,17 @@ ranges-all m i (least ∷ leasts) (most ∷ mosts) e h =
     ∙ beside (leb x most) (atMost rest mosts) (leb least x) (atMost leasts rest)
     ∙ ap (λ (t : Bool). within least x most && t) (ranges-all m (suc i) leasts mosts (omega arith) (omega arith))
     ∙ sym (from-and (within least x most) (betweenTests m (suc i) leasts mosts))
+
+-- ---- a double word
+
+-- four octets read at once are the double word that they hold
+pub double-read : (m : List ℕ) (i : ℕ) → i + 4 ≤ length m → number (part m i 4) ≡ doubleAt m i
+unfolding number
+double-read m i h =
+    let last : i + 3 ≡ i + 2 + 1 = omega arith in
+    let parts : number (part m i 4) ≡ getD m i 0 + 256 * getD m (i + 1) 0 + 65536 * (getD m (i + 2) 0 + 256 * getD m (i + 3) 0) =
+    sym (quarter m i _ h refl) ∙ omega arith in
+    parts ∙ ap (λ (k : ℕ). getD m i 0 + 256 * getD m (i + 1) 0 + 65536 * (getD m (i + 2) 0 + 256 * getD m k 0)) last
 
 -- ---- no set open and no diagnosis delayed
 

@@ -39,6 +39,6 @@ pub kept-kept : (s t : State) (m : List ℕ) → kept s (kept t m) ≡ kept s m
 kept-kept s t m = ap (λ (l : List ℕ). image s ++ l) (drop-at (image t) (drop stateLength m) stateLength (image-length t))
 
 -- the octets that are used, and zeros behind them, are the image in front
-pub packed-image : (s : State) (m : List ℕ) → pasted (used s ++ drop usedLength m) usedLength (replicate 64 0) ≡ kept s m
+pub packed-image : (s : State) (m : List ℕ) → pasted (used s ++ drop usedLength m) usedLength unused ≡ kept s m
 unfolding pasted image used
-packed-image s m = ap (λ (l : List ℕ). used s ++ (unused ++ l)) (drop-drop 64 64 m)
+packed-image s m = ap (λ (l : List ℕ). used s ++ (unused ++ l)) (drop-drop (stateLength - usedLength) usedLength m)

@@ -57,13 +57,16 @@ pub first-start : (s : Setup) (a : ℕ) → startOf s a 0 ≡ rowBase s a
 unfolding startOf
 first-start s a = omega arith
 
--- every buffer ends in front of a later row
-pub in-front : (s : Setup) (a b i n : ℕ) → a < b → i < rowCount a → n ≤ rowLength s a → startOf s a i + n ≤ rowBase s b
-in-front s a b i n o h g =
-    let r = rounded-le (rowLength s a) in
-    let v = ends s a i n h (omega arith) in
+-- every buffer, with its length rounded up, ends in front of a later row
+rounded-in-front : (s : Setup) (a b i n : ℕ) → a < b → i < rowCount a → n ≤ roundedUp (rowLength s a) → startOf s a i + n ≤ rowBase s b
+rounded-in-front s a b i n o h g =
+    let v = ends s a i n h g in
     let w = before s a b o in
     omega arith
+
+-- so do its octets
+pub in-front : (s : Setup) (a b i n : ℕ) → a < b → i < rowCount a → n ≤ rowLength s a → startOf s a i + n ≤ rowBase s b
+in-front s a b i n o h g = let r = rounded-le (rowLength s a) in rounded-in-front s a b i n o h (omega arith)
 
 -- every buffer lies behind the state and in front of the end
 pub inside : (s : Setup) (a i n : ℕ) → i < rowCount a → n ≤ rowLength s a → (stateLength ≤ startOf s a i) × (startOf s a i + n ≤ endOf s)
@@ -71,6 +74,10 @@ unfolding startOf
 inside s a i n h g =
     let u = behind s a in
     (omega arith, in-front s a (length rowCounts) i n (known a i h) h g)
+
+-- also with its length rounded up
+pub rounded-inside : (s : Setup) (a i n : ℕ) → i < rowCount a → n ≤ roundedUp (rowLength s a) → startOf s a i + n ≤ endOf s
+rounded-inside s a i n h g = rounded-in-front s a (length rowCounts) i n (known a i h) h g
 
 -- the one for Get_Cfg
 pub get-cfg-inside : (s : Setup) (n : ℕ) → n ≤ s .«get_cfg_len» → (stateLength ≤ getCfgAt s) × (getCfgAt s + n ≤ endOf s)

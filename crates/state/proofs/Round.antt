@@ -1,5 +1,5 @@
 -- A sound state and its image are each other's: the octets that pass the tests are the images of the sound states.
-use Prim.Native.Nat.{ℕ, zero, suc, _+_, _/_, _%_, _≤_, _<_}
+use Prim.Native.Nat.{ℕ, zero, suc, _+_, _-_, _*_, _/_, _%_, _≤_, _<_}
 use native.Mathlib.Omega.{arith}
 use native.Mathlib.Nat.{mod-add-div}
 use mathlib.Core.Path.{_≡_, refl, sym, ap, subst, _∙_}
@@ -15,8 +15,8 @@ use Rattle.state.specs.declared.control.Flags.{Flags}
 use Rattle.state.specs.declared.state.State.{State}
 use Rattle.state.specs.Number.{readingNumber, kindNumber, stageNumber, phaseNumber, drawnNumber}
 use Rattle.state.specs.Layout.{stateLength, usedLength}
-use Rattle.state.specs.Image.{bitOf, flagsOf, modesOf, marksOf, inputsCode, used, unused, image}
-use Rattle.state.specs.Unpack.{wordAt, setupIn, flagsIn, readerIn, senderIn, unpacked}
+use Rattle.state.specs.Image.{bitOf, lowWord, highWord, doubleOctets, flagsOf, modesOf, marksOf, inputsCode, used, unused, image}
+use Rattle.state.specs.Unpack.{wordAt, doubleAt, setupIn, flagsIn, readerIn, senderIn, unpacked}
 use Rattle.state.specs.Sound.{Sound}
 use Rattle.state.specs.Well.{all, lengthTests, lengthsTests, countTests, lineTests, limitTests, codeTests, unusedTests, imageTests, wellImage}
 use Rattle.state.proofs.Numbers.{reading-back, reading-counted, reading-le, kind-back, kind-counted, kind-le, stage-back, stage-counted, stage-le, phase-back, phase-counted, phase-le, drawn-back, drawn-counted, drawn-le}
@@ -50,6 +50,10 @@ flags-back f noted =
       «parameters_good» = b .bit₇ i;
     }
 
+-- a double word comes back from its octets
+double-back : (x : ℕ) → lowWord x % 256 + 256 * (lowWord x / 256) + 65536 * (highWord x % 256 + 256 * (highWord x / 256)) ≡ x
+double-back x = (λ i. mod-add-div (lowWord x) 256 i + 65536 * mod-add-div (highWord x) 256 i) ∙ mod-add-div x 65536
+
 -- a sound state comes back from its image, whatever lies behind it
 pub round : (s : State) → Sound s → (r : List ℕ) → unpacked (image s ++ r) ≡ s
 unfolding image used unpacked
@@ -67,7 +71,7 @@ round s h r =
             owner = c .owner;
             group = c .group;
             stored = c .stored;
-            watchdog = record { reload = mod-add-div (c .watchdog .reload) 256 i; remaining = mod-add-div (c .watchdog .remaining) 256 i };
+            watchdog = record { reload = double-back (c .watchdog .reload) i; remaining = double-back (c .watchdog .remaining) i };
             flags = flags-back (c .flags) (c .noted) i;
             events = record { word = mod-add-div (c .events .word) 256 i };
             noted = flags-marked (c .flags) (c .noted) .bit₂ i;
@@ -227,7 +231,7 @@ well-sound m h =
     (all-at (lineTests m) 3 line)
     in
     record {
-      setup = tests-ranged (setupIn m (wordAt m 46)) (leb-true (getD m 20 0) 126 (code-at m codes 4)) (lengths-in m (all-at (imageTests m) 4 h));
+      setup = tests-ranged (setupIn m (wordAt m 42)) (leb-true (getD m 20 0) 126 (code-at m codes 4)) (lengths-in m (all-at (imageTests m) 4 h));
       outputs = places4-permutation (getD m 22 0);
       inputs = places-permutation (getD m 23 0 / 2);
       parameters = places-permutation (getD m 24 0);
@@ -264,6 +268,18 @@ low-at m i h = omega arith
 -- the high octet of a word
 high-at : (m : List ℕ) (i : ℕ) → getD m i 0 < 256 → wordAt m i / 256 ≡ getD m (i + 1) 0
 high-at m i h = omega arith
+
+-- the octets of a double word
+double-at : (m : List ℕ) → ((i : ℕ) → getD m i 0 < 256) → (i : ℕ)
+    → doubleOctets (doubleAt m i) ≡ getD m i 0 ∷ getD m (i + 1) 0 ∷ getD m (i + 2) 0 ∷ getD m (i + 2 + 1) 0 ∷ []
+double-at m small i =
+    let a = small i in
+    let b = small (i + 1) in
+    let c = small (i + 2) in
+    let low : lowWord (doubleAt m i) ≡ wordAt m i = omega arith in
+    let high : highWord (doubleAt m i) ≡ wordAt m (i + 2) = omega arith in
+    (λ j. low j % 256 ∷ low j / 256 ∷ high j % 256 ∷ high j / 256 ∷ [])
+    ∙ (λ j. low-at m i a j ∷ high-at m i a j ∷ low-at m (i + 2) c j ∷ high-at m (i + 2) c j ∷ [])
 
 -- a mark
 mark-at : (m : List ℕ) (i : ℕ) → leb (getD m i 0) 1 ≡ true → bitOf (eqb (getD m i 0) 1) ≡ getD m i 0
@@ -320,14 +336,12 @@ image-spread m small h =
     ∷ spread m 32 10
     ++ low-at m 42 (small 42) i
     ∷ high-at m 42 (small 42) i
-    ∷ low-at m 44 (small 44) i
-    ∷ high-at m 44 (small 44) i
-    ∷ low-at m 46 (small 46) i
-    ∷ high-at m 46 (small 46) i
-    ∷ spread m 48 14
+    ∷ double-at m small 44 i
+    ++ spread m 48 14
     ++ zero-at m 62 (all-at (countTests m) 4 counts) i
     ∷ zero-at m 63 (all-at (countTests m) 5 counts) i
-    ∷ zeros-at m usedLength 64 (all-at (imageTests m) 3 h) i
+    ∷ double-at m small 64 i
+    ++ zeros-at m usedLength (stateLength - usedLength) (all-at (imageTests m) 3 h) i
 
 -- octets that pass the tests are the image of the state that they hold
 pub well-image : (m : List ℕ) → stateLength ≤ length m → ((i : ℕ) → getD m i 0 < 256) → wellImage m ≡ true → image (unpacked m) ≡ take stateLength m

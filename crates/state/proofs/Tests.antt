@@ -1,5 +1,5 @@
 -- Tests joined by `&`, and the facts that they stand for.
-use Prim.Native.Nat.{ℕ, zero, suc, _+_, _≤_}
+use Prim.Native.Nat.{ℕ, zero, suc, _+_, _≤_, _<_}
 use native.Mathlib.Omega.{arith}
 use mathlib.Core.Path.{_≡_, refl, sym, ap, _∙_}
 use mathlib.Core.Logic.{inl, inr, ⊎-elim}
@@ -7,7 +7,7 @@ use mathlib.Core.Bool.{Bool, true, false, cond, _&&_, _||_, not, false≢true, a
 use mathlib.Core.List.{List, [], _∷_, _++_}
 use lib.Dec.{leb, eqb}
 use lib.ListN.{getD, take, drop}
-use borrow.Author.Tests.{leb-true, le-leb, eqb-true, eqb-false, eq-eqb, ne-eqb, not-false}
+use borrow.Author.Tests.{leb-true, le-leb, lt-leb, eqb-true, eqb-false, eq-eqb, ne-eqb, not-false}
 use Rattle.state.specs.declared.state.Sets.{Sets}
 use Rattle.state.specs.Sound.{Within, NoneOr, SetsCounted}
 use Rattle.state.specs.Well.{allFrom, all, within, noneOr, setCounts}
@@ -97,6 +97,13 @@ within-true lo x hi h =
 -- the test holds in the range
 pub within-holds : (lo x hi : ℕ) → Within lo x hi → within lo x hi ≡ true
 within-holds lo x hi h = λ i. le-leb lo x (h .0) i && le-leb x hi (h .1) i
+
+-- below, and above
+pub within-below : (lo x hi : ℕ) → x < lo → within lo x hi ≡ false
+within-below lo x hi h = ap (λ (t : Bool). t && leb x hi) (lt-leb lo x h)
+
+pub within-above : (lo x hi : ℕ) → lo ≤ x → hi < x → within lo x hi ≡ false
+within-above lo x hi h k = λ i. le-leb lo x h i && lt-leb x hi k i
 
 -- the same with 0 for none
 pub none-or-true : (lo x hi : ℕ) → noneOr lo x hi ≡ true → NoneOr lo x hi

@@ -4,7 +4,7 @@ use native.Mathlib.Omega.{arith}
 use mathlib.Core.Path.{_≡_, sym, ap, _∙_}
 use mathlib.Core.Bool.{Bool}
 use mathlib.Core.List.{List, [], _∷_}
-use lib.ListN.{length, set}
+use lib.ListN.{length, getD, set}
 use borrow.Author.Tests.{ne-eqb}
 use Rattle.buffers.specs.declared.events.Events.{Events}
 use Rattle.buffers.specs.declared.triple.Triple.{Triple}
@@ -17,7 +17,7 @@ use Rattle.state.specs.declared.state.Outputs.{Outputs}
 use Rattle.state.specs.declared.state.Reply.{Reply}
 use Rattle.state.specs.declared.state.Sets.{Sets}
 use Rattle.state.specs.declared.state.State.{State}
-use Rattle.state.specs.Image.{bitOf, flagsOf, modesOf, marksOf, inputsCode, used, image}
+use Rattle.state.specs.Image.{bitOf, doubleOctets, flagsOf, modesOf, marksOf, inputsCode, used, image}
 use Rattle.state.specs.Layout.{stateLength}
 use Rattle.state.specs.Memory.{kept, Changes}
 use Rattle.state.specs.Number.{readingNumber, kindNumber, stageNumber, phaseNumber, drawnNumber}
@@ -34,6 +34,10 @@ in-front m long i lt = omega arith
 abbrev pub wrote : List ℕ → ℕ → List ℕ → List ℕ
 wrote m i [] = m
 wrote m i (x ∷ xs) = wrote (set m i x) (suc i) xs
+
+-- the octets of an array of four, read one by one
+abbrev pub four : List ℕ → List ℕ
+four r = getD r 0 0 ∷ getD r 1 0 ∷ getD r 2 0 ∷ getD r 3 0 ∷ []
 
 -- ---- one part after another
 
@@ -119,20 +123,20 @@ module _ (m : List ℕ) (s : State) (front : m ≡ kept s m) where
   unfolding image used
   events-saved e = ap (λ (l : List ℕ). wrote l 4 (wordOctets (e .word))) front
 
-  -- octets 42 and 43
-  pub ticks-saved : (n : ℕ) → wrote m 42 (wordOctets n) ≡ kept (withTicks s n) m
+  -- octets 44 to 47
+  pub ticks-saved : (n : ℕ) → wrote m 44 (doubleOctets n) ≡ kept (withTicks s n) m
   unfolding image used
-  ticks-saved n = ap (λ (l : List ℕ). wrote l 42 (wordOctets n)) front
+  ticks-saved n = ap (λ (l : List ℕ). wrote l 44 (doubleOctets n)) front
 
   -- octets 54 and 55
   pub chain-saved : (h : Chain) → wrote m 54 (h .code ∷ h .master ∷ []) ≡ kept (withChain s h) m
   unfolding image used
   chain-saved h = ap (λ (l : List ℕ). wrote l 54 (h .code ∷ h .master ∷ [])) front
 
-  -- octets 0 to 3, 21, 26, 27, 44, 45, 56 and 57
-  pub standing-saved : (c : Control) → wrote (wrote (wrote (wrote (wrote m 21 (phaseNumber (c .phase) ∷ [])) 44 (wordOctets (c .watchdog .reload))) 0 (c .owner ∷ c .group ∷ c .stored ∷ flagsOf (c .flags) (c .noted) ∷ [])) 26 (c .diagnosis .«delayed_flags» ∷ modesOf (c .modes) ∷ [])) 56 (c .diagnosis .count ∷ c .diagnosis .«delayed_count» ∷ []) ≡ kept (withStanding s c) m
+  -- octets 0 to 3, 21, 26, 27, 56, 57 and 64 to 67
+  pub standing-saved : (c : Control) → wrote (wrote (wrote (wrote (wrote m 21 (phaseNumber (c .phase) ∷ [])) 64 (doubleOctets (c .watchdog .reload))) 0 (c .owner ∷ c .group ∷ c .stored ∷ flagsOf (c .flags) (c .noted) ∷ [])) 26 (c .diagnosis .«delayed_flags» ∷ modesOf (c .modes) ∷ [])) 56 (c .diagnosis .count ∷ c .diagnosis .«delayed_count» ∷ []) ≡ kept (withStanding s c) m
   unfolding image used
-  standing-saved c = ap (λ (l : List ℕ). wrote (wrote (wrote (wrote (wrote l 21 (phaseNumber (c .phase) ∷ [])) 44 (wordOctets (c .watchdog .reload))) 0 (c .owner ∷ c .group ∷ c .stored ∷ flagsOf (c .flags) (c .noted) ∷ [])) 26 (c .diagnosis .«delayed_flags» ∷ modesOf (c .modes) ∷ [])) 56 (c .diagnosis .count ∷ c .diagnosis .«delayed_count» ∷ [])) front
+  standing-saved c = ap (λ (l : List ℕ). wrote (wrote (wrote (wrote (wrote l 21 (phaseNumber (c .phase) ∷ [])) 64 (doubleOctets (c .watchdog .reload))) 0 (c .owner ∷ c .group ∷ c .stored ∷ flagsOf (c .flags) (c .noted) ∷ [])) 26 (c .diagnosis .«delayed_flags» ∷ modesOf (c .modes) ∷ [])) 56 (c .diagnosis .count ∷ c .diagnosis .«delayed_count» ∷ [])) front
 
   -- octets 22 and 29
   pub outputs-saved : (o : Outputs) → wrote (wrote m 22 (numberOf4 (o .set .place) ∷ [])) 29 (marksOf o ∷ []) ≡ kept (withOutputs s o) m

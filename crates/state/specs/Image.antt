@@ -1,4 +1,4 @@
--- The image of a state: 128 octets, of which the first 64 have fields.
+-- The image of a state: 128 octets, of which those from 68 on have no fields.
 use Prim.Native.Nat.{ℕ, _+_, _-_, _*_, _/_, _%_}
 use mathlib.Core.Bool.{Bool, true, false}
 use mathlib.Core.List.{List, [], _∷_, _++_}
@@ -16,6 +16,18 @@ use Rattle.state.specs.Number.{readingNumber, kindNumber, stageNumber, p
 abbrev pub bitOf : Bool → ℕ
 bitOf true = 1
 bitOf false = 0
+
+-- the low 16 bits of a double word of 32
+abbrev pub lowWord : ℕ → ℕ
+lowWord x = x % 65536
+
+-- and the high ones
+abbrev pub highWord : ℕ → ℕ
+highWord x = x / 65536
+
+-- its octets, low first
+abbrev pub doubleOctets : ℕ → List ℕ
+doubleOctets x = lowWord x % 256 ∷ lowWord x / 256 ∷ highWord x % 256 ∷ highWord x / 256 ∷ []
 
 -- the flags and the note of a clear in one octet, bit 0 first
 abbrev pub flagsOf : Flags → Bool → ℕ
@@ -86,12 +98,12 @@ used s =
     ∷ s .incoming .reader .sum
     ∷ s .incoming .first
     ∷ s .incoming .second
-    ∷ s .control .watchdog .remaining % 256
-    ∷ s .control .watchdog .remaining / 256
-    ∷ s .control .watchdog .reload % 256
-    ∷ s .control .watchdog .reload / 256
     ∷ s .setup .ident % 256
     ∷ s .setup .ident / 256
+    ∷ lowWord (s .control .watchdog .remaining) % 256
+    ∷ lowWord (s .control .watchdog .remaining) / 256
+    ∷ highWord (s .control .watchdog .remaining) % 256
+    ∷ highWord (s .control .watchdog .remaining) / 256
     ∷ s .setup .«output_len»
     ∷ s .setup .«input_len»
     ∷ s .setup .«parameter_len»
@@ -108,9 +120,13 @@ used s =
     ∷ s .configuration .waiting
     ∷ 0
     ∷ 0
+    ∷ lowWord (s .control .watchdog .reload) % 256
+    ∷ lowWord (s .control .watchdog .reload) / 256
+    ∷ highWord (s .control .watchdog .reload) % 256
+    ∷ highWord (s .control .watchdog .reload) / 256
     ∷ []
 
--- the octets 64 to 127 are not used yet
+-- the octets 68 to 127 are not used yet
 abbrev pub unused : List ℕ
 unused = replicate (stateLength - usedLength) 0
 

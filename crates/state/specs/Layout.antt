@@ -9,9 +9,9 @@ use Rattle.state.specs.declared.setup.Setup.{Setup}
 abbrev pub stateLength : ℕ
 stateLength = 128
 
--- so many of them have fields; the others are 0
+-- from here on they have no fields and are 0
 abbrev pub usedLength : ℕ
-usedLength = 64
+usedLength = 68
 
 -- "each length rounded up to a multiple of 8"
 unfoldable pub roundedUp : ℕ → ℕ

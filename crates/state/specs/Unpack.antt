@@ -28,6 +28,10 @@ use Rattle.state.specs.Number.{readingNumbered, kindNumbered, stageNumbe
 abbrev pub wordAt : List ℕ → ℕ → ℕ
 wordAt l i = getD l i 0 + 256 * getD l (i + 1) 0
 
+-- the double word whose low octet stands at i: a low word, and a high word behind it
+abbrev pub doubleAt : List ℕ → ℕ → ℕ
+doubleAt l i = wordAt l i + 65536 * wordAt l (i + 2)
+
 -- whether bit 0 is set
 abbrev pub odd : ℕ → Bool
 odd x = eqb (x % 2) 1
@@ -71,7 +75,7 @@ modesIn x = record { sync = odd x; freeze = bitAt x 2; «sync_allowed» = bitAt 
 abbrev pub diagnosisIn : List ℕ → Diagnosis
 diagnosisIn l = record { count = getD l 56 0; «delayed_count» = getD l 57 0; «delayed_flags» = getD l 26 0 }
 
--- octets 0 to 5, 21, 27, 42 to 45, 54 and 55; diagnosis
+-- octets 0 to 5, 21, 27, 44 to 47, 54, 55 and 64 to 67; diagnosis
 abbrev pub controlIn : List ℕ → Control
 controlIn l =
     record {
@@ -79,7 +83,7 @@ controlIn l =
       owner = getD l 0 0;
       group = getD l 1 0;
       stored = getD l 2 0;
-      watchdog = record { reload = wordAt l 44; remaining = wordAt l 42 };
+      watchdog = record { reload = doubleAt l 64; remaining = doubleAt l 44 };
       flags = flagsIn (getD l 3 0);
       events = record { word = wordAt l 4 };
       noted = bitAt (getD l 3 0) 4;
@@ -158,7 +162,7 @@ replyIn l =
 unfoldable pub unpacked : List ℕ → State
 unpacked l =
     record {
-      setup = setupIn l (wordAt l 46);
+      setup = setupIn l (wordAt l 42);
       control = controlIn l;
       outputs = outputsIn (getD l 22 0) (getD l 29 0);
       inputs = inputsIn (getD l 23 0);

@@ -101,7 +101,7 @@ limitTests m i (limit ∷ limits) = leb (getD m i 0) limit ∷ limitTests m (suc
 abbrev pub codeTests : List ℕ → List Bool
 codeTests m = limitTests m 16 codeLimits
 
--- the octets 64 to 127, which are not used
+-- the octets 68 to 127, which are not used
 abbrev pub unusedTests : List ℕ → List Bool
 unusedTests m = limitTests m usedLength unused
 

@@ -9,10 +9,10 @@ pub enum Phase {
     DataExch,
 }
 
-// Ticks: what the watchdog is refilled to, 0 where it is off, and how many remain.
+// Ticks of 1 ms: what the watchdog is refilled to, 0 where it is off, and how many remain. 10 × 255 × 255 do not fit a word of 16 bits.
 pub struct Watchdog {
-    pub reload: u16,
-    pub remaining: u16,
+    pub reload: u32,
+    pub remaining: u32,
 }
 
 // The flags that diagnosis shows, Diag_Flag, and whether the parameters were judged good.

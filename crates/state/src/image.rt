@@ -15,7 +15,7 @@ ghost use mathlib.Core.List.{_++_};
 ghost use Prim.Native.Nat.{_≤_, _/_, _%_};
 ghost use lib.ListN.{length, drop};
 ghost use Rattle.state.specs.Layout.{stateLength};
-ghost use Rattle.state.specs.Image.{bitOf, flagsOf, modesOf, marksOf, inputsCode, used, image};
+ghost use Rattle.state.specs.Image.{bitOf, flagsOf, modesOf, marksOf, inputsCode, doubleOctets, used, image};
 
 // A mark as a number.
 pub fn bit(b: bool) -> u8
@@ -36,6 +36,20 @@ pub fn high(word: u16) -> u8
     ensures { λ r. ⌜ r ≡ word / 256 ⌝ }
 {
     (word / 256) as u8
+}
+
+// The octets of a double word, low first: those of its low word, then those of its high word.
+pub fn double_octets(x: u32) -> [u8; 4]
+    ensures { λ r. ⌜ r ≡ doubleOctets x ⌝ }
+{
+    let low_word = (x % 65536) as u16;
+    let high_word = (x / 65536) as u16;
+    [
+        low(low_word),
+        high(low_word),
+        low(high_word),
+        high(high_word),
+    ]
 }
 
 // The flags and the note of a clear in one octet.
@@ -74,11 +88,13 @@ pub fn inputs_code(t: Triple) -> u8
 }
 
 // The octets that are used, in their order.
-pub fn octets(s: State) -> [u8; 64]
+pub fn octets(s: State) -> [u8; 68]
     ensures { λ r. ⌜ r ≡ used s ⌝ }
 {
     let control = s.control;
     let phase = control.phase;
+    let remaining = double_octets(control.watchdog.remaining);
+    let reload = double_octets(control.watchdog.reload);
     let incoming = s.incoming;
     let reader = incoming.reader;
     let reading = reader.phase;
@@ -131,12 +147,12 @@ pub fn octets(s: State) -> [u8; 64]
         reader.sum,
         incoming.first,
         incoming.second,
-        low(control.watchdog.remaining),
-        high(control.watchdog.remaining),
-        low(control.watchdog.reload),
-        high(control.watchdog.reload),
         low(s.setup.ident),
         high(s.setup.ident),
+        remaining[0],
+        remaining[1],
+        remaining[2],
+        remaining[3],
         s.setup.output_len,
         s.setup.input_len,
         s.setup.parameter_len,
@@ -153,6 +169,10 @@ pub fn octets(s: State) -> [u8; 64]
         s.configuration.waiting,
         0,
         0,
+        reload[0],
+        reload[1],
+        reload[2],
+        reload[3],
     ]
 }
 

@@ -8,7 +8,7 @@ ghost use Rattle.state.specs.Layout.{roundedUp, placeAt, outputsAt, inpu
 pub const STATE_LENGTH: usize = 128;
 
 // How many of them have fields; the others are 0.
-pub const USED_LENGTH: usize = 64;
+pub const USED_LENGTH: usize = 68;
 
 // Where the buffers end at most if all lengths are at most 88.
 pub const SHORT_END: usize = 1536;

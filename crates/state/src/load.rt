@@ -21,6 +21,7 @@ use crate::state::State;
 use buffers::events::Events;
 use buffers::quad::Quad;
 use buffers::triple::Triple;
+use ranges::word;
 use telegram::Kind;
 use telegram::reader;
 use telegram::reader::Reader;
@@ -31,7 +32,7 @@ ghost use Prim.Native.Nat.{_+_, _≤_, _<_};
 ghost use lib.ListN.{length};
 ghost use Rattle.telegram.specs.Reading.{takesData};
 ghost use Rattle.state.specs.Layout.{stateLength};
-ghost use Rattle.state.specs.Unpack.{wordAt, setupIn, flagsIn, modesIn, setsIn, readerIn, senderIn, headerIn, unpacked};
+ghost use Rattle.state.specs.Unpack.{wordAt, doubleAt, setupIn, flagsIn, modesIn, setsIn, readerIn, senderIn, headerIn, unpacked};
 
 // An octet as a word.
 fn wide(octet: u8) -> u16
@@ -46,6 +47,14 @@ fn word_at(mem: &[u8], i: usize) -> u16
     ensures { λ r. ⌜ r ≡ wordAt (now (mem .entry)) i ⌝ }
 {
     wide(mem[i]) + 256 * wide(mem[i + 1])
+}
+
+// The double word at i, its low octet first, by one load.
+fn double_at(mem: &[u8], i: usize) -> u32
+    requires { ⌜ i + 4 ≤ length (now mem) ⌝ }
+    ensures { λ r. ⌜ r ≡ doubleAt (now (mem .entry)) i ⌝ }
+{
+    word::half(mem, i)
 }
 
 // What Start was given, the ident number handed in.
@@ -70,7 +79,7 @@ pub fn setup(mem: &[u8]) -> Setup
     requires { ⌜ stateLength ≤ length (now mem) ⌝ }
     ensures { λ r. ⌜ r ≡ unpacked (now (mem .entry)) .setup ⌝ }
 {
-    setup_in(mem, word_at(mem, 46))
+    setup_in(mem, word_at(mem, 42))
 }
 
 // The flags of an octet.
@@ -145,8 +154,8 @@ pub fn control(mem: &[u8]) -> Control
     requires { ⌜ stateLength ≤ length (now mem) ⌝ }
     ensures { λ r. ⌜ r ≡ unpacked (now (mem .entry)) .control ⌝ }
 {
-    let remaining = word_at(mem, 42);
-    let reload = word_at(mem, 44);
+    let remaining = double_at(mem, 44);
+    let reload = double_at(mem, 64);
     Control {
         phase: phase_numbered(mem[21]),
         owner: mem[0],

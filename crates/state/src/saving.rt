@@ -3,6 +3,7 @@
 use crate::chain::Chain;
 use crate::control::Control;
 use crate::image::bit;
+use crate::image::double_octets;
 use crate::image::flags;
 use crate::image::high;
 use crate::image::inputs_code;
@@ -117,13 +118,16 @@ pub fn save_events(events: Events, mem: &mut [u8])
     mem[5] = high(events.word);
 }
 
-// The ticks that remain of the watchdog: octets 42 and 43.
-pub fn save_ticks(ticks: u16, mem: &mut [u8])
+// The ticks that remain of the watchdog: octets 44 to 47.
+pub fn save_ticks(ticks: u32, mem: &mut [u8])
     requires { ⌜ stateLength ≤ length (now mem) ⌝ }
     ensures { λ _. ⌜ Changes (now (mem .entry)) (now (mem .exit)) (λ s. withTicks s ticks) ⌝ }
 {
-    mem[42] = low(ticks);
-    mem[43] = high(ticks);
+    let octets = double_octets(ticks);
+    mem[44] = octets[0];
+    mem[45] = octets[1];
+    mem[46] = octets[2];
+    mem[47] = octets[3];
 }
 
 // The last request, with which the next is compared: octets 54 and 55.
@@ -135,7 +139,7 @@ pub fn save_chain(chain: Chain, mem: &mut [u8])
     mem[55] = chain.master;
 }
 
-// The control part but for the events, the ticks that remain and the chain: octets 0 to 3, 21, 26, 27, 44, 45, 56 and 57.
+// The control part but for the events, the ticks that remain and the chain: octets 0 to 3, 21, 26, 27, 56, 57 and 64 to 67.
 fn save_standing(control: Control, mem: &mut [u8])
     requires { ⌜ stateLength ≤ length (now mem) ⌝ }
     ensures { λ _. ⌜ Changes (now (mem .entry)) (now (mem .exit)) (λ s. withStanding s control) ⌝ }
@@ -143,9 +147,12 @@ fn save_standing(control: Control, mem: &mut [u8])
     let phase = control.phase;
     let packed = flags(control.flags, control.noted);
     let packed_modes = modes(control.modes);
+    let reload = double_octets(control.watchdog.reload);
     mem[21] = phase_number(phase);
-    mem[44] = low(control.watchdog.reload);
-    mem[45] = high(control.watchdog.reload);
+    mem[64] = reload[0];
+    mem[65] = reload[1];
+    mem[66] = reload[2];
+    mem[67] = reload[3];
     mem[0] = control.owner;
     mem[1] = control.group;
     mem[2] = control.stored;
@@ -156,7 +163,7 @@ fn save_standing(control: Control, mem: &mut [u8])
     mem[57] = control.diagnosis.delayed_count;
 }
 
-// The control part but for the chain, which requests alone change: octets 0 to 5, 21, 26, 27, 42 to 45, 56 and 57.
+// The control part but for the chain, which requests alone change: octets 0 to 5, 21, 26, 27, 44 to 47, 56, 57 and 64 to 67.
 pub fn save_control(control: Control, mem: &mut [u8])
     requires { ⌜ stateLength ≤ length (now mem) ⌝ }
     ensures { λ _. ⌜ Changes (now (mem .entry)) (now (mem .exit)) (λ s. withControlButChain s control) ⌝ }

@@ -101,7 +101,7 @@ fn silence_over(mem: &mut [u8])
     settle_waiting(mem);
 }
 
-// A Tick: 10 ms. Nearly always the watchdog counts down or is off.
+// A Tick: 1 ms. Nearly always the watchdog counts down or is off.
 pub fn elapse(mut s: State, mem: &mut [u8]) -> State
     requires { ⌜ Safe s (now mem) ⌝ }
     ensures { λ t. ⌜ Steps (elapsed s (now (mem .entry))) t (now (mem .exit)) ⌝ }
@@ -121,14 +121,28 @@ pub fn elapse(mut s: State, mem: &mut [u8]) -> State
     carry_out(s, mem, ticked(busy(s), s.control), 0)
 }
 
-// A Tick over the memory: nearly always only the ticks that remain are packed.
-pub fn tick(mem: &mut [u8])
+// A Tick over the memory, whatever comes of it.
+fn tick_whole(mem: &mut [u8])
     requires { ⌜ Holds (now mem) (unpacked (now mem)) ⌝ }
     ensures { λ _. ⌜ now (mem .exit) ≡ packedAfter (elapsed (unpacked (now (mem .entry))) (now (mem .entry))) ⌝ }
 {
     let control = load::control(&mem[..]);
     if control.noted {
         silence_over(mem);
+        return;
+    }
+    carry_over(mem, ticked(busy_in(&mem[..]), control), 0);
+}
+
+// A Tick over the memory: nearly always only the ticks that remain are packed. Whatever else comes of it is called at two places, since
+// what is called at one the compiler takes in, and every Tick would save the registers that it needs.
+pub fn tick(mem: &mut [u8])
+    requires { ⌜ Holds (now mem) (unpacked (now mem)) ⌝ }
+    ensures { λ _. ⌜ now (mem .exit) ≡ packedAfter (elapsed (unpacked (now (mem .entry))) (now (mem .entry))) ⌝ }
+{
+    let control = load::control(&mem[..]);
+    if control.noted {
+        tick_whole(mem);
         return;
     }
     if !counts(control) {
@@ -139,5 +153,5 @@ pub fn tick(mem: &mut [u8])
         save_ticks(remaining - 1, mem);
         return;
     }
-    carry_over(mem, ticked(busy_in(&mem[..]), control), 0);
+    tick_whole(mem);
 }

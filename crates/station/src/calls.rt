@@ -37,7 +37,7 @@ pub fn send(mem: &mut [u8]) -> Answer
     over_memory::send(mem)
 }
 
-// A Tick: 10 ms.
+// A Tick: 1 ms.
 pub fn tick(mem: &mut [u8]) -> Answer
     ensures { λ r. ⌜ Meets (called (now (mem .entry)) tick) r (now (mem .exit)) ⌝ }
 {

@@ -38,7 +38,7 @@ pub fn send(mem: &mut [u8]) -> Answer
     Answer::Value(number)
 }
 
-// A Tick: 10 ms.
+// A Tick: 1 ms.
 pub fn tick(mem: &mut [u8]) -> Answer
     requires { ⌜ Holds (now mem) (unpacked (now mem)) ⌝ }
     ensures { λ r. ⌜ Meets (stepOver (now (mem .entry)) tick) r (now (mem .exit)) ⌝ }

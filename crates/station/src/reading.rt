@@ -132,7 +132,7 @@ pub fn request_by(reader: Reader) -> Request
 
 // The octets of Set_Prm from a place on.
 pub fn prm_at(mem: &[u8], from: usize) -> Prm
-    requires { ⌜ from + 7 ≤ length (now mem) ⌝ }
+    requires { ⌜ from + 8 ≤ length (now mem) ⌝ }
     ensures { λ r. ⌜ r ≡ prmAt (now (mem .entry)) from ⌝ }
 {
     Prm {
@@ -142,6 +142,7 @@ pub fn prm_at(mem: &[u8], from: usize) -> Prm
         ident_high: mem[from + 4],
         ident_low: mem[from + 5],
         group: mem[from + 6],
+        base: mem[from + 7],
     }
 }
 

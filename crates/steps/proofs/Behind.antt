@@ -151,6 +151,7 @@ module _ (s : State) (m n : List ℕ) (h : Safe s m) (g : Safe s n) (e : behind 
     «ident_high» = same-at (a + 4) (omega arith) j;
     «ident_low» = same-at (a + 5) (omega arith) j;
     group = same-at (a + 6) (omega arith) j;
+    base = same-at (a + 7) (omega arith) j;
   }
 
   same-prm : prmIn s m ≡ prmIn s n

@@ -27,9 +27,9 @@ use Rattle.state.specs.declared.state.Outputs.{Outputs}
 use Rattle.state.specs.declared.state.Reply.{Reply}
 use Rattle.state.specs.declared.state.Sets.{Sets}
 use Rattle.state.specs.declared.state.State.{State}
-use Rattle.state.specs.Layout.{outputRow, parameterRow, rowCount, rowLength, startOf, outputsAt, parametersAt, getCfgAt}
+use Rattle.state.specs.Layout.{roundedUp, outputRow, parameterRow, rowCount, rowLength, startOf, outputsAt, parametersAt, getCfgAt}
 use Rattle.state.proofs.Choice.{either}
-use Rattle.state.proofs.Places.{inside, get-cfg-inside}
+use Rattle.state.proofs.Places.{inside, rounded-inside, get-cfg-inside}
 use Rattle.rules.specs.declared.outcome.OutputsDeed.{OutputsDeed}
 use Rattle.rules.specs.declared.outcome.OutputsDeed.the-variants as outputs-deed
 use Rattle.rules.specs.declared.outcome.InputsDeed.{InputsDeed}
@@ -77,11 +77,13 @@ get-cfg-room s m h =
     let v = h .room in
     omega arith
 
--- the octets of Set_Prm
-pub prm-room : (s : State) (m : List ℕ) → Safe s m → parametersAt (s .setup) (fillOf (s .parameters .set .place)) + 7 ≤ length m
+-- the octets of Set_Prm: a buffer of 7 has room for 8
+pub prm-room : (s : State) (m : List ℕ) → Safe s m → parametersAt (s .setup) (fillOf (s .parameters .set .place)) + 8 ≤ length m
+unfolding roundedUp
 prm-room s m h =
-    let u = buffer-room s m parameterRow (fillOf (s .parameters .set .place)) h (h .parameters .within role.fill (omega arith)) in
-    let v = h .long in
+    let long = h .long in
+    let u = rounded-inside (s .setup) parameterRow (fillOf (s .parameters .set .place)) 8 (h .parameters .within role.fill (omega arith)) (omega arith) in
+    let v = h .room in
     omega arith
 
 -- ---- what a step makes

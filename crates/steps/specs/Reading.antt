@@ -71,7 +71,7 @@ requestBy r =
       count = r .count;
     }
 
--- the octets of Set_Prm from a place on
+-- the octets of Set_Prm from a place on; with fewer than 8 data octets octet 7 is whatever was left there
 abbrev pub prmAt : List ℕ → ℕ → Prm
 prmAt m a =
     record {
@@ -81,6 +81,7 @@ prmAt m a =
       «ident_high» = getD m (a + 4) 0;
       «ident_low» = getD m (a + 5) 0;
       group = getD m (a + 6) 0;
+      base = getD m (a + 7) 0;
     }
 
 -- in the parameters' fill buffer

@@ -14,6 +14,6 @@ pub record Safe (s : State) (m : List ℕ) : Type 0 where
   pub parameters : Permutation 3 (s .parameters .set .place)
   pub configuration : Permutation 3 (s .configuration .set .place)
   pub reply : s .reply .place ≤ 3
-  -- Set_Prm's octets are read from a buffer of at least 7
+  -- Set_Prm's octets are read from a buffer of at least 7, which has room for 8
   pub long : 7 ≤ s .setup .«parameter_len»
   pub room : endOf (s .setup) ≤ length m

@@ -16,6 +16,9 @@ showing-requires c κs = search needs
 ticks-of-requires : tie.Need-ticks-of-requires
 ticks-of-requires c κs = search needs
 
+master-of-requires : tie.Need-master-of-requires
+master-of-requires c κs = search needs
+
 allowed-requires : tie.Need-allowed-requires
 allowed-requires c κs = search needs
 
@@ -24,10 +27,11 @@ unfolding parametrized
 returns c =
     rw (
       c .allowed .ensures,
-      c .before .before .before .before .ticks-of .ensures,
-      c .before .before .before .before .before .showing .ensures,
-      c .before .before .before .before .before .before .clear .ensures,
-      c .before .before .before .before .before .before .before .wait-cfg .ensures,
+      c .before .master-of .ensures,
+      c .before .before .before .before .before .ticks-of .ensures,
+      c .before .before .before .before .before .before .showing .ensures,
+      c .before .before .before .before .before .before .before .clear .ensures,
+      c .before .before .before .before .before .before .before .before .wait-cfg .ensures,
     )
 
 pub parametrized-spec : {M : Type 1} → statement M
@@ -38,5 +42,6 @@ parametrized-spec =
     clear-requires
     showing-requires
     ticks-of-requires
+    master-of-requires
     allowed-requires
     returns)

@@ -106,7 +106,6 @@ returns-6 c =
       ← c .before .before .bad-watchdog .ensures,
       c .before .if5 .left,
       c .good-prm .ensures,
-      at1 .before .before .before .before .before .master-of .ensures,
     )
 
 pub set-prm-spec : {M : Type 1} → statement M

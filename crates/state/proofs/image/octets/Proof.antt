@@ -2,9 +2,16 @@
 use mathlib.Core.List.{_∷_, _++_}
 use Rattle.octets.specs.Part.{part}
 use Rattle.state.specs.Image.{used}
+use Rattle.state.proofs.Written.{four}
 use borrow.Author.Needs.{needs}
 use Rattle.state.proofs.image.octets.Statement.{statement}
 use Rattle.state.proofs.image.octets.Tie as tie
+
+double-octets-requires : tie.Need-double-octets-requires
+double-octets-requires c κs = search needs
+
+double-octets-requires-2 : tie.Need-double-octets-requires-2
+double-octets-requires-2 c κs = search needs
 
 flags-requires : tie.Need-flags-requires
 flags-requires c κs = search needs
@@ -60,17 +67,29 @@ low-requires-2 c κs = search needs
 high-requires-2 : tie.Need-high-requires-2
 high-requires-2 c κs = search needs
 
-low-requires-3 : tie.Need-low-requires-3
-low-requires-3 c κs = search needs
+array-read-t36 : tie.Need-array-read-t36
+array-read-t36 c = search needs
 
-high-requires-3 : tie.Need-high-requires-3
-high-requires-3 c κs = search needs
+array-read-t39 : tie.Need-array-read-t39
+array-read-t39 c = search needs
 
-low-requires-4 : tie.Need-low-requires-4
-low-requires-4 c κs = search needs
+array-read-t42 : tie.Need-array-read-t42
+array-read-t42 c = search needs
 
-high-requires-4 : tie.Need-high-requires-4
-high-requires-4 c κs = search needs
+array-read-t45 : tie.Need-array-read-t45
+array-read-t45 c = search needs
+
+array-read-t48 : tie.Need-array-read-t48
+array-read-t48 c = search needs
+
+array-read-t51 : tie.Need-array-read-t51
+array-read-t51 c = search needs
+
+array-read-t54 : tie.Need-array-read-t54
+array-read-t54 c = search needs
+
+array-read-t57 : tie.Need-array-read-t57
+array-read-t57 c = search needs
 
 returns : tie.Need-returns
 unfolding used
@@ -92,45 +111,43 @@ returns c =
     let c15 = c14 .before in
     let c16 = c15 .before in
     let c17 = c16 .before in
-    let c18 = c17 .before in
-    let c19 = c18 .before in
-    let c20 = c19 .before in
-    let c21 = c20 .before in
-    let same = part (used (c21 .before .before .before .before .before .before .args .s)) in
+    let reloaded = c17 .before .before .before .before .before in
+    let ticked = reloaded .before in
+    let same = part (used (ticked .before .before .args .s)) in
     λ i.
     same 0 3
-    ++ c21 .flags .ensures i
-    ∷ c20 .low .ensures i
-    ∷ c19 .high .ensures i
+    ++ c17 .flags .ensures i
+    ∷ c16 .low .ensures i
+    ∷ c15 .high .ensures i
     ∷ same 6 10
-    ++ c18 .kind-number .ensures i
-    ∷ c17 .stage-number .ensures i
-    ∷ c16 .drawn-number .ensures i
+    ++ c14 .kind-number .ensures i
+    ∷ c13 .stage-number .ensures i
+    ∷ c12 .drawn-number .ensures i
     ∷ same 19 2
-    ++ c15 .phase-number .ensures i
-    ∷ c14 .number .ensures i
-    ∷ c13 .inputs-code .ensures i
-    ∷ c12 .number2 .ensures i
-    ∷ c11 .number3 .ensures i
+    ++ c11 .phase-number .ensures i
+    ∷ c10 .number .ensures i
+    ∷ c9 .inputs-code .ensures i
+    ∷ c8 .number2 .ensures i
+    ∷ c7 .number3 .ensures i
     ∷ same 26 1
-    ++ c10 .modes .ensures i
-    ∷ c9 .bit .ensures .0 i
-    ∷ c8 .output-marks .ensures i
-    ∷ c7 .kind-number2 .ensures i
-    ∷ c6 .reading-number .ensures i
+    ++ c6 .modes .ensures i
+    ∷ c5 .bit .ensures .0 i
+    ∷ c4 .output-marks .ensures i
+    ∷ c3 .kind-number2 .ensures i
+    ∷ c2 .reading-number .ensures i
     ∷ same 32 10
-    ++ c5 .low2 .ensures i
-    ∷ c4 .high2 .ensures i
-    ∷ c3 .low3 .ensures i
-    ∷ c2 .high3 .ensures i
-    ∷ c1 .low4 .ensures i
-    ∷ c .high4 .ensures i
-    ∷ same 48 16
+    ++ c1 .low2 .ensures i
+    ∷ c .high2 .ensures i
+    ∷ four (ticked .double-octets .ensures i)
+    ++ same 48 16
+    ++ four (reloaded .double-octets2 .ensures i)
 
 pub octets-spec : {M : Type 1} → statement M
 octets-spec =
     tie.close
     (tie.spec
+    double-octets-requires
+    double-octets-requires-2
     flags-requires
     low-requires
     high-requires
@@ -149,8 +166,12 @@ octets-spec =
     reading-number-requires
     low-requires-2
     high-requires-2
-    low-requires-3
-    high-requires-3
-    low-requires-4
-    high-requires-4
+    array-read-t36
+    array-read-t39
+    array-read-t42
+    array-read-t45
+    array-read-t48
+    array-read-t51
+    array-read-t54
+    array-read-t57
     returns)

@@ -2,10 +2,10 @@
 use Prim.Native.Nat.{ℕ}
 use mathlib.Core.Path.{ap, _∙_}
 use mathlib.Core.List.{List, _++_}
-use lib.ListN.{length, drop, replicate}
+use lib.ListN.{length, drop}
 use denote.Ref.{now}
 use Rattle.octets.specs.Part.{pasted}
-use Rattle.state.specs.Image.{used}
+use Rattle.state.specs.Image.{used, unused}
 use Rattle.state.specs.Layout.{usedLength}
 use Rattle.state.proofs.Front.{packed-image}
 use borrow.Author.Needs.{needs}
@@ -39,7 +39,7 @@ returns c =
     let start = made .before .before in
     let m = now (start .args .mem) in
     cleared .clear-at .ensures
-    ∙ ap (λ (l : List ℕ). pasted l usedLength (replicate 64 0))
+    ∙ ap (λ (l : List ℕ). pasted l usedLength unused)
     (copied .copy .ensures ∙ ap (λ (l : List ℕ). l ++ drop (length l) m) (made .octets .ensures))
     ∙ packed-image (start .args .s) m
 

@@ -6,11 +6,11 @@ use borrow.Author.Needs.{needs}
 use Rattle.state.proofs.load.control.Statement.{statement}
 use Rattle.state.proofs.load.control.Tie as tie
 
-word-at-requires : tie.Need-word-at-requires
-word-at-requires c κs = search needs
+double-at-requires : tie.Need-double-at-requires
+double-at-requires c κs = search needs
 
-word-at-requires-2 : tie.Need-word-at-requires-2
-word-at-requires-2 c κs = search needs
+double-at-requires-2 : tie.Need-double-at-requires-2
+double-at-requires-2 c κs = search needs
 
 shared-slice-read-phase-numbered : tie.Need-shared-slice-read-phase-numbered
 shared-slice-read-phase-numbered c = search needs
@@ -68,7 +68,7 @@ returns c =
       owner = getD m 0 0;
       group = getD m 1 0;
       stored = getD m 2 0;
-      watchdog = record { reload = reloaded .word-at2 .ensures i; remaining = reloaded .before .word-at .ensures i };
+      watchdog = record { reload = reloaded .double-at2 .ensures i; remaining = reloaded .before .double-at .ensures i };
       flags = flagged .flags-in .ensures i;
       events = raised .events .ensures i;
       noted = noted .noted .ensures i;
@@ -81,8 +81,8 @@ pub control-spec : {M : Type 1} → statement M
 control-spec =
     tie.close
     (tie.spec
-    word-at-requires
-    word-at-requires-2
+    double-at-requires
+    double-at-requires-2
     shared-slice-read-phase-numbered
     phase-numbered-requires
     shared-slice-read-t8

@@ -1,6 +1,6 @@
 -- `station::bus::tick` meets its contract.
 use Rattle.state.proofs.Damage.{fronted-same}
-use Rattle.station.proofs.Ticking.{tick-drops, tick-carries-over, tick-rests, tick-counts}
+use Rattle.station.proofs.Ticking.{tick-rests, tick-counts}
 use Rattle.state.specs.Unpack.{unpacked}
 use borrow.Author.Needs.{needs}
 use Rattle.station.proofs.bus.tick.Statement.{statement}
@@ -9,17 +9,14 @@ use Rattle.station.proofs.bus.tick.Tie as tie
 control-requires : tie.Need-control-requires
 control-requires c κs = search needs
 
-silence-over-requires : tie.Need-silence-over-requires
-silence-over-requires c κs = search needs
+tick-whole-requires : tie.Need-tick-whole-requires
+tick-whole-requires c κs = search needs
 
 same-length : tie.Need-same-length
 same-length c = search needs
 
 returns : tie.Need-returns
-returns c =
-    let d = c .before .before .before .before in
-    let m = d .before .before .before .before .args .mem .now in
-    rw (tick-drops (unpacked m) m _ (d .before .control .ensures) (d .if1 .taken)) (c .before .before .silence-over .ensures)
+returns c = c .before .before .tick-whole .ensures
 
 counts-requires : tie.Need-counts-requires
 counts-requires c κs = search needs
@@ -50,32 +47,21 @@ returns-3 c =
     (c .before .before .before .before .if3 .taken))
     (c .before .before .save-ticks .ensures _ (fronted-same _ _ (d .before .before .before .before .before .before .pre)))
 
-busy-in-requires : tie.Need-busy-in-requires
-busy-in-requires c κs = search needs
-
-ticked-requires : tie.Need-ticked-requires
-ticked-requires c κs = search needs
-
-carry-over-requires : tie.Need-carry-over-requires
-carry-over-requires c κs = search needs
+tick-whole-requires-2 : tie.Need-tick-whole-requires-2
+tick-whole-requires-2 c κs = search needs
 
 same-length-4 : tie.Need-same-length-4
 same-length-4 c = search needs
 
 returns-4 : tie.Need-returns-4
-returns-4 c =
-    let d = c .before .before .before .before .before .before .before .before in
-    let m = d .before .before .before .before .before .before .args .mem .now in
-    rw (tick-carries-over (unpacked m) m _ (d .before .before .before .control .ensures) (d .before .before .if1 .left) _ _ (c .before .before .before .before .busy-in .ensures)
-    (c .before .before .before .ticked .ensures))
-    (c .before .before .carry-over .ensures)
+returns-4 c = c .before .before .tick-whole2 .ensures
 
 pub tick-spec : {M : Type 1} → statement M
 tick-spec =
     tie.close
     (tie.spec
     control-requires
-    silence-over-requires
+    tick-whole-requires
     same-length
     returns
     counts-requires
@@ -85,8 +71,6 @@ tick-spec =
     save-ticks-requires
     same-length-3
     returns-3
-    busy-in-requires
-    ticked-requires
-    carry-over-requires
+    tick-whole-requires-2
     same-length-4
     returns-4)
