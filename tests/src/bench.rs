@@ -1,5 +1,6 @@
 //! The bench examples a to j of document 01, with the answers that stand there: address 5, ident 80B3, master 2, one
-//! output, one input, a gap before each telegram. By document 02, Req 04, case a ends the chain ahead of each further one.
+//! output, one input, a gap before each telegram. By document 02, Req 04, case a ends the chain ahead of each further
+//! one, and by Req 07 case c reads 100 ticks.
 
 use crate::call;
 use crate::ledger::Station;
@@ -75,10 +76,10 @@ fn b_diagnosis_of_a_fresh_station() {
 }
 
 #[test]
-fn c_parameters_with_a_watchdog_of_ten_ticks() {
+fn c_parameters_with_a_watchdog_of_100_ticks() {
     let mut bench = Bench::fresh();
     bench.expect(C, "E5");
-    for _ in 0..9 {
+    for _ in 0..99 {
         bench.call("tick");
     }
     assert_eq!(bench.call("events"), 1 << 11);

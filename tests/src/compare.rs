@@ -2,8 +2,8 @@
 
 use crate::call::{Call, StartValues};
 use crate::card::{Card, Memory, STATE};
-use crate::image::{chain_octets, CHAIN};
-use crate::ledger::Station;
+use crate::image::{self, chain_octets, CHAIN};
+use crate::ledger::{Ledger, Station};
 use crate::outcome::{Outcome, Tally};
 use crate::random::Random;
 use std::collections::VecDeque;
@@ -65,7 +65,7 @@ impl Pair {
             Ok(answer) => return Err(self.difference(call, expected, answered(answer))),
             Err(misdeed) => return Err(self.difference(call, expected, misdeed)),
         }
-        self.check_chain(call, expected)?;
+        self.check_state(call, expected)?;
         reached
             .into_iter()
             .for_each(|outcome| self.tally.add(outcome));
@@ -80,18 +80,29 @@ impl Pair {
         calls.iter().try_for_each(|call| self.step(call).map(drop))
     }
 
-    /// The chain of retries shows in answers only when a request follows; in the memory it shows at once.
-    fn check_chain(&self, call: &Call, expected: i64) -> Result<(), Box<Difference>> {
+    /// What shows in answers only later shows in the memory at once: the chain of retries when a request follows, the
+    /// watchdog when it expires, the ident number when parameters or a Slave_Diag come.
+    fn check_state(&self, call: &Call, expected: i64) -> Result<(), Box<Difference>> {
         let Some(ledger) = &self.station.ledger else {
             return Ok(());
         };
-        let chain = CHAIN.map(|(at, _)| self.card.state()[at]);
-        let right = chain_octets(ledger.chain);
-        if chain == right {
-            return Ok(());
+        let state = self.card.state();
+        let misdeed = wrong_chain(state, ledger)
+            .or_else(|| wrong_watchdog(state, ledger))
+            .or_else(|| wrong_ident(state, ledger));
+        match misdeed {
+            Some(misdeed) => Err(self.difference(call, expected, misdeed)),
+            None => Ok(()),
         }
-        let misdeed = format!("has the chain {chain:02X?} in its memory and not {right:02X?}");
-        Err(self.difference(call, expected, misdeed))
+    }
+
+    /// Other ticks of the watchdog, which is on, in both: a count that would take long to reach.
+    pub fn put_ticks(&mut self, left: u32, refilled: u32) {
+        let ledger = self.station.ledger.as_mut();
+        if let Some(watchdog) = ledger.and_then(|ledger| ledger.watchdog.as_mut()) {
+            (watchdog.left, watchdog.period) = (left, refilled);
+            image::put_ticks(self.card.memory.contents_mut(), left, refilled);
+        }
     }
 
     fn maybe_move(&mut self) {
@@ -161,6 +172,30 @@ impl Pair {
     pub fn found(&self, call: &Call, misdeed: String) -> Box<Difference> {
         self.difference(call, None, misdeed)
     }
+}
+
+fn wrong_chain(state: &[u8], ledger: &Ledger) -> Option<String> {
+    let chain = CHAIN.map(|(at, _)| state[at]);
+    let right = chain_octets(ledger.chain);
+    (chain != right)
+        .then(|| format!("has the chain {chain:02X?} in its memory and not {right:02X?}"))
+}
+
+/// Where the watchdog is off, what remains of it is any number.
+fn wrong_watchdog(state: &[u8], ledger: &Ledger) -> Option<String> {
+    let (left, refilled) = image::ticks(state);
+    let right = match &ledger.watchdog {
+        Some(watchdog) => (watchdog.left, watchdog.period),
+        None => (left, 0),
+    };
+    ((left, refilled) != right)
+        .then(|| format!("has {left} of {refilled} ticks in its memory and not {right:?}"))
+}
+
+fn wrong_ident(state: &[u8], ledger: &Ledger) -> Option<String> {
+    let (ident, right) = (image::ident(state), ledger.values.ident);
+    (ident != right)
+        .then(|| format!("has the ident number {ident:04X} in its memory and not {right:04X}"))
 }
 
 /// An answer with a word on what it means if it is a refusal.

@@ -561,8 +561,11 @@ impl Trial<'_> {
         let station = self.values.address as u8;
         let master = self.random.pick(&[0, 1, 2, 3, 60, 125, 126]);
         let outputs = self.random.octets(self.values.outputs as usize);
-        let parameters =
-            draft::good_parameters(self.values.ident, Some((1, 2)), 1, draft::ALLOW_BOTH);
+        let parameters_of = match self.random.chance(50) {
+            true => draft::fast_parameters,
+            false => draft::good_parameters,
+        };
+        let parameters = parameters_of(self.values.ident, Some((1, 2)), 1, draft::ALLOW_BOTH);
         let draft = match self.random.below(6) {
             0 => Draft::exchange(station, master, outputs),
             1 => Draft::to_point(station, master, draft::SET_PRM, parameters),

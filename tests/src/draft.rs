@@ -29,6 +29,9 @@ pub const ALLOW_SYNC: u8 = 0x20;
 pub const ALLOW_FREEZE: u8 = 0x10;
 pub const ALLOW_BOTH: u8 = ALLOW_SYNC | ALLOW_FREEZE;
 
+/// Bit 2 of Set_Prm's octet 7: the base of the watchdog is 1 ms.
+pub const BASE_1_MS: u8 = 0x04;
+
 /// Bits of Global_Control's octet 0.
 pub const SYNC: u8 = 0x20;
 pub const UNSYNC: u8 = 0x10;
@@ -127,11 +130,19 @@ impl Draft {
     }
 }
 
-/// The seven octets of parameters that a station with this ident number finds good; `allowed` are the pairs of commands.
+/// The seven octets of parameters that a station with this ident number finds good; `allowed` are the pairs of
+/// commands. The base of the watchdog is 10 ms.
 pub fn good_parameters(ident: u16, watchdog: Option<(u8, u8)>, group: u8, allowed: u8) -> Vec<u8> {
     let [high, low] = ident.to_be_bytes();
     match watchdog {
         Some((first, second)) => vec![0x88 | allowed, first, second, 11, high, low, group],
         None => vec![0x80 | allowed, 0, 0, 11, high, low, group],
     }
+}
+
+/// The same with an octet 7 that makes the base of the watchdog 1 ms: it has as many ticks as the product of its
+/// factors.
+pub fn fast_parameters(ident: u16, watchdog: Option<(u8, u8)>, group: u8, allowed: u8) -> Vec<u8> {
+    let parameters = good_parameters(ident, watchdog, group, allowed);
+    [parameters, vec![BASE_1_MS]].concat()
 }

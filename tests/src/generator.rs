@@ -94,6 +94,10 @@ const SPOILS: [Spoil; 13] = [
     Spoil::ShortestLengthExtended,
 ];
 
+/// Factors of watchdogs that are 4, 6, 8, 12 and 12 ticks above a multiple of 65,536 where the base is 10 ms: a count
+/// of 16 bits would expire by then.
+const ABOVE_16_BITS: [(u8, u8); 5] = [(58, 113), (107, 245), (58, 226), (87, 226), (214, 245)];
+
 struct Generator {
     random: Random,
     habits: Habits,
@@ -275,7 +279,7 @@ impl Generator {
     fn two_sided_lengths(&mut self) -> [u32; 6] {
         let random = &mut self.random;
         match random.weighted(&[30, 35, 12, 14, 5, 8, 4]) {
-            0 => [1, 1, 7, 1, 6, 1],
+            0 => [1, 1, random.pick(&[7, 8, 8]), 1, 6, 1],
             1 => [
                 random.between(1, 9) as u32,
                 random.between(1, 9) as u32,
@@ -387,7 +391,7 @@ impl Generator {
             return self.one_sided();
         }
         match self.random.weighted(&[
-            10, 14, 22, 10, 10, 8, 10, 10, 6, 1, 6, 12, 10, 10, 8, 10, 60, 4, 10,
+            10, 14, 22, 10, 10, 8, 10, 10, 6, 1, 6, 12, 10, 10, 8, 10, 60, 4, 10, 8, 6, 6,
         ]) {
             0 => self.reach_exchange(),
             1 => self.delayed_diagnosis(),
@@ -407,7 +411,10 @@ impl Generator {
             15 => self.points_asked_in_turn(),
             16 => self.retries(),
             17 => self.retry_of_an_early_request(),
-            _ => self.branch_on_pending(),
+            18 => self.branch_on_pending(),
+            19 => self.octet_7_from_before(),
+            20 => self.watchdog_above_16_bits(),
+            _ => self.set_prm_again(),
         }
     }
 
@@ -461,15 +468,25 @@ impl Generator {
 
     /// Around the moment at which the watchdog expires, if it is near.
     fn ticks(&mut self) {
-        let count = match &self.ledger().watchdog {
-            Some(watchdog) if watchdog.left <= 40 => {
-                (watchdog.left as usize + self.random.below(3)).saturating_sub(1)
-            }
-            _ => self.random.between(1, 3),
+        let count = match self.ticks_left() {
+            Some(left) => (left + self.random.below(3)).saturating_sub(1),
+            None => self.random.between(1, 3),
         };
+        self.tick(count);
+    }
+
+    fn tick(&mut self, count: usize) {
         for _ in 0..count {
             self.call(Call::Tick);
         }
+    }
+
+    /// What remains of the watchdog, if its end is near: the shortest ones on a base of 10 ms have 20 to 40 ticks.
+    fn ticks_left(&self) -> Option<usize> {
+        let watchdog = self.ledger().watchdog.as_ref();
+        watchdog
+            .map(|watchdog| watchdog.left as usize)
+            .filter(|left| *left <= 40)
     }
 
     /// Octets that no master sends.
@@ -727,10 +744,32 @@ impl Generator {
         let mut data = draft::good_parameters(ident, watchdog, group, allowed);
         data[0] |= self.random.below(8) as u8;
         data[3] = self.random.octet();
-        let extra = self.random_extra(data.len(), self.ledger().values.parameters as usize);
-        data.extend(extra);
+        let further = self.parameters_from_octet_7();
+        data.extend(further);
         let master = self.owner_or_any();
         Draft::to_point(self.address(), master, draft::SET_PRM, data)
+    }
+
+    /// Octet 7 and what is behind it, if there is room for it.
+    fn parameters_from_octet_7(&mut self) -> Vec<u8> {
+        let longest = self.ledger().values.parameters as usize;
+        if longest == 7 || self.random.chance(20) {
+            return Vec::new();
+        }
+        let octet = self.octet_7();
+        let extra = self.random_extra(8, longest);
+        [vec![octet], extra].concat()
+    }
+
+    /// Mostly with bit 2: on a base of 1 ms a watchdog expires within few calls.
+    fn octet_7(&mut self) -> u8 {
+        let any = self.random.octet();
+        match self.random.weighted(&[50, 25, 10, 15]) {
+            0 => draft::BASE_1_MS,
+            1 => any | draft::BASE_1_MS,
+            2 => 0,
+            _ => any & !draft::BASE_1_MS,
+        }
     }
 
     /// Mostly both pairs: a station that allows nothing only ignores the commands.
@@ -760,6 +799,7 @@ impl Generator {
             0..=2 => None,
             3..=6 => Some(self.random.pick(&[(1, 2), (2, 1), (2, 2), (1, 3), (3, 2)])),
             7 => Some((255, 255)),
+            8 => Some(self.random.pick(&ABOVE_16_BITS)),
             _ => Some((
                 self.random.between(2, 255) as u8,
                 self.random.between(1, 3) as u8,
@@ -1476,17 +1516,9 @@ impl Generator {
     }
 
     fn ask_for_a_clear(&mut self) {
-        let ticks = self
-            .ledger()
-            .watchdog
-            .as_ref()
-            .map_or(0, |watchdog| watchdog.left);
-        if ticks > 0 && ticks < 10 && self.random.chance(50) {
-            for _ in 0..ticks {
-                self.call(Call::Tick);
-            }
-        } else {
-            self.call(Call::Leave);
+        match self.ticks_left() {
+            Some(left) if left > 0 && self.random.chance(50) => self.tick(left),
+            _ => self.call(Call::Leave),
         }
         if self.random.chance(15) {
             self.call(Call::Leave);
@@ -2218,6 +2250,121 @@ impl Generator {
                 }
                 self.call(Call::Acknowledge(1 << event));
             }
+        }
+    }
+}
+
+/// Watchdogs whose ticks follow from octet 7, or from there being none.
+impl Generator {
+    /// Octet 7 has bit 2 in one or more Set_Prm, good or not, whole or broken off. A good one behind them has no octet 7,
+    /// so its watchdog has ten ticks for each of its product.
+    fn octet_7_from_before(&mut self) {
+        self.settle();
+        for _ in 0..self.random.between(1, 3) {
+            self.leave_bit_2();
+            self.hear_quietly();
+        }
+        let watchdog = self.short_watchdog();
+        let mut draft = self.good_set_prm(watchdog);
+        draft.data.truncate(7);
+        self.put_quietly(&draft);
+        self.hear_quietly();
+        let part = self.random.between(1, 19);
+        self.tick(part);
+        self.call(Call::Events);
+        match self.random.below(3) {
+            0 => self.ticks(),
+            1 => self.exchange_quietly(),
+            _ => {}
+        }
+        self.call(Call::Events);
+    }
+
+    /// A Set_Prm with bit 2 in octet 7. At a set length of 7 it is one octet too long.
+    fn leave_bit_2(&mut self) {
+        let watchdog = self.short_watchdog();
+        let mut draft = self.good_set_prm(watchdog);
+        draft.data.truncate(7);
+        draft.data.push(self.random.octet() | draft::BASE_1_MS);
+        match self.random.below(9) {
+            0 | 1 => return self.put_quietly(&draft),
+            2 => draft.data[0] |= 0x40,
+            3 => draft.data[0] &= 0x7F,
+            4 => draft.data[5] ^= 0x01,
+            5 => draft.source = self.other_master(),
+            6 => return self.put_as_repeat(&draft),
+            _ => return self.break_off_at_the_end(&draft),
+        }
+        self.put_quietly(&draft);
+    }
+
+    /// A status, and behind it this one with the bits of its repeat.
+    fn put_as_repeat(&mut self, draft: &Draft) {
+        let status = Draft::status(self.address(), draft.source);
+        let status = self.counted_as_new(&status);
+        self.put_whole(&status);
+        self.hear_quietly();
+        self.put_whole(&Draft {
+            control: status.control & 0xF0 | draft.control & 0x0F,
+            ..draft.clone()
+        });
+    }
+
+    /// A wrong or bad FCS, or a gap ahead of it.
+    fn break_off_at_the_end(&mut self, draft: &Draft) {
+        let mut octets = self.as_new(draft).octets();
+        let fcs_at = octets.len() - 2;
+        match self.random.below(3) {
+            0 => self.put_disturbed(&octets, fcs_at, Spoil::GapInside),
+            1 => self.put_disturbed(&octets, fcs_at, Spoil::FlaggedBad),
+            _ => {
+                octets[fcs_at] ^= 1 << self.random.below(8);
+                self.call(Call::Gap);
+                self.put_part(&octets);
+            }
+        }
+    }
+
+    /// Its octets are not looked at: with another base too it refills the watchdog as it is.
+    fn set_prm_again(&mut self) {
+        self.settle();
+        let watchdog = self.short_watchdog();
+        let draft = self.good_set_prm(watchdog);
+        let request = self.counted_as_new(&draft);
+        self.put_whole(&request);
+        self.hear_quietly();
+        for _ in 0..self.random.between(1, 2) {
+            self.call(Call::Tick);
+            let mut again = request.clone();
+            if self.random.chance(50) {
+                again.data.resize(again.data.len().max(8), 0);
+                again.data[7] ^= draft::BASE_1_MS;
+            }
+            self.put_again(&again);
+            self.hear_quietly();
+        }
+        self.ticks();
+        self.call(Call::Events);
+    }
+
+    /// Ticks over a multiple of 65,536, a refill, and the same once more.
+    fn watchdog_above_16_bits(&mut self) {
+        let watchdog = self.random.pick(&ABOVE_16_BITS);
+        let mut draft = self.good_set_prm(Some(watchdog));
+        draft.data.truncate(7);
+        if self.ledger().values.parameters > 7 && self.random.chance(50) {
+            draft.data.push(self.random.octet() & !draft::BASE_1_MS);
+        }
+        self.settle();
+        self.put_quietly(&draft);
+        self.hear_quietly();
+        for _ in 0..self.random.between(1, 2) {
+            let count = self.random.between(3, 14);
+            self.tick(count);
+            self.call(Call::Events);
+            let status = Draft::status(self.address(), self.owner_or_any());
+            self.put_quietly(&status);
+            self.hear_reply();
         }
     }
 }

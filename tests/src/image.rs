@@ -25,9 +25,15 @@ const BUFFERS: [usize; 6] = [4, 3, 3, 3, 2, 1];
 /// master, 127 where there is none. With the most that each may be.
 pub const CHAIN: [(usize, u8); 2] = [(54, 17), (55, 127)];
 
+/// Numbers of several octets, the low one first, of which every value is a state's: the ident number, and the ticks of
+/// the watchdog that remain and that it is refilled to, 0 where it is off.
+const IDENT: Range<usize> = 42..44;
+const TICKS_LEFT: Range<usize> = 44..48;
+const TICKS_REFILLED: Range<usize> = 64..68;
+
 /// Octets that are not used: behind the counts, and all that follow.
 const UNUSED: [usize; 2] = [62, 63];
-pub const FURTHER: Range<usize> = 64..STATE;
+pub const FURTHER: Range<usize> = 68..STATE;
 
 /// Whether the image is a state's whose roles, lengths and counts keep the rules, with buffers that end in the memory.
 pub fn is_state(image: &[u8], memory_length: usize) -> bool {
@@ -62,6 +68,25 @@ pub fn chain_octets(chain: Option<Chain>) -> [u8; 2] {
         Drawn::SlaveDiag => 8,
     };
     [2 * drawn + u8::from(chain.frame_count), chain.master]
+}
+
+pub fn ident(image: &[u8]) -> u16 {
+    number(image, IDENT) as u16
+}
+
+/// The ticks of the watchdog that remain and those that it is refilled to.
+pub fn ticks(image: &[u8]) -> (u32, u32) {
+    (number(image, TICKS_LEFT), number(image, TICKS_REFILLED))
+}
+
+pub fn put_ticks(image: &mut [u8], left: u32, refilled: u32) {
+    image[TICKS_LEFT].copy_from_slice(&left.to_le_bytes());
+    image[TICKS_REFILLED].copy_from_slice(&refilled.to_le_bytes());
+}
+
+fn number(image: &[u8], octets: Range<usize>) -> u32 {
+    let high_first = image[octets].iter().rev();
+    high_first.fold(0, |number, octet| number << 8 | u32::from(*octet))
 }
 
 fn lengths(image: &[u8]) -> bool {
@@ -146,6 +171,26 @@ mod tests {
             assert!(!is_state_with(&[(at, 1)]), "octet {at}");
             assert!(!is_state_with(&[(at, 0x80)]), "octet {at}");
         }
+    }
+
+    #[test]
+    fn every_ident_and_every_number_of_ticks_is_a_states() {
+        for at in [IDENT, TICKS_LEFT, TICKS_REFILLED].into_iter().flatten() {
+            for octet in 0..=255 {
+                assert!(is_state_with(&[(at, octet)]), "octet {at}");
+            }
+        }
+    }
+
+    #[test]
+    fn ticks_are_32_bits_low_octet_first() {
+        let mut image = fresh();
+        put_ticks(&mut image, 0x0403_0201, 650_250);
+        assert_eq!(image[44..48], [1, 2, 3, 4]);
+        assert_eq!(image[64..68], [0x0A, 0xEC, 0x09, 0x00]);
+        assert_eq!(ticks(&image), (0x0403_0201, 650_250));
+        image[42..44].copy_from_slice(&[0xB3, 0x80]);
+        assert_eq!(ident(&image), 0x80B3);
     }
 
     #[test]

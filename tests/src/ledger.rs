@@ -1,6 +1,6 @@
 //! A second implementation of the station: the ledger of document 01 (section "The ledger") with Req 01, Req 05 and Req 06
-//! of document 02, on lists. The window of Req 02 is in window.rs, the retries of Req 04 are in retries.rs. Req 03 changes
-//! no answer.
+//! of document 02, on lists. The window of Req 02 is in window.rs, the retries of Req 04 are in retries.rs, and how many
+//! ticks a watchdog has by Req 07 is in watchdog.rs. Req 03 changes no answer.
 //!
 //! It is fed the arguments of the calls alone and has no memory, no buffers and no roles. A telegram's octets are
 //! gathered and acted on whole at the last one; a reply is fixed whole when it is drawn. Where a document can be read in
@@ -13,6 +13,7 @@ use crate::call::{Call, StartValues};
 use crate::outcome::Outcome;
 use crate::retries::{Chain, Traces};
 use crate::telegram::{self, Extended, Form, Place, Telegram};
+use crate::watchdog::{self, Watchdog};
 use std::collections::VecDeque;
 use std::mem::swap;
 
@@ -78,12 +79,6 @@ pub enum News {
     Nothing,
     FromMaster,
     ZerosByStation,
-}
-
-#[derive(Clone)]
-pub struct Watchdog {
-    pub period: u32,
-    pub left: u32,
 }
 
 #[derive(Clone)]
@@ -194,6 +189,9 @@ pub struct Ledger {
     pub reply: Reply,
     pub chain: Option<Chain>,
     last_owner: Option<u8>,
+    /// Where octets of a Set_Prm were heard with bit 2 in octet 7: what is reached if a good one without octet 7 follows.
+    /// No rule looks at it.
+    pub bit_2_before: Option<Outcome>,
     pub traces: Traces,
     notes: Vec<Outcome>,
 }
@@ -375,6 +373,7 @@ impl Ledger {
             },
             chain: None,
             last_owner: None,
+            bit_2_before: None,
             traces: Traces::default(),
             notes: Vec::new(),
             values: values.clone(),
@@ -480,7 +479,7 @@ impl Ledger {
     fn later_octet(&mut self, octets: Vec<u8>, bad: bool) {
         if bad {
             self.note(Outcome::BreakBad);
-            self.broken_off();
+            self.broken_off(&octets);
         } else if let Some(telegram) = telegram::read(&octets) {
             self.note_complete(&telegram);
             self.complete(&telegram);
@@ -488,11 +487,13 @@ impl Ledger {
             self.reading = Reading::Begun(octets);
         } else {
             self.note_broken_off(&octets);
-            self.broken_off();
+            self.broken_off(&octets);
         }
     }
 
-    fn broken_off(&mut self) {
+    /// At the last one of these octets.
+    fn broken_off(&mut self, octets: &[u8]) {
+        self.trace_broken_off(&octets[..octets.len() - 1]);
         self.note_if(self.clear_noted, Outcome::ClearAfterBreakOff);
         self.settle();
     }
@@ -506,10 +507,10 @@ impl Ledger {
 
     /// A gap inside breaks off and starts afresh; a gap touches no reply.
     fn gap(&mut self) -> i64 {
-        let inside = self.telegram_is_begun();
-        self.reading = Reading::AfterGap;
+        let before = std::mem::replace(&mut self.reading, Reading::AfterGap);
         self.note_if(self.reply_is_unfinished(), Outcome::GapUnderReply);
-        if inside {
+        if let Reading::Begun(octets) = before {
+            self.trace_broken_off(&octets);
             self.note(Outcome::GapInside);
             self.note_if(self.clear_noted, Outcome::ClearAfterGap);
             self.settle();
@@ -708,6 +709,7 @@ impl Ledger {
         if !self.is_owner(telegram) {
             return false;
         }
+        self.note_refill();
         match &mut self.watchdog {
             Some(watchdog) => {
                 watchdog.left = watchdog.period;
@@ -904,6 +906,7 @@ impl Ledger {
 /// Document 01, section "Services": Set_Prm, the lines in their order.
 impl Ledger {
     fn set_prm(&mut self, telegram: &Telegram, data: &[u8]) {
+        let earlier = self.trace_set_prm(data);
         if self.owner.is_some() && !self.is_owner(telegram) {
             self.note(Outcome::PrmAnotherMaster);
             return self.reply_rs(telegram);
@@ -912,6 +915,7 @@ impl Ledger {
             return self.prm_fault(Outcome::PrmShort);
         }
         if data.len() > self.values.parameters as usize {
+            self.note_base_without_room(data);
             return self.prm_fault(Outcome::PrmLong);
         }
         let bit = |number: u8| data[0] >> number & 1 == 1;
@@ -925,11 +929,18 @@ impl Ledger {
             let other_pairs = allowed_pairs(data) != (self.sync.allowed, self.freeze.allowed);
             self.note(Outcome::PrmBit7Clear);
             self.note_if(in_exchange && other_pairs, Outcome::PrmBit7ClearOtherPairs);
+            self.note_base_left(data);
             return self.reply_e5();
         }
         match prm_content_fault(&self.values, data) {
-            Some(cause) => self.prm_fault(cause),
-            None => self.prm_good(telegram, data),
+            Some(cause) => {
+                self.note_factors_of_base(data, cause);
+                self.prm_fault(cause)
+            }
+            None => {
+                self.note_base(data, earlier);
+                self.prm_good(telegram, data)
+            }
         }
     }
 
@@ -955,7 +966,7 @@ impl Ledger {
         self.drop_configuration();
         self.group = data[6];
         (self.sync.allowed, self.freeze.allowed) = allowed_pairs(data);
-        self.watchdog = prm_watchdog(data);
+        self.watchdog = Watchdog::asked_for(data);
         self.show_parameters(data);
     }
 
@@ -964,18 +975,17 @@ impl Ledger {
         let faulty = self.prm_fault || self.cfg_fault;
         let other_master = self.last_owner.is_some_and(|last| last != master);
         let full_length = data.len() == self.values.parameters as usize;
-        let ticks = prm_watchdog(data).map_or(0, |watchdog| watchdog.period);
-        let bad_factors = prm_factor_fault(data).is_some();
-        self.note(match ticks {
-            0 => Outcome::PrmGoodOff,
-            _ => Outcome::PrmGoodWatchdog,
+        let watchdog = watchdog::is_asked_for(data);
+        let bad_factors = watchdog::factor_fault(data).is_some();
+        self.note(match watchdog {
+            false => Outcome::PrmGoodOff,
+            true => Outcome::PrmGoodWatchdog,
         });
         self.note(match self.owner {
             None => Outcome::PrmGoodFirst,
             Some(_) => Outcome::PrmGoodAgain,
         });
-        self.note_if(ticks == 2, Outcome::PrmGoodWatchdogTwo);
-        self.note_if(ticks == 0 && bad_factors, Outcome::PrmFactorsUnused);
+        self.note_if(!watchdog && bad_factors, Outcome::PrmFactorsUnused);
         self.note_if(other_master, Outcome::PrmGoodOtherMaster);
         self.note_if(self.phase == Phase::DataExch, Outcome::PrmGoodInExchange);
         self.note_if(full_length, Outcome::PrmFullLength);
@@ -1010,27 +1020,7 @@ fn prm_content_fault(values: &StartValues, data: &[u8]) -> Option<Outcome> {
     if data[5] != low {
         return Some(Outcome::PrmIdentLow);
     }
-    prm_factor_fault(data).filter(|_| wants_watchdog(data))
-}
-
-fn wants_watchdog(data: &[u8]) -> bool {
-    data[0] & 0x08 != 0
-}
-
-fn prm_factor_fault(data: &[u8]) -> Option<Outcome> {
-    match (data[1], data[2]) {
-        (0, _) | (_, 0) => Some(Outcome::PrmFactorZero),
-        (1, 1) => Some(Outcome::PrmFactorsOne),
-        _ => None,
-    }
-}
-
-fn prm_watchdog(data: &[u8]) -> Option<Watchdog> {
-    let ticks = u32::from(data[1]) * u32::from(data[2]);
-    wants_watchdog(data).then_some(Watchdog {
-        period: ticks,
-        left: ticks,
-    })
+    watchdog::factor_fault(data).filter(|_| watchdog::is_asked_for(data))
 }
 
 /// Document 01, section "Services": Chk_Cfg, Data_Exchange and the services without data.
@@ -1535,7 +1525,7 @@ impl Ledger {
         }
     }
 
-    /// Document 01, section "User calls", the tick of 10 ms.
+    /// Document 01, section "User calls", the tick, which document 02, Req 07, makes 1 ms.
     fn tick(&mut self) -> i64 {
         self.trace(Outcome::RepeatAfterTick);
         if self.clear_noted {
@@ -1547,10 +1537,9 @@ impl Ledger {
             return 0;
         };
         watchdog.left -= 1;
-        if watchdog.left == 0 {
-            self.watchdog_expired();
-        } else {
-            self.note(Outcome::TickCounts);
+        match watchdog.left {
+            0 => self.watchdog_expired(),
+            left => self.note_counted(left),
         }
         0
     }
@@ -1562,13 +1551,15 @@ impl Ledger {
             (false, true) => Outcome::ExpiredUnderReply,
             (false, false) => Outcome::ExpiredIdle,
         });
+        self.note_expired();
         self.set_event(EVENT_WATCHDOG);
         self.clear();
     }
 
     /// "The next Tick drops telegram or reply and carries it out, counting nothing." A tick that drops only a reply
-    /// leaves the reading of telegrams as it was.
+    /// leaves the reading of telegrams as it was. It is the next one of 1 ms, on either base.
     fn tick_carries_out_clear(&mut self) {
+        self.note_tick_of_clear();
         if self.telegram_is_begun() {
             self.note(Outcome::ClearTickTelegram);
             self.reading = Reading::Ignoring;
@@ -1773,6 +1764,10 @@ impl Ledger {
             Outcome::Read5,
         ];
         self.note(names[kind as usize - 1]);
+        self.note_if(
+            kind == 2 && watchdog::shows_base(index, octet),
+            Outcome::Read2Base,
+        );
         Ok(octet.into())
     }
 

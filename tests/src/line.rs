@@ -1,5 +1,5 @@
 //! The second implementation with one master, for the tests of single sentences: address 5, ident 80B3, master 2, one
-//! output, one input if nothing else is said, up to nine octets of diagnosis.
+//! output, one input if nothing else is said, up to ten octets of parameters and nine of diagnosis.
 
 use crate::call::{self, Call};
 use crate::draft::{self, Draft};
@@ -7,7 +7,7 @@ use crate::ledger::Station;
 
 pub const STATION: u8 = 5;
 pub const MASTER: u8 = 2;
-const IDENT: u16 = 0x80B3;
+pub const IDENT: u16 = 0x80B3;
 
 #[derive(Clone)]
 pub struct Line {
@@ -28,7 +28,7 @@ impl Line {
     /// Fresh, with this number of outputs and of inputs.
     pub fn with_lengths(outputs: u32, inputs: u32) -> Line {
         let mut line = Line::without_start();
-        let start = format!("start 1536 5 32947 {outputs} {inputs} 7 1 9 20");
+        let start = format!("start 1536 5 32947 {outputs} {inputs} 10 1 9 20");
         assert_eq!(line.call(&start), 0);
         line
     }

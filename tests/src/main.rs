@@ -1,6 +1,8 @@
-//! Compares the C library of the station with a second implementation of document 01 and of Req 01 to 06 of document 02.
+//! Compares the C library of the station with a second implementation of document 01 and of Req 01 to 07 of document 02.
 //! See tests/README.md.
 
+#[cfg(test)]
+mod base;
 #[cfg(test)]
 mod bench;
 mod call;
@@ -30,6 +32,7 @@ mod telegram;
 #[cfg(test)]
 mod urgent;
 mod vectors;
+mod watchdog;
 mod window;
 
 use std::path::Path;

@@ -1,7 +1,7 @@
 //! Retries, sentence by sentence of document 02, Req 04, on the second implementation.
 
 use crate::draft::{self, Draft};
-use crate::line::{self, Line, MASTER, STATION};
+use crate::line::{self, Line, IDENT, MASTER, STATION};
 use crate::telegram::Form;
 
 const OTHER_MASTER: u8 = 3;
@@ -347,7 +347,7 @@ fn a_repeated_slave_diag_delays_a_new_diagnosis() {
 /// A watchdog of three ticks that another master's repeats do not touch.
 #[test]
 fn only_the_owners_repeat_refills_the_watchdog() {
-    let watchdog = draft::good_parameters(0x80B3, Some((1, 3)), 0, draft::ALLOW_NONE);
+    let watchdog = draft::fast_parameters(IDENT, Some((1, 3)), 0, draft::ALLOW_NONE);
     let set_prm = line::to_point(draft::SET_PRM, watchdog);
     let others = by_other_master(&status().counted(true));
     let mut line = Line::fresh();

@@ -55,6 +55,7 @@ impl Ledger {
             Some(chain) if chain.is_repeated_by(telegram) => {
                 self.note_repeat(telegram, chain.drawn);
                 self.draw_again(telegram, chain.drawn);
+                self.trace_repeat(telegram);
                 self.traces.reply_is_repeat = true;
             }
             _ => {
@@ -198,7 +199,7 @@ impl Ledger {
             Drawn::SlaveDiag => Outcome::RepeatDiag,
         });
         self.note_octets_that_differ(telegram);
-        self.note_watchdog(telegram);
+        self.note_watchdog(telegram, drawn);
         self.note_service_again(telegram, drawn);
         if self.clear_noted {
             self.note(match drawn {
@@ -233,12 +234,16 @@ impl Ledger {
         }
     }
 
-    fn note_watchdog(&mut self, telegram: &Telegram) {
-        if self.traces.watchdog_counted {
-            self.note(match self.is_owner(telegram) {
-                true => Outcome::RepeatRefills,
-                false => Outcome::RepeatRefillsNot,
-            });
+    fn note_watchdog(&mut self, telegram: &Telegram, drawn: Drawn) {
+        if !self.traces.watchdog_counted {
+            return;
+        }
+        if !self.is_owner(telegram) {
+            return self.note(Outcome::RepeatRefillsNot);
+        }
+        self.note(Outcome::RepeatRefills);
+        if let (Drawn::E5, Some((earlier, _))) = (drawn, self.traces.request.clone()) {
+            self.note_set_prm_again(&earlier, telegram);
         }
     }
 

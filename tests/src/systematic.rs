@@ -3,7 +3,8 @@
 //! octets that decide what a telegram is are run through all their values with a check sum that is right. Every address of
 //! the window is read and written in both orders, and every word of events is put into the memory. Each kind of request
 //! follows each other one with every choice of master and of the bits that tell a repeat; elsewhere FCV is clear, so that
-//! a telegram shows its own rule. Some of the states are those of stations without outputs or without inputs.
+//! a telegram shows its own rule. Some of the states are those of stations without outputs or without inputs. Where nothing
+//! else is said octet 7 makes the base 1 ms, and watchdogs have as many ticks as the product of their factors.
 
 use crate::call::{Call, Order, StartValues};
 use crate::compare::{Difference, Pair};
@@ -63,6 +64,17 @@ impl Walker<'_> {
         pair.run(calls)
     }
 
+    /// Runs variants from a state that the base led to.
+    fn from(&mut self, pair: &Pair, run: impl Fn(&mut Walker) -> Compared) -> Compared {
+        let mut walker = Walker {
+            base: pair,
+            calls: 0,
+        };
+        run(&mut walker)?;
+        self.calls += walker.calls;
+        Ok(())
+    }
+
     fn outputs(&self) -> usize {
         outputs_of(self.base)
     }
@@ -98,6 +110,11 @@ fn look_around() -> Vec<Call> {
 fn outputs_of(pair: &Pair) -> usize {
     let ledger = pair.station.ledger.as_ref();
     ledger.map_or(0, |ledger| ledger.values.outputs as usize)
+}
+
+fn has_watchdog(pair: &Pair) -> bool {
+    let ledger = pair.station.ledger.as_ref();
+    ledger.is_some_and(|ledger| ledger.watchdog.is_some())
 }
 
 fn is_exchanging(pair: &Pair) -> bool {
@@ -138,6 +155,10 @@ fn sends(count: usize) -> Vec<Call> {
     vec![Call::Send; count]
 }
 
+fn ticks(count: usize) -> Vec<Call> {
+    vec![Call::Tick; count]
+}
+
 fn start() -> Call {
     start_with(2, 3)
 }
@@ -161,11 +182,17 @@ fn request(point: u8, data: &[u8]) -> Vec<u8> {
 }
 
 fn good_parameters(watchdog: Option<(u8, u8)>) -> Vec<u8> {
-    parameters_allowing(draft::ALLOW_BOTH, watchdog)
+    draft::fast_parameters(IDENT, watchdog, GROUP, draft::ALLOW_BOTH)
 }
 
-fn parameters_allowing(allowed: u8, watchdog: Option<(u8, u8)>) -> Vec<u8> {
-    draft::good_parameters(IDENT, watchdog, GROUP, allowed)
+/// Without octet 7: the base is 10 ms.
+fn slow_parameters(watchdog: (u8, u8)) -> Vec<u8> {
+    draft::good_parameters(IDENT, Some(watchdog), GROUP, draft::ALLOW_BOTH)
+}
+
+/// Without octet 7 and without a watchdog.
+fn parameters_allowing(allowed: u8) -> Vec<u8> {
+    draft::good_parameters(IDENT, None, GROUP, allowed)
 }
 
 fn control(control: u8, group: u8) -> Vec<u8> {
@@ -195,10 +222,7 @@ fn telegrams(outputs: usize) -> Vec<(&'static str, Vec<u8>)> {
         ),
         (
             "Set_Prm without a watchdog, sync or freeze",
-            request(
-                draft::SET_PRM,
-                &parameters_allowing(draft::ALLOW_NONE, None),
-            ),
+            request(draft::SET_PRM, &parameters_allowing(draft::ALLOW_NONE)),
         ),
         ("Set_Prm that unlocks", request(draft::SET_PRM, &unlock)),
         ("Chk_Cfg", request(draft::CHK_CFG, &[0x21, 0x12])),
@@ -285,98 +309,135 @@ fn bases(ways: Vec<(&'static str, Vec<Call>)>) -> Result<Vec<Base>, String> {
     Ok(bases)
 }
 
-/// The ways to the states from which everything is tried.
-fn ways() -> Vec<(&'static str, Vec<Call>)> {
-    let fresh = vec![start()];
-    let parametrised = |watchdog| {
-        let telegram = request(draft::SET_PRM, &good_parameters(watchdog));
-        [fresh.clone(), telegram_calls(&telegram), sends(1)].concat()
-    };
-    let waiting = [
-        parametrised(None),
-        telegram_calls(&request(draft::SET_PRM, &good_parameters(Some((2, 2))))),
+/// From Start to a set of parameters that is shown.
+fn parametrised(parameters: &[u8]) -> Vec<Call> {
+    let telegram = request(draft::SET_PRM, parameters);
+    [vec![start()], telegram_calls(&telegram), sends(1)].concat()
+}
+
+/// From Start to a set of configuration that is shown, the parameters judged good.
+fn checked(parameters: &[u8]) -> Vec<Call> {
+    [
+        parametrised(parameters),
+        vec![Call::JudgeParameters(1)],
+        telegram_calls(&request(draft::CHK_CFG, &[0x33])),
         sends(1),
     ]
-    .concat();
-    let checked = |watchdog| {
-        let telegram = request(draft::CHK_CFG, &[0x33]);
-        let judged = vec![Call::JudgeParameters(1)];
-        [
-            parametrised(watchdog),
-            judged,
-            telegram_calls(&telegram),
-            sends(1),
-        ]
-        .concat()
-    };
-    let checked_twice = [
-        checked(Some((1, 2))),
+    .concat()
+}
+
+/// From Start to DATA_EXCH.
+fn exchanging(parameters: &[u8]) -> Vec<Call> {
+    [vec![start()], exchange_entered(parameters)].concat()
+}
+
+/// The ways to the states from which everything is tried. In two of them the base is 10 ms. Two to four ticks of the
+/// watchdog are left wherever it is on, so that a telegram between them shows whether it refills.
+fn ways() -> Vec<(&'static str, Vec<Call>)> {
+    let two_ticks = good_parameters(Some((1, 2)));
+    let slow = |calls: Vec<Call>| [calls, ticks(18)].concat();
+    let twenty_ticks = slow_parameters((1, 2));
+    vec![
+        ("fresh", vec![start()]),
+        ("parameters shown", parametrised(&two_ticks)),
+        ("parameters waiting", way_to_waiting_parameters()),
+        (
+            "configuration shown, base 10 ms",
+            slow(checked(&twenty_ticks)),
+        ),
+        ("configuration waiting", way_to_waiting_configuration()),
+        ("exchange", exchanging(&two_ticks)),
+        (
+            "exchange with new inputs, outputs and diagnosis",
+            way_to_news(),
+        ),
+        ("diagnosis delayed", way_to_delayed_diagnosis()),
+        (
+            "diagnosis delayed and clear noted",
+            [way_to_delayed_diagnosis(), vec![Call::Gap, Call::Leave]].concat(),
+        ),
+        ("Read_Outputs reply under way", way_to_a_reply_of_outputs()),
+        (
+            "sync with outputs held back, others not taken, base 10 ms",
+            slow(way_to_sync(&twenty_ticks)),
+        ),
+        ("frozen with new inputs", way_to_freeze()),
+        ("a repeat may follow", way_to_a_chain()),
+    ]
+}
+
+fn way_to_waiting_parameters() -> Vec<Call> {
+    let second = request(draft::SET_PRM, &good_parameters(Some((2, 2))));
+    [
+        parametrised(&good_parameters(None)),
+        telegram_calls(&second),
+        sends(1),
+    ]
+    .concat()
+}
+
+fn way_to_waiting_configuration() -> Vec<Call> {
+    [
+        checked(&good_parameters(Some((1, 2)))),
         telegram_calls(&request(draft::CHK_CFG, &[0x44, 0x55])),
         sends(1),
     ]
-    .concat();
-    let exchanging = |watchdog| [checked(watchdog), vec![Call::JudgeConfiguration(1)]].concat();
-    let busy = [
-        exchanging(Some((1, 2))),
+    .concat()
+}
+
+/// The reply to a Data_Exchange is not heard yet.
+fn way_to_news() -> Vec<Call> {
+    [
+        exchanging(&good_parameters(Some((1, 2)))),
         telegram_calls(&exchange(&[0x11, 0x12])),
         vec![Call::Take, Call::HandOver],
         vec![Call::NewDiagnosis { count: 9, flags: 7 }],
         telegram_calls(&exchange(&[0x13, 0x14])),
     ]
-    .concat();
-    let delayed = [
-        exchanging(Some((3, 1))),
+    .concat()
+}
+
+fn way_to_delayed_diagnosis() -> Vec<Call> {
+    [
+        exchanging(&good_parameters(Some((3, 1)))),
         telegram_calls(&request(draft::SLAVE_DIAG, &[])),
         sends(4),
         vec![Call::NewDiagnosis { count: 7, flags: 1 }],
     ]
-    .concat();
-    let noted = [delayed.clone(), vec![Call::Gap, Call::Leave]].concat();
-    let outputs_on_the_way = [
-        exchanging(None),
+    .concat()
+}
+
+fn way_to_a_reply_of_outputs() -> Vec<Call> {
+    [
+        exchanging(&good_parameters(None)),
         telegram_calls(&exchange(&[0x11, 0x12])),
         vec![Call::Take],
         telegram_calls(&exchange(&[0x13, 0x14])),
         telegram_calls(&request(draft::READ_OUTPUTS, &[])),
         sends(5),
     ]
-    .concat();
-    let synchronised = [
-        exchanging(Some((1, 2))),
+    .concat()
+}
+
+fn way_to_sync(parameters: &[u8]) -> Vec<Call> {
+    [
+        exchanging(parameters),
         telegram_calls(&exchange(&[0x11, 0x12])),
         telegram_calls(&control(draft::SYNC, 0)),
         telegram_calls(&exchange(&[0x13, 0x14])),
         sends(9),
     ]
-    .concat();
-    let frozen = [
-        exchanging(None),
+    .concat()
+}
+
+fn way_to_freeze() -> Vec<Call> {
+    [
+        exchanging(&good_parameters(None)),
         new_inputs(0x31),
         telegram_calls(&control(draft::FREEZE, 0)),
         new_inputs(0x32),
     ]
-    .concat();
-    vec![
-        ("fresh", fresh.clone()),
-        ("parameters shown", parametrised(Some((1, 2)))),
-        ("parameters waiting", waiting),
-        ("configuration shown", checked(Some((1, 2)))),
-        ("configuration waiting", checked_twice),
-        ("exchange", exchanging(Some((1, 2)))),
-        ("exchange with new inputs, outputs and diagnosis", busy),
-        ("diagnosis delayed", delayed),
-        ("diagnosis delayed and clear noted", noted),
-        ("Read_Outputs reply under way", outputs_on_the_way),
-        (
-            "sync with outputs held back, others not taken",
-            synchronised,
-        ),
-        ("frozen with new inputs", frozen),
-        (
-            "a repeat may follow",
-            way_to_a_chain(exchanging(Some((1, 3)))),
-        ),
-    ]
+    .concat()
 }
 
 /// The ways to states of stations without outputs or without inputs. A repeat with FCB clear may follow in three of them.
@@ -450,10 +511,10 @@ fn counted_exchange(data: &[u8]) -> Vec<Call> {
 }
 
 /// A Slave_Diag with FCV set was heard in part, and there are newer outputs, inputs and diagnosis than its own.
-fn way_to_a_chain(exchanging: Vec<Call>) -> Vec<Call> {
+fn way_to_a_chain() -> Vec<Call> {
     let slave_diag = Draft::to_point(STATION, MASTER, draft::SLAVE_DIAG, vec![]);
     [
-        exchanging,
+        exchanging(&good_parameters(Some((1, 3)))),
         telegram_calls(&exchange(&[0x11, 0x12])),
         sends(3),
         new_inputs(0x31),
@@ -479,7 +540,7 @@ fn ways_to_modes() -> Vec<(&'static str, Vec<Call>)> {
     let way = |allowed| {
         [
             vec![start()],
-            exchange_entered(&parameters_allowing(allowed, None)),
+            exchange_entered(&parameters_allowing(allowed)),
             telegram_calls(&exchange(&[0x11, 0x12])),
             vec![Call::Take],
             new_inputs(0x31),
@@ -506,7 +567,7 @@ fn way_to_events() -> Vec<(&'static str, Vec<Call>)> {
         vec![start()],
         exchange_entered(&good_parameters(Some((1, 2)))),
         telegram_calls(&control(draft::FREEZE, 0)),
-        vec![Call::Tick, Call::Tick],
+        ticks(2),
         vec![Call::NewDiagnosis { count: 8, flags: 1 }],
         telegram_calls(&request(draft::SET_PRM, &good_parameters(None))),
         sends(1),
@@ -585,6 +646,9 @@ fn tasks<'a>(bases: &'a [Base], modes: &'a [Base]) -> Vec<Task<'a>> {
     for base in bases {
         push_telegrams(&mut tasks, base);
         push_all(&mut tasks, base, &FROM_EVERY_STATE);
+        if has_watchdog(&base.pair) {
+            push_all(&mut tasks, base, &WITH_A_WATCHDOG);
+        }
     }
     for base in modes {
         push_all(&mut tasks, base, &FROM_MODES);
@@ -612,15 +676,20 @@ const FROM_EVERY_STATE: [Named; 8] = [
 
 const FROM_MODES: [Named; 1] = [("every Global_Control", every_global_control)];
 
-const FROM_FRESH: [Named; 4] = [
+const FROM_FRESH: [Named; 7] = [
     (
         "every octet 0 of Set_Prm, then sync and freeze",
         every_permission,
     ),
     ("every pair of LE", every_lengths),
+    ("every two factors", every_two_factors),
     ("shortest and longest watchdogs", watchdogs),
+    ("every octet 7 of Set_Prm", every_octet_7),
+    ("octet 7 from before", octet_7_from_before),
     ("every pair of addresses", every_addresses),
 ];
+
+const WITH_A_WATCHDOG: [Named; 1] = [("every limit of ticks", every_limit_of_ticks)];
 
 const OF_THE_WINDOW: [Named; 2] = [
     ("every window access", every_access),
@@ -692,7 +761,6 @@ fn change_with_good_check_sum(walker: &mut Walker, octets: &[u8]) -> Compared {
 
 /// Whether a telegram refills the watchdog shows in the tick at which that expires.
 fn every_telegram_between_ticks(walker: &mut Walker) -> Compared {
-    let ticks = |count| vec![Call::Tick; count];
     for (_, octets) in telegrams(walker.outputs()) {
         for before in 1..=2 {
             for behind in 1..=3 {
@@ -834,13 +902,15 @@ fn every_request_to(walker: &mut Walker, points: (u8, u8)) -> Compared {
     Ok(())
 }
 
+/// At Set_Prm's point also with an octet 7 that has not bit 2.
 fn every_count(walker: &mut Walker) -> Compared {
-    let parameters = good_parameters(Some((4, 4)));
+    let asks = (56..=62).map(|point| (point, 0x3C));
+    let asks: Vec<(u8, u8)> = asks.chain([(draft::SET_PRM, 0x38)]).collect();
     for count in 0..=244 {
-        for point in 56..=62 {
-            let mut data = parameters.clone();
-            data.resize(count, 0x3C);
-            walker.variant(&telegram_calls(&request(point, &data)))?;
+        for (point, further) in &asks {
+            let mut data = slow_parameters((4, 4));
+            data.resize(count, *further);
+            walker.variant(&telegram_calls(&request(*point, &data)))?;
         }
     }
     for count in 0..=246 {
@@ -852,12 +922,15 @@ fn every_count(walker: &mut Walker) -> Compared {
 fn every_first_parameter(walker: &mut Walker) -> Compared {
     let factors = [(0, 0), (0, 1), (1, 0), (1, 1), (1, 2), (2, 1), (255, 255)];
     for first in 0..=255 {
-        for (one, two) in factors {
-            for spoil in [0, 1] {
-                let mut data = good_parameters(Some((one, two)));
-                data[0] = first;
-                data[5] ^= spoil;
-                walker.variant(&telegram_calls(&request(draft::SET_PRM, &data)))?;
+        for factors in factors {
+            for octet_7 in [None, Some(draft::BASE_1_MS), Some(!draft::BASE_1_MS)] {
+                for spoil in [0, 1] {
+                    let mut data = slow_parameters(factors);
+                    data.extend(octet_7);
+                    data[0] = first;
+                    data[5] ^= spoil;
+                    walker.variant(&telegram_calls(&request(draft::SET_PRM, &data)))?;
+                }
             }
         }
     }
@@ -995,8 +1068,8 @@ fn between_repeats() -> Vec<Vec<Call>> {
     let command = |octet| telegram_calls(&control(octet, 0));
     vec![
         vec![],
-        vec![Call::Tick],
-        vec![Call::Tick, Call::Tick],
+        ticks(1),
+        ticks(2),
         vec![Call::Leave],
         vec![Call::Leave, Call::Tick],
         vec![Call::Take],
@@ -1085,23 +1158,219 @@ fn every_addresses(walker: &mut Walker) -> Compared {
     Ok(())
 }
 
-/// The watchdog expires with its last tick and not before, from 1 x 2 to 255 x 255 ticks.
-fn watchdogs(walker: &mut Walker) -> Compared {
-    for (one, two) in [(1, 2), (2, 1), (1, 255), (16, 16), (255, 255)] {
-        let telegram = request(draft::SET_PRM, &good_parameters(Some((one, two))));
-        let ticks = vec![Call::Tick; usize::from(one) * usize::from(two) - 1];
-        let all_but_one = [telegram_calls(&telegram), sends(1), ticks].concat();
-        walker.variant(&all_but_one)?;
-        walker.variant(&[all_but_one.clone(), vec![Call::Events, Call::Tick]].concat())?;
-        walker.variant(&[all_but_one, vec![Call::Tick, Call::Tick]].concat())?;
+/// Every two factors on both bases: the ticks that follow from them stand in the memory at once, and a tick takes one
+/// off.
+fn every_two_factors(walker: &mut Walker) -> Compared {
+    for one in 0..=255 {
+        for two in 0..=255 {
+            for parameters in [
+                good_parameters(Some((one, two))),
+                slow_parameters((one, two)),
+            ] {
+                let telegram = telegram_calls(&request(draft::SET_PRM, &parameters));
+                let mut pair = walker.base.branch();
+                walker.run(&mut pair, &telegram)?;
+                walker.run(&mut pair, &[Call::Send, Call::Events, Call::Tick])?;
+            }
+        }
     }
     Ok(())
+}
+
+/// Tick by tick: the watchdog expires with its last tick and not before, from 2 ticks to 650,250. Some of the products
+/// are short, below or above 65,536, or above a multiple of it by less than the ticks of an octet.
+fn watchdogs(walker: &mut Walker) -> Compared {
+    let factors = [
+        (1, 2),
+        (2, 1),
+        (1, 255),
+        (16, 16),
+        (26, 252),
+        (58, 113),
+        (107, 245),
+        (255, 255),
+    ];
+    for factors in factors {
+        let product = usize::from(factors.0) * usize::from(factors.1);
+        expires_after(walker, &good_parameters(Some(factors)), product)?;
+        expires_after(walker, &slow_parameters(factors), 10 * product)?;
+    }
+    Ok(())
+}
+
+/// The ticks before the last one are made once, and all that can follow is tried from there.
+fn expires_after(walker: &mut Walker, parameters: &[u8], count: usize) -> Compared {
+    let mut pair = walker.base.branch();
+    let telegram = telegram_calls(&request(draft::SET_PRM, parameters));
+    walker.run(&mut pair, &[telegram, sends(1)].concat())?;
+    for _ in 1..count {
+        walker.run(&mut pair, &[Call::Tick])?;
+    }
+    walker.from(&pair, |walker| {
+        let refill = telegram_calls(&Draft::status(STATION, MASTER).octets());
+        let refilled = [refill, ticks(2), vec![Call::Events]].concat();
+        walker.variant(&[])?;
+        walker.variant(&[Call::Events, Call::Tick])?;
+        walker.variant(&[Call::Tick, Call::Tick])?;
+        walker.variant(&refilled)
+    })
+}
+
+/// Where a watchdog is on: counts at every limit of a word of 32 bits and beside it, put into the memory and into the
+/// second implementation. They go down by one, expire where one was left, and an owner's telegram refills them whole.
+fn every_limit_of_ticks(walker: &mut Walker) -> Compared {
+    let powers = (0..32).map(|bit| 1u32 << bit);
+    let limits = powers.flat_map(|power| [power - 1, power, power + 1]);
+    let limits = limits
+        .chain([u32::MAX - 1, u32::MAX])
+        .filter(|left| *left > 0);
+    let refill = telegram_calls(&Draft::status(STATION, MASTER).octets());
+    for left in limits {
+        for refilled in [left, u32::MAX] {
+            let mut pair = walker.base.branch();
+            pair.put_ticks(left, refilled);
+            walker.from(&pair, |walker| {
+                walker.variant(&ticks(1))?;
+                walker.variant(&ticks(3))?;
+                walker.variant(&[refill.clone(), ticks(1)].concat())?;
+                walker.variant(&[ticks(1), refill.clone(), ticks(1)].concat())
+            })?;
+        }
+    }
+    Ok(())
+}
+
+/// Every value of octet 7, as the last octet and as one before others, and what becomes of the watchdog: on a base of 1
+/// ms it has 2 ticks, on one of 10 ms it has 20.
+fn every_octet_7(walker: &mut Walker) -> Compared {
+    for octet in 0..=255 {
+        for further in [vec![octet], vec![octet, 0x00], vec![octet, 0xFF]] {
+            let data = [slow_parameters((1, 2)), further].concat();
+            walker.variant(&ticks_of_set_prm(&data))?;
+        }
+    }
+    Ok(())
+}
+
+/// A Set_Prm with factors 1 and 2, the ticks at which its watchdog may expire, and the events before and behind each.
+fn ticks_of_set_prm(data: &[u8]) -> Vec<Call> {
+    let looks = [1, 1, 17, 1].map(|count| [ticks(count), vec![Call::Events]].concat());
+    let telegram = telegram_calls(&request(draft::SET_PRM, data));
+    [telegram, sends(1), looks.concat()].concat()
+}
+
+/// Set_Prm with every number of octets from 7 on, where an octet 7 with bit 2 came before and may still lie in a
+/// buffer: bit 2 counts only if the telegram itself has it. With set lengths that have no room for octet 7, only for
+/// it, and for all.
+fn octet_7_from_before(walker: &mut Walker) -> Compared {
+    for length in [7, 8, 9, 244] {
+        for before in ways_to_leave_octet_7(length as usize) {
+            let mut pair = walker.base.branch();
+            let start = vec![start_with_parameters(length)];
+            walker.run(&mut pair, &[start, before].concat())?;
+            walker.from(&pair, |walker| every_count_from_7(walker, length as usize))?;
+        }
+    }
+    Ok(())
+}
+
+fn every_count_from_7(walker: &mut Walker, length: usize) -> Compared {
+    for count in 7..=length.min(242) + 2 {
+        for octet in [0x00, !draft::BASE_1_MS, draft::BASE_1_MS] {
+            let mut data = slow_parameters((1, 2));
+            data.resize(count, octet);
+            walker.variant(&ticks_of_set_prm(&data))?;
+        }
+    }
+    Ok(())
+}
+
+fn start_with_parameters(parameters: u32) -> Call {
+    let Call::Start(values) = start() else {
+        unreachable!("a Start")
+    };
+    Call::Start(StartValues {
+        parameters,
+        ..values
+    })
+}
+
+/// Set_Prm with bit 2 in octet 7, as long as the set length allows and one octet longer: whole, good or not, or broken
+/// off. Good ones are also judged, or are so many that a buffer is used again.
+fn ways_to_leave_octet_7(length: usize) -> Vec<Vec<Call>> {
+    let mut good = slow_parameters((1, 2));
+    good.resize(length, 0xFF);
+    let too_long = [&good[..], &[0xFF]].concat();
+    let with = |at: usize, bits: u8| {
+        let mut data = good.clone();
+        data[at] ^= bits;
+        set_prm_of(MASTER, &data)
+    };
+    let shown = set_prm_of(MASTER, &good);
+    let judged = |judgement| [shown.clone(), vec![Call::JudgeParameters(judgement)]].concat();
+    let whole = vec![
+        set_prm_of(MASTER, &too_long),
+        with(0, 0x40),
+        with(0, 0x80),
+        with(5, 0x01),
+        [shown.clone(), set_prm_of(OTHER_MASTER, &good)].concat(),
+        as_repeat(&request(draft::SET_PRM, &good)),
+        judged(0),
+        judged(1),
+    ];
+    let several = (1..=4).map(|count| vec![shown.clone(); count].concat());
+    let broken_off = [&good, &too_long].map(|data| broken_off(&request(draft::SET_PRM, data)));
+    whole
+        .into_iter()
+        .chain(several)
+        .chain(broken_off.concat())
+        .collect()
+}
+
+/// A status, and behind it these octets with the FC of its repeat.
+fn as_repeat(octets: &[u8]) -> Vec<Call> {
+    let status = Draft::status(STATION, MASTER).counted(true).octets();
+    let mut again = octets.to_vec();
+    let fcs_at = again.len() - 2;
+    again[6] |= draft::FCV | draft::FCB;
+    again[fcs_at] = telegram::check_sum(&again[4..fcs_at]);
+    [
+        heard(&telegram_calls(&status)),
+        heard(&telegram_calls(&again)),
+    ]
+    .concat()
+}
+
+/// The telegram up to its last data octet, and then what breaks it off, or a tick that drops it.
+fn broken_off(octets: &[u8]) -> Vec<Vec<Call>> {
+    let [data @ .., fcs, end] = octets else {
+        unreachable!("a telegram has a check sum and an end")
+    };
+    let bad = Call::Octet {
+        octet: *fcs,
+        bad: true,
+    };
+    let ends = [
+        vec![octet(!fcs), octet(*end)],
+        vec![octet(*fcs), octet(!end)],
+        vec![bad],
+        vec![Call::Gap],
+        vec![Call::Leave, Call::Tick],
+    ];
+    ends.map(|end| [telegram_calls(data), end].concat())
+        .to_vec()
+}
+
+fn set_prm_of(master: u8, data: &[u8]) -> Vec<Call> {
+    let draft = Draft::to_point(STATION, master, draft::SET_PRM, data.to_vec());
+    [telegram_calls(&draft.octets()), sends(6)].concat()
 }
 
 #[cfg(test)]
 mod tests {
     use super::*;
     use crate::ledger::{Drawn, Station};
+    use crate::outcome::Outcome;
 
     /// The second implementation after these calls, none of which it refuses.
     fn reached(way: &[Call]) -> Station {
@@ -1167,6 +1436,44 @@ mod tests {
             ((true, false), Some(Drawn::Exchange), true, true),
         ];
         assert_eq!(states, expected);
+    }
+
+    /// Ticks that are left and ticks of the whole, where a watchdog is on.
+    #[test]
+    fn the_watchdogs_are_near_their_end_on_the_base_that_the_name_says() {
+        for (name, way) in [ways(), ways_of_one_side()].concat() {
+            let ledger = reached(&way).ledger.expect("every way begins with Start");
+            let Some(watchdog) = ledger.watchdog else {
+                continue;
+            };
+            assert!((2..=4).contains(&watchdog.left), "{name}");
+            let slow = name.contains("base 10 ms");
+            assert_eq!(watchdog.base, if slow { 10 } else { 1 }, "{name}");
+            assert_eq!(watchdog.period == 20, slow, "{name}");
+        }
+    }
+
+    /// All but a telegram that a tick drops.
+    #[test]
+    fn bit_2_comes_before_in_every_way_that_the_table_counts() {
+        let counted = [
+            Outcome::PrmBase10BehindGood,
+            Outcome::PrmBase10BehindNotGood,
+            Outcome::PrmBase10BehindBrokenOff,
+            Outcome::PrmBase10BehindRepeat,
+        ];
+        for length in [8, 9, 244] {
+            let left = ways_to_leave_octet_7(length).into_iter().map(|way| {
+                let start = vec![start_with_parameters(length as u32)];
+                let ledger = reached(&[start, way].concat()).ledger;
+                ledger.and_then(|ledger| ledger.bit_2_before)
+            });
+            let left: Vec<_> = left.collect();
+            assert_eq!(left.iter().filter(|before| before.is_none()).count(), 2);
+            for outcome in counted {
+                assert!(left.contains(&Some(outcome)), "{outcome:?}, {length}");
+            }
+        }
     }
 
     /// Of the two masters that ask at every point one is the owner wherever there is one.

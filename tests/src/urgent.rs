@@ -1,7 +1,7 @@
 //! Urgent events ahead, sentence by sentence of document 02, Req 06, on the second implementation.
 
 use crate::draft;
-use crate::line::{does_nothing, stations, Line};
+use crate::line::{does_nothing, stations, Line, IDENT};
 
 /// The events that there are, and those of them that acknowledging clears.
 const NUMBERS: [i64; 7] = [1, 3, 8, 10, 11, 12, 13];
@@ -19,7 +19,7 @@ fn acknowledge(line: &mut Line, numbers: &[i64]) {
 
 /// A command, a Set_Prm that ends the exchange, its watchdog that expires, a diagnosis, and both sets again.
 fn with_every_event() -> Line {
-    let watchdog = draft::good_parameters(0x80B3, Some((1, 2)), 0, draft::ALLOW_NONE);
+    let watchdog = draft::fast_parameters(IDENT, Some((1, 2)), 0, draft::ALLOW_NONE);
     let mut line = Line::allowing(draft::ALLOW_NONE);
     line.control(draft::SYNC);
     line.request(draft::SET_PRM, watchdog);
