@@ -20,7 +20,7 @@ LISTS ?= tests/vectors
 OUT := target/c
 
 # The base, document 01, is 1.0; with request n of document 02 it becomes 1.n.
-VERSION := 1.6
+VERSION := 1.7
 PREFIX ?= /usr/local
 
 CC := gcc
@@ -39,7 +39,7 @@ FIRMWARE := examples/card.c examples/older.c examples/panel.c examples/sensor.c 
 WORKLOAD := bench/workload.c bench/workload.h $(HEADERS)
 
 # The calls that cross/wrong-stations.c makes wrong.
-WRAPPED := dp_read dp_write dp_start dp_gap dp_octet dp_take_outputs dp_pending dp_window_read dp_window_write
+WRAPPED := dp_read dp_write dp_start dp_gap dp_octet dp_tick dp_take_outputs dp_pending dp_window_read dp_window_write
 
 # The programs whose instructions are counted.
 COUNTED := bench $(if $(LENT),lent) $(if $(BEFORE),before)

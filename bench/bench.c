@@ -308,10 +308,11 @@ static void judged_bad(void)
     vat_judges_bad();
 }
 
+/* Fast parameters are two ticks in every version. */
 static void watchdog_expires(void)
 {
     start_up();
-    put_parameters(1, 2);
+    put_fast_parameters(1, 2);
     CALL(dp_tick(MEMORY));
     tick_expires();
     expect("the events", CALL(dp_events(MEMORY)) & DP_EVENT_BIT(DP_EVENT_WATCHDOG), DP_EVENT_BIT(DP_EVENT_WATCHDOG));

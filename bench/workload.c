@@ -253,16 +253,31 @@ PLACE void vat_looks_at_events(void)
     CALL(dp_acknowledge(MEMORY, word));
 }
 
-void put_parameters(uint8_t factor_1, uint8_t factor_2)
+/* Set_Prm with that data behind DSAP and SSAP. */
+static void put_parameter_data(const uint8_t *data, size_t count)
 {
-    uint8_t set_prm[] = {0x68, 0x0C, 0x0C, 0x68, 0x85, 0x82, FC_REQUEST, 0x3D, 0x3E,
-                         0x88, 0x00, 0x00, 0x0B, 0x80, 0xB3, 0x00,       0x00, 0x16};
-    set_prm[10] = factor_1;
-    set_prm[11] = factor_2;
-    acknowledged_at_start_up(set_prm, sizeof set_prm, last_octet_of_set_prm);
+    enum { POINTS = 2 };
+    const uint8_t le = (uint8_t)(count + POINTS + 3);
+    uint8_t t[HEADER + POINTS + PARAMETER_LEN + END] = {0x68, le, le, 0x68, 0x85, 0x82, FC_REQUEST, 0x3D, 0x3E};
+    memcpy(t + HEADER + POINTS, data, count);
+    t[HEADER + POINTS + count + 1] = 0x16;
+    acknowledged_at_start_up(t, HEADER + POINTS + count + END, last_octet_of_set_prm);
 }
 
-/* A watchdog of 255 x 255 ticks, Chk_Cfg: from a fresh memory into the exchange. */
+void put_parameters(uint8_t factor_1, uint8_t factor_2)
+{
+    const uint8_t data[] = {0x88, factor_1, factor_2, 0x0B, 0x80, 0xB3, 0x00};
+    put_parameter_data(data, sizeof data);
+}
+
+/* The last octet, 7, has the base in its bit 2. */
+void put_fast_parameters(uint8_t factor_1, uint8_t factor_2)
+{
+    const uint8_t data[] = {0x88, factor_1, factor_2, 0x0B, 0x80, 0xB3, 0x00, 0x04};
+    put_parameter_data(data, sizeof data);
+}
+
+/* A watchdog of 10 x 255 x 255 ticks, Chk_Cfg: from a fresh memory into the exchange. */
 void start_up(void)
 {
     uint8_t chk_cfg[] = {0x68, 0x09, 0x09, 0x68, 0x85, 0x82, FC_REQUEST, 0x3E,

@@ -52,8 +52,11 @@ void start_up(void);
    workload. The answer of dp_start, which may be a refusal. */
 int64_t start_other(const struct station *other);
 
-/* Set_Prm with a watchdog of that many ticks, the product of the two. */
+/* Set_Prm with the watchdog on. Its ticks are ten times the product of the two, since it has no octet 7 and so a base of
+   10 ms; the fast one has a base of 1 ms, and the product is its ticks. A library from before Req 07 does not look at
+   octet 7: with it both have the product. */
 void put_parameters(uint8_t factor_1, uint8_t factor_2);
+void put_fast_parameters(uint8_t factor_1, uint8_t factor_2);
 
 /* From any memory into the exchange, and inputs are handed over: cycle 1 may follow. */
 void begin_exchange(void);

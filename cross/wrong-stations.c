@@ -21,6 +21,7 @@ typedef int64_t start_call(uint8_t *memory, uint64_t memory_len, uint32_t addres
 read_call __real_dp_read, __wrap_dp_read;
 write_call __real_dp_write, __wrap_dp_write;
 alone_call __real_dp_gap, __wrap_dp_gap;
+alone_call __real_dp_tick, __wrap_dp_tick;
 alone_call __real_dp_take_outputs, __wrap_dp_take_outputs;
 alone_call __real_dp_pending, __wrap_dp_pending;
 octet_call __real_dp_octet, __wrap_dp_octet;
@@ -35,11 +36,13 @@ static int is(const char *mistake)
 
 /* ---- The state part's octets, as docs/memory.md has them ---- */
 
-enum { OWNER = 0, FLAGS = 3, EVENTS = 4, REPLY_CONTROL = 12, SENDING = 17, DRAWN = 18, ADDRESS = 20, OUTPUT_SET = 29 };
-enum { READING = 31, DESTINATION = 34, SOURCE = 35, CONTROL = 36 };
-enum { OUTPUT_LEN = 48, INPUT_LEN = 49, COUNTED = 54, COUNTED_MASTER = 55 };
-enum { READING_END = 10, READING_COMPLETE = 11, SENDING_E5 = 9, DRAWN_EXCHANGE = 4, DRAWN_SLAVE_DIAG = 8 };
-enum { FLAG_STAT_DIAG = 0x10, FLAG_DIAG = 0x40, HELD_BACK = 0x04, FC_FCV = 0x10, FC_FCB = 0x20, NOBODY = 127 };
+enum { OWNER = 0, FLAGS = 3, EVENTS = 4, REPLY_CONTROL = 12, SENDING = 17, DRAWN = 18, ADDRESS = 20, PHASE = 21 };
+enum { PARAMETER_ROLES = 24, OUTPUT_SET = 29, READING = 31, DESTINATION = 34, SOURCE = 35, CONTROL = 36, POINT = 37 };
+enum { OUTPUT_LEN = 48, INPUT_LEN = 49, PARAMETER_LEN = 50, COUNTED = 54, COUNTED_MASTER = 55, BUFFERS = 128 };
+enum { READING_END = 10, READING_COMPLETE = 11, SENDING_E5 = 9, WAIT_PRM = 0, WAIT_CFG = 1 };
+enum { DRAWN_E5 = 1, DRAWN_EXCHANGE = 4, DRAWN_SLAVE_DIAG = 8 };
+enum { FLAG_NOTED = 0x04, FLAG_STAT_DIAG = 0x10, FLAG_DIAG = 0x40, HELD_BACK = 0x04 };
+enum { FC_FCV = 0x10, FC_FCB = 0x20, NOBODY = 127 };
 
 /* ---- Repeats ---- */
 
@@ -70,18 +73,25 @@ static void put_chain(uint8_t *memory, struct chain c)
 /* A telegram that is here but for its last octet. */
 struct telegram {
     uint8_t destination, master, fc;
+    bool to_set_prm;
 };
 
 static struct telegram telegram_of(const uint8_t *memory)
 {
-    struct telegram t = {memory[DESTINATION] & 0x7F, memory[SOURCE] & 0x7F, memory[CONTROL]};
+    bool to_set_prm = (memory[DESTINATION] & 0x80) != 0 && memory[POINT] == 61;
+    struct telegram t = {memory[DESTINATION] & 0x7F, memory[SOURCE] & 0x7F, memory[CONTROL], to_set_prm};
     return t;
+}
+
+/* Whether it acts here; one to all stations does not count. */
+static bool acts(struct telegram t, const uint8_t *memory)
+{
+    return t.destination == memory[ADDRESS] && t.master != NOBODY && (t.fc & 0xC0) == 0x40;
 }
 
 static bool is_request(struct telegram t, const uint8_t *memory)
 {
-    bool acts = t.destination == memory[ADDRESS] && t.master != NOBODY && (t.fc & 0xC0) == 0x40;
-    return acts && (t.fc & 0x0F) != 4 && (t.fc & 0x0F) != 6;
+    return acts(t, memory) && (t.fc & 0x0F) != 4 && (t.fc & 0x0F) != 6;
 }
 
 static bool repeats(struct telegram t, struct chain c)
@@ -151,6 +161,113 @@ static uint16_t mistaken_events(uint16_t word)
     return word;
 }
 
+/* ---- The watchdog's base ---- */
+
+/* The octets since the last gap, as far as a Set_Prm has octets that the station looks at: up to octet 7. */
+enum { LE = 1, SET_PRM_DATA = 9, LOOKED_AT = SET_PRM_DATA + 8, WD_ON = 0x08, WD_BASE = 0x04 };
+static uint8_t came[LOOKED_AT];
+static size_t came_count;
+
+/* A station with a wrong base is the real one, to which more or fewer ticks come than go by. factors: octet 1 times
+   octet 2 of the last good Set_Prm, 0 where the watchdog is off; right: its ticks; wrong: those that the wrong station
+   has instead; gone: how many went by since it was refilled. */
+static struct {
+    uint32_t factors, right, wrong, gone;
+} watchdog;
+
+/* The base of the last Set_Prm that had an octet 7: whether it is 1 ms. */
+static bool was_fast;
+
+static size_t rounded(uint8_t length)
+{
+    return (length + 7u) / 8 * 8;
+}
+
+/* Octet 7 of the buffer that a Set_Prm went to; if it has fewer octets, what was left there. */
+static uint8_t octet_7_in_buffer(const uint8_t *memory)
+{
+    size_t before = 4 * rounded(memory[OUTPUT_LEN]) + 3 * rounded(memory[INPUT_LEN]);
+    size_t fill = memory[PARAMETER_ROLES] / 2;
+    return memory[BUFFERS + before + fill * rounded(memory[PARAMETER_LEN]) + 7];
+}
+
+static size_t set_prm_count(void)
+{
+    return came[LE] - 5u;
+}
+
+/* Whether the Set_Prm that came asks for a base of 1 ms. */
+static bool is_fast(void)
+{
+    return set_prm_count() >= 8 && (came[SET_PRM_DATA + 7] & WD_BASE) != 0;
+}
+
+/* Whether the wrong station takes it so. */
+static bool mistaken_fast(uint8_t in_buffer)
+{
+    const uint8_t *data = came + SET_PRM_DATA;
+    if (is("base-always-10-ms"))
+        return false;
+    if (is("base-always-1-ms"))
+        return true;
+    if (is("base-by-octet-0"))
+        return (data[0] & WD_BASE) != 0;
+    if (is("base-by-any-bit"))
+        return set_prm_count() >= 8 && data[7] != 0;
+    if (is("base-of-8-octets-alone"))
+        return set_prm_count() == 8 && is_fast();
+    if (is("octet-7-from-buffer"))
+        return (in_buffer & WD_BASE) != 0;
+    if (is("base-stays"))
+        return was_fast;
+    return is_fast();
+}
+
+/* Behind a Set_Prm. taken: it was good, and no repeat. */
+static void set_watchdog(bool taken, uint8_t in_buffer)
+{
+    const uint8_t *data = came + SET_PRM_DATA;
+    if (taken) {
+        watchdog.factors = (data[0] & WD_ON) != 0 ? (uint32_t)(data[1] * data[2]) : 0;
+        watchdog.right = is_fast() ? watchdog.factors : 10 * watchdog.factors;
+        was_fast = set_prm_count() >= 8 ? is_fast() : was_fast;
+    }
+    if (taken || is("base-by-any-set-prm"))
+        watchdog.wrong = mistaken_fast(in_buffer) ? watchdog.factors : 10 * watchdog.factors;
+    if (is("ticks-modulo-65536"))
+        watchdog.wrong %= 65536;
+}
+
+/* Whether a Set_Prm that was no repeat was good. */
+static bool is_good(struct telegram t, const uint8_t *memory)
+{
+    bool locks = (came[SET_PRM_DATA] & 0xC0) == 0x80;
+    return locks && memory[DRAWN] == DRAWN_E5 && memory[PHASE] == WAIT_CFG && memory[OWNER] == t.master;
+}
+
+static bool refills(struct telegram t, const uint8_t *memory)
+{
+    bool counts = memory[PHASE] != WAIT_PRM && (memory[FLAGS] & FLAG_NOTED) == 0;
+    return counts && acts(t, memory) && t.master == memory[OWNER];
+}
+
+/* Behind a telegram that refills. If the wrong watchdog is shorter, the ticks that it lacks go by at once. */
+static void refill(uint8_t *memory, uint64_t memory_len)
+{
+    watchdog.gone = 0;
+    for (uint32_t tick = watchdog.wrong; tick < watchdog.right; tick++)
+        __real_dp_tick(memory, memory_len);
+}
+
+/* Whether the right watchdog waits at this tick for a wrong one that is longer. */
+static bool waits(const uint8_t *memory)
+{
+    if (watchdog.wrong <= watchdog.right || (memory[FLAGS] & FLAG_NOTED) != 0)
+        return false;
+    watchdog.gone++;
+    return watchdog.gone % (watchdog.wrong / watchdog.right) != 0;
+}
+
 /* ---- The calls ---- */
 
 int64_t __wrap_dp_read(uint8_t *memory, uint64_t memory_len, uint32_t kind, uint32_t index)
@@ -178,10 +295,13 @@ int64_t __wrap_dp_write(uint8_t *memory, uint64_t memory_len, uint32_t kind, uin
 int64_t __wrap_dp_octet(uint8_t *memory, uint64_t memory_len, uint8_t octet, uint8_t bad)
 {
     sum = (uint8_t)(sum + octet);
+    if (came_count < LOOKED_AT)
+        came[came_count++] = octet;
     if (memory[READING] != READING_END)
         return __real_dp_octet(memory, memory_len, octet, bad);
     struct telegram t = telegram_of(memory);
     bool request = is_request(t, memory);
+    uint8_t in_buffer = octet_7_in_buffer(memory);
     if (request)
         mistake_repeat(memory, t);
     struct chain c = chain_of(memory);
@@ -189,18 +309,32 @@ int64_t __wrap_dp_octet(uint8_t *memory, uint64_t memory_len, uint8_t octet, uin
     if (memory[READING] != READING_COMPLETE)
         return answer;
     if (request) {
+        if (t.to_set_prm)
+            set_watchdog(is_good(t, memory) && !repeats(t, c), in_buffer);
         mistake_behind(memory, t, c);
         mistake_one_sided(memory);
     } else if (is("control-ends-chain") && (t.fc & 0x0F) == 6) {
         put_chain(memory, no_chain);
     }
+    if (refills(t, memory))
+        refill(memory, memory_len);
     return answer;
 }
 
 int64_t __wrap_dp_gap(uint8_t *memory, uint64_t memory_len)
 {
     sum = 0;
+    came_count = 0;
     return __real_dp_gap(memory, is("half-length") ? (uint32_t)memory_len : memory_len);
+}
+
+/* A tick that changes nothing is refused as any call is. */
+int64_t __wrap_dp_tick(uint8_t *memory, uint64_t memory_len)
+{
+    if (!waits(memory))
+        return __real_dp_tick(memory, memory_len);
+    int64_t events = dp_events(memory, memory_len);
+    return events < 0 ? events : 0;
 }
 
 int64_t __wrap_dp_take_outputs(uint8_t *memory, uint64_t memory_len)
@@ -230,8 +364,11 @@ int64_t __wrap_dp_start(uint8_t *memory, uint64_t memory_len, uint32_t address, 
     mistake_lengths(&output_len, &input_len);
     int64_t answer = __real_dp_start(memory, memory_len, address, ident, output_len, input_len, parameter_len,
                                      configuration_len, diagnosis_len, get_cfg, get_cfg_len);
-    if (answer == 0)
+    if (answer == 0) {
         ended_by_another = no_chain;
+        memset(&watchdog, 0, sizeof watchdog);
+        was_fast = false;
+    }
     if (is("slice-changes") && get_cfg_len > 0)
         get_cfg[0] ^= 1;
     if (is("behind-slice") && get_cfg_len <= DP_LENGTH_MAX)

@@ -1,4 +1,4 @@
-/* The card's firmware, by what drives it: the line's interrupts, the 10 ms timer, the main loop. */
+/* The card's firmware, by what drives it: the line's interrupts, the timer of 1 ms, the main loop. */
 #ifndef CARD_H
 #define CARD_H
 
@@ -8,15 +8,15 @@
    the two. */
 enum { CARD_ADDRESS = 5, CARD_IDENT = 0x80B3, CARD_OUTPUTS = 2, CARD_INPUTS = 2 };
 
-/* The longest sets and the longest diagnosis. Of Set_Prm's octets the first seven are the standard's, of the diagnosis
-   the first six are the station's. */
-enum { CARD_PARAMETERS = 8, CARD_CONFIGURATION = 8, CARD_DIAGNOSIS = 8 };
+/* The longest sets and the longest diagnosis. Of Set_Prm's octets the first seven are the standard's, and the next one
+   has the watchdog's base; of the diagnosis the first six are the station's. */
+enum { CARD_PARAMETERS = 9, CARD_CONFIGURATION = 8, CARD_DIAGNOSIS = 8 };
 
 /* The modules, as Get_Cfg sends them and Chk_Cfg has to bring them: two octets of inputs, two of outputs. */
 #define CARD_MODULES 0x11, 0x21
 
 /* Other cards: a lamp panel, which has no inputs, and a sensor, which has no outputs. Their Set_Prm has the standard's
-   octets alone. */
+   seven octets alone, and so a watchdog's base of 10 ms. */
 enum { PANEL_ADDRESS = 6, PANEL_IDENT = 0x80B4, PANEL_OUTPUTS = 1, PANEL_PARAMETERS = 7 };
 enum { SENSOR_ADDRESS = 7, SENSOR_IDENT = 0x80B5, SENSOR_INPUTS = 2, SENSOR_PARAMETERS = 7 };
 
@@ -48,7 +48,7 @@ void card_on_gap(void);
    CARD_SILENT, at which the driver goes back to listening. */
 int card_on_transmitter_free(void);
 
-/* The timer of 10 ms. */
+/* The timer of 1 ms. */
 void card_on_tick(void);
 
 /* One round of the main loop. */

@@ -48,8 +48,9 @@ enum { OUTPUT_VALVES = 0, OUTPUT_HEATING = 1 };
 /* The inputs are what is measured. */
 enum { INPUT_TEMPERATURE = 0, INPUT_LEVEL = 1 };
 
-/* The octet behind the standard's seven of Set_Prm is this vat's: the highest temperature allowed. */
-enum { PARAMETER_LIMIT = DP_PARAMETERS_MIN };
+/* The octet behind the standard's seven of Set_Prm is looked at by the station alone: it has the watchdog's base. The
+   one behind it is this vat's: the highest temperature allowed. */
+enum { PARAMETER_BASE = DP_PARAMETERS_MIN, PARAMETER_LIMIT };
 
 struct vat {
     uint8_t temperature, level;

@@ -144,7 +144,8 @@ function rates(    keyword, supported) {
     if (!supported) tell(gsd ": no baud rate is supported")
 }
 
-# The standard's seven octets of Set_Prm are no user parameters.
+# The standard's seven octets of Set_Prm are no user parameters. The first one that is, octet 7, has the watchdog's
+# base: a parameter of the program's own there would switch that by its bit 2.
 function user_parameters(    len, but, place, part, count) {
     len = constant("CARD_PARAMETERS") - 7
     but = as_in_header("CARD_PARAMETERS") ", and seven of these are the standard's"
@@ -153,6 +154,8 @@ function user_parameters(    len, but, place, part, count) {
     place = places["user_prm_data"]
     count = split(octets(values["user_prm_data"], place), part, " ")
     if (count != len) tell(place ": User_Prm_Data has " count " octets, " but)
+    if (part[1] !~ /^0[04]$/)
+        tell(place ": User_Prm_Data begins with " part[1] ", but octet 7 is the watchdog's base, 00 or 04")
 }
 
 # An identifier octet: its low four bits are a length less 1, bit 4 says inputs, 5 outputs, 6 words instead of octets.

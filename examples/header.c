@@ -1,6 +1,7 @@
 /*
  * The header in C99 and in C++17: every call has its type and is in the library, so that this links, the constants are
- * the numbers that the station answers, and of several events the smallest is told.
+ * the numbers that the station answers, of several events the smallest is told, and a watchdog has as many ticks as the
+ * header says.
  */
 #include "dp.h"
 #include "dp.h" /* a second time: the guard holds */
@@ -169,6 +170,58 @@ static void expect_ended(void)
     expect("dp_pending, no event left", dp_pending(m, n), DP_NO_EVENT);
 }
 
+/* Set_Prm's octets 1, 2 and 7, how many octets it has, 7 or 8, and what comes of them. */
+struct watchdog {
+    uint8_t factor_1, factor_2, octet_7, count;
+    uint32_t ticks;
+};
+
+/* Set_Prm to a fresh station. */
+static void set_watchdog(const struct watchdog *w)
+{
+    const uint8_t le = (uint8_t)(w->count + 5);
+    uint8_t t[] = {0x68,        le,          le,   0x68, 0x85, 0x82, 0x4D, 0x3D, 0x3E, 0x88,
+                   w->factor_1, w->factor_2, 0x0B, 0x80, 0xB3, 0x00, 0x00, 0x00, 0x00};
+    size_t end = 4u + le;
+    uint8_t sum = 0;
+    if (w->count == 8)
+        t[end - 1] = w->octet_7;
+    for (size_t i = 4; i < end; i++)
+        sum = (uint8_t)(sum + t[i]);
+    t[end] = sum;
+    t[end + 1] = 0x16;
+    expect("dp_start", started(DP_MEMORY_MIN, 5, SHORT), 0);
+    put_on_line(t, end + 2);
+    expect("the reply to Set_Prm", dp_send(memory, DP_MEMORY_MIN), 0xE5);
+}
+
+/* The last tick sets event 3 and publishes zeros, and the parameters are dropped. */
+static void expect_ticks(uint32_t ticks)
+{
+    const int64_t expired = DP_EVENT_BIT(DP_EVENT_WATCHDOG) | DP_EVENT_BIT(DP_EVENT_OUTPUTS);
+    uint8_t *m = memory;
+    size_t n = DP_MEMORY_MIN;
+    for (uint32_t tick = 1; tick < ticks; tick++)
+        expect("dp_tick", dp_tick(m, n), 0);
+    expect("dp_events, before the last tick", dp_events(m, n), DP_EVENT_BIT(DP_EVENT_PARAMETERS));
+    expect("dp_tick", dp_tick(m, n), 0);
+    expect("dp_events, after the last tick", dp_events(m, n), expired);
+}
+
+/* The shortest and the longest watchdog on either base, and that of a Set_Prm without octet 7. */
+static void expect_watchdog(void)
+{
+    static const struct watchdog all[] = {{1, 2, 0x04, 8, 2},
+                                          {255, 255, 0x04, 8, 65025},
+                                          {1, 2, 0x00, 8, 20},
+                                          {255, 255, 0x00, 8, 650250},
+                                          {1, 2, 0x00, 7, 20}};
+    for (size_t i = 0; i < COUNT(all); i++) {
+        set_watchdog(&all[i]);
+        expect_ticks(all[i].ticks);
+    }
+}
+
 /* What does not depend on the order. Every command here leaves the events as they were. */
 static void expect_cells(uint32_t order)
 {
@@ -224,6 +277,7 @@ int main(void)
     expect_fresh();
     expect_smallest();
     expect_ended();
+    expect_watchdog();
     expect_window();
     return 0;
 }

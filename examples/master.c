@@ -1,9 +1,10 @@
 /*
- * A master that takes the card of card.c through a start-up, some exchanges of data, a diagnosis and a clear, falls
- * silent, and comes back to run the vat in step with others, by sync and freeze. Once the vat program is late and finds
- * several events at once. Then the master meets the older vat program of older.c, and misses a reply. At last it turns
- * to other stations: the lamp panel of panel.c, which has no inputs, and the sensor of sensor.c, which has no outputs.
- * It prints each telegram; the programs print what they see. Nothing depends on time or chance.
+ * A master that takes the card of card.c through a start-up, some exchanges of data, a diagnosis and a clear, and falls
+ * silent. On a fast line, where the watchdog's base is 1 ms, it falls silent once more. It comes back to run the vat in
+ * step with others, by sync and freeze. Once the vat program is late and finds several events at once. Then the master
+ * meets the older vat program of older.c, and misses a reply. At last it turns to other stations: the lamp panel of
+ * panel.c, which has no inputs, and the sensor of sensor.c, which has no outputs. It prints each telegram; the programs
+ * print what they see. Nothing depends on time or chance.
  */
 #include "card.h"
 
@@ -21,11 +22,15 @@ enum { FC_DIAG_FLAG = 0x0A };
 /* Set_Prm's octet 0: the master takes the station, with a watchdog; and the commands that it allows itself. */
 enum { PRM_LOCK = 0x80, PRM_WATCHDOG = 0x08, PRM_SYNC = 0x20, PRM_FREEZE = 0x10 };
 
+/* Its octet 7, the watchdog's base. */
+enum { PRM_BASE_10_MS = 0x00, PRM_BASE_1_MS = 0x04 };
+
 /* Global_Control's octet 0. */
 enum { CLEAR = 0x02, UNFREEZE = 0x04, FREEZE = 0x08, UNSYNC = 0x10, SYNC = 0x20 };
 
-/* Set_Prm with the watchdog on: 3 x 2 ticks. */
-enum { WATCHDOG_FACTOR_1 = 3, WATCHDOG_FACTOR_2 = 2, WATCHDOG_TICKS = WATCHDOG_FACTOR_1 * WATCHDOG_FACTOR_2 };
+/* Set_Prm with the watchdog on: 3 x 2, in ticks by its base. */
+enum { WATCHDOG_FACTOR_1 = 3, WATCHDOG_FACTOR_2 = 2 };
+enum { FAST_WATCHDOG_TICKS = WATCHDOG_FACTOR_1 * WATCHDOG_FACTOR_2, WATCHDOG_TICKS = 10 * FAST_WATCHDOG_TICKS };
 
 /* A station as the master has to know it. */
 struct station {
@@ -156,12 +161,13 @@ static void slave_diag(void)
     ask(slave_diag_telegram());
 }
 
-/* allowed: PRM_SYNC, PRM_FREEZE, both or 0; limit: the vat's own parameter, which the other stations do not get. */
-static void set_prm(uint8_t allowed, uint8_t limit)
+/* allowed: PRM_SYNC, PRM_FREEZE, both or 0; limit: the vat's own parameter. The other stations get neither base nor
+   limit. */
+static void set_prm(uint8_t base, uint8_t allowed, uint8_t limit)
 {
     const uint8_t status = PRM_LOCK | PRM_WATCHDOG | allowed;
     const uint8_t high = (uint8_t)(slave->ident >> 8), low = (uint8_t)slave->ident;
-    const uint8_t data[] = {status, WATCHDOG_FACTOR_1, WATCHDOG_FACTOR_2, 0x0B, high, low, 0x01, limit};
+    const uint8_t data[] = {status, WATCHDOG_FACTOR_1, WATCHDOG_FACTOR_2, 0x0B, high, low, 0x01, base, limit};
     ask_point(slave->address, next_request(), 61, data, slave->parameters);
 }
 
@@ -240,10 +246,21 @@ static void slave_diag_with_older_cycles_inside(void)
 /* The timer goes on while the line is silent. */
 static void pass_ticks(int first, int last)
 {
-    for (int tick = first; tick <= last; tick++) {
-        printf("    tick %d\n", tick);
+    if (first < last)
+        printf("    ticks %d to %d\n", first, last);
+    else
+        printf("    tick %d\n", last);
+    for (int tick = first; tick <= last; tick++)
         card_on_tick();
-    }
+}
+
+/* Silence until the watchdog expires, with rounds of the vat program before and after the last tick. */
+static void silence(int ticks)
+{
+    pass_ticks(1, ticks - 1);
+    vat_cycle();
+    pass_ticks(ticks, ticks);
+    vat_cycle();
 }
 
 static void title(const char *text)
@@ -253,9 +270,9 @@ static void title(const char *text)
 }
 
 /* From parameters to the exchange of data, with rounds of the station's program. */
-static void enter_exchange(uint8_t allowed, uint8_t limit, void (*cycle)(void))
+static void enter_exchange(uint8_t base, uint8_t allowed, uint8_t limit, void (*cycle)(void))
 {
-    set_prm(allowed, limit);
+    set_prm(base, allowed, limit);
     cycle();
     chk_cfg();
     cycle();
@@ -278,8 +295,8 @@ static void start_up(void)
     vat_cycle();
     title("Slave_Diag: it waits for parameters and has no master (02 05 00 FF).");
     slave_diag();
-    title("Set_Prm: a watchdog of 6 ticks, a limit of 1E degrees. The vat program judges.");
-    set_prm(0, 0x1E);
+    title("Set_Prm: a watchdog of 60 ticks (3 x 2 x 10 ms), a limit of 1E degrees. The vat program judges.");
+    set_prm(PRM_BASE_10_MS, 0, 0x1E);
     vat_cycle();
     title("Chk_Cfg. The vat program judges, and the exchange of data begins.");
     chk_cfg();
@@ -327,19 +344,34 @@ static void clear_and_silence(void)
     title("Data_Exchange: first valve open, heating 08.");
     data_exchange(0x01, 0x08);
     vat_cycle();
-    title("Silence. The watchdog expires at the sixth tick; the vat program runs after the fifth and after that.");
-    pass_ticks(1, WATCHDOG_TICKS - 1);
-    vat_cycle();
-    pass_ticks(WATCHDOG_TICKS, WATCHDOG_TICKS);
-    vat_cycle();
+    title("Silence. The watchdog expires at tick 60; the vat program runs before that tick and after it.");
+    silence(WATCHDOG_TICKS);
     title("Slave_Diag: the station waits for parameters and has no master (02 05 00 FF).");
+    slave_diag();
+}
+
+/* What a fast line is for: the outputs are zeros a few milliseconds after the master's last telegram. */
+static void fast_line(void)
+{
+    title("A fast line: Set_Prm has 04 in octet 7, the base of 1 ms, so that 3 x 2 are 6 ticks. Chk_Cfg.");
+    enter_exchange(PRM_BASE_1_MS, 0, 0x1E, vat_cycle);
+    title("Data_Exchange, twice, with 5 ticks behind each: the master is in time.");
+    data_exchange(0x02, 0x10);
+    pass_ticks(1, FAST_WATCHDOG_TICKS - 1);
+    data_exchange(0x02, 0x10);
+    pass_ticks(1, FAST_WATCHDOG_TICKS - 1);
+    vat_cycle();
+    title("Data_Exchange and silence. The watchdog expires at tick 6, with the factors that took 60 ticks before.");
+    data_exchange(0x02, 0x20);
+    silence(FAST_WATCHDOG_TICKS);
+    title("Slave_Diag: as after the longer silence (02 05 00 FF).");
     slave_diag();
 }
 
 static void start_up_again(void)
 {
-    title("Set_Prm: sync and freeze are allowed (B8). Chk_Cfg. The exchange of data begins again.");
-    enter_exchange(PRM_SYNC | PRM_FREEZE, 0x1E, vat_cycle);
+    title("Set_Prm: sync and freeze are allowed (B8), the base is 10 ms. Chk_Cfg. The exchange of data begins again.");
+    enter_exchange(PRM_BASE_10_MS, PRM_SYNC | PRM_FREEZE, 0x1E, vat_cycle);
 }
 
 static void sync_outputs(void)
@@ -391,7 +423,7 @@ static void late_round(void)
     title("Data_Exchange, silence until the watchdog expires, Set_Prm, Chk_Cfg, all before the vat program's round.");
     data_exchange(0x02, 0x10);
     pass_ticks(1, WATCHDOG_TICKS);
-    set_prm(0, 0x1E);
+    set_prm(PRM_BASE_10_MS, 0, 0x1E);
     chk_cfg();
     title("Its round: the smallest event first, but 11 ahead of 10; the 1 that judging raises comes ahead of 13.");
     vat_cycle();
@@ -406,13 +438,13 @@ static void older_start_up(void)
     card_power_up_older();
     older_vat_cycle();
     title("Set_Prm: a limit of 0A degrees, too low. Chk_Cfg. 0FH judges bad, and 11H has nothing left to judge (03).");
-    set_prm(0, 0x0A);
+    set_prm(PRM_BASE_10_MS, 0, 0x0A);
     chk_cfg();
     older_vat_cycle();
     title("Slave_Diag: the parameters are at fault, no master (42 05 00 FF). Behind that 02 19, as given at power-up.");
     slave_diag();
     title("Set_Prm: a limit of 1E degrees. 0EH judges good.");
-    set_prm(0, 0x1E);
+    set_prm(PRM_BASE_10_MS, 0, 0x1E);
     older_vat_cycle();
     title("Chk_Cfg. 10H judges good, and the exchange of data begins.");
     chk_cfg();
@@ -459,7 +491,7 @@ static void panel_start_up(void)
     title("A lamp panel at address 6: outputs and no inputs. Set_Prm and Chk_Cfg, and the exchange of data begins.");
     slave = &panel;
     panel_power_up();
-    enter_exchange(0, 0, panel_cycle);
+    enter_exchange(PRM_BASE_10_MS, 0, 0, panel_cycle);
     title("Data_Exchange: lamps 1 and 3. There are no inputs to be sent, the reply is E5.");
     light_lamps(0x05);
     panel_cycle();
@@ -493,7 +525,7 @@ static void sensor_polls(void)
     title("A sensor at address 7: inputs and no outputs. Set_Prm, with sync allowed (A8), and Chk_Cfg.");
     slave = &sensor;
     sensor_power_up();
-    enter_exchange(PRM_SYNC, 0, sensor_cycle);
+    enter_exchange(PRM_BASE_10_MS, PRM_SYNC, 0, sensor_cycle);
     title("Data_Exchange: without data. The reply has the inputs. The sensor is told of the poll and measures anew.");
     poll_sensor();
     sensor_cycle();
@@ -524,6 +556,7 @@ int main(void)
     exchange();
     diagnosis();
     clear_and_silence();
+    fast_line();
     start_up_again();
     sync_outputs();
     freeze_inputs();

@@ -19,6 +19,15 @@
  * are until the next take. The one thing that wants several calls in one piece is reading a set and judging it, see
  * dp_judge_parameters.
  *
+ * The watchdog. A master that falls silent loses the station if its Set_Prm has switched the watchdog on (octet 0, bit
+ * 3; octets count from 0). The time is octet 1 x octet 2 on a base of 10 ms, or of 1 ms where bit 2 of octet 7 is set.
+ * Octet 7 is there with 8 or more octets of data; without it the base is 10 ms. A tick is 1 ms, so these are 20 to
+ * 650,250 ticks, or 2 to 65,025. Each telegram of the master that acts and is to this address begins the time anew;
+ * since a tick may come right behind it, n ticks are n - 1 to n ms. When they are over, event 3 is set and the station
+ * leaves the master as by dp_leave_master. With it on, a factor 0, or 1 for both, is a Prm_Fault on either base. The
+ * other bits of octet 7 have no effect. Parameters of the vat program's own begin at octet 8, as with the chip: if they
+ * began at octet 7, bit 2 of their first octet would be taken for the base.
+ *
  * Sync and freeze. A master that allows itself these by Set_Prm (octet 0, bits 5 and 4) switches them by
  * Global_Control, to run several stations in step; the vat program has no part in it. In sync the outputs of
  * Data_Exchange are held back, later ones in place of earlier ones, until the master's next sync or its unsync
@@ -161,11 +170,12 @@ enum dp_cell {
 /*
  * Start: sets a fresh station up in the memory, whatever was there before. It waits for a gap and then for Set_Prm.
  * Data_Exchange brings output_len octets and is answered with input_len (0 to 244 each, not both 0). A parameter set
- * has at most parameter_len octets (7 to 244), a configuration set configuration_len (1 to 244), a diagnosis
- * diagnosis_len (6 to 244). get_cfg are the get_cfg_len octets (1 to 244) that Get_Cfg sends; they are copied. The
- * station needs 128 octets of the memory and, with each length rounded up to a multiple of 8 (0 stays 0), four times
- * the outputs, three times the inputs, parameters and configuration, twice the diagnosis and once Get_Cfg's octets. So
- * DP_MEMORY_MIN is room enough where all six lengths are at most 88, and DP_MEMORY_MAX always is.
+ * has at most parameter_len octets (7 to 244; with 7 there is no octet 7, and the watchdog's base is always 10 ms), a
+ * configuration set configuration_len (1 to 244), a diagnosis diagnosis_len (6 to 244). get_cfg are the get_cfg_len
+ * octets (1 to 244) that Get_Cfg sends; they are copied. The station needs 128 octets of the memory and, with each
+ * length rounded up to a multiple of 8 (0 stays 0), four times the outputs, three times the inputs, parameters and
+ * configuration, twice the diagnosis and once Get_Cfg's octets. So DP_MEMORY_MIN is room enough where all six lengths
+ * are at most 88, and DP_MEMORY_MAX always is.
  * Answers 0. Refused by 1, 2, 3, 4.
  */
 int64_t dp_start(uint8_t *memory, uint64_t memory_len, uint32_t address, uint16_t ident, uint32_t output_len,
@@ -193,7 +203,8 @@ int64_t dp_gap(uint8_t *memory, uint64_t memory_len);
 int64_t dp_send(uint8_t *memory, uint64_t memory_len);
 
 /*
- * A tick, every 10 ms: the watchdog counts down.
+ * A tick, every 1 ms, whatever the watchdog's base is: the watchdog counts down by one. A timer of 10 ms would make
+ * every watchdog ten times as long. Where leaving the master was put off, the tick carries that out and counts nothing.
  * Answers 0. Refused by 5.
  */
 int64_t dp_tick(uint8_t *memory, uint64_t memory_len);
@@ -281,7 +292,8 @@ int64_t dp_pending(uint8_t *memory, uint64_t memory_len);
 
 /*
  * Leave master: the station gives up its master, publishes zeros and waits for Set_Prm. While the line is busy this is
- * put off until it is idle, at most until the next tick.
+ * put off until it is idle, at most until the next tick, so for 1 ms: that drops a telegram that is not complete by
+ * then, or a reply that is not sent.
  * Answers 0. Refused by 5.
  */
 int64_t dp_leave_master(uint8_t *memory, uint64_t memory_len);
