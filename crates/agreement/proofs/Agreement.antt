@@ -17,6 +17,8 @@ use Rattle.steps.specs.Step.{stepOver}
 use Rattle.steps.specs.Calls.{started, wellMemory, called, answers, memoryAfter}
 use Rattle.state.proofs.LaidOut.{laid-holds, laid-length}
 use Rattle.ledger.specs.Ledger.{Ledger, fresh}
+use Rattle.channels.specs.Setting.{lengthsOk}
+use Rattle.channels.proofs.Exact.{lengths-hold}
 use Rattle.ledger.specs.User.{Told}
 use Rattle.ledger.specs.Calls as ledger
 use Rattle.rules.specs.Call.{Call, take, read}
@@ -83,37 +85,40 @@ agrees-on = lists-agree called ledger.step call-alike
 pub ready-after : (cs : List Call) (m : List ℕ) (l : Ledger) → Ready m l → Ready (memoryAfter m cs) (ledger.after l cs)
 ready-after = lists-ready called ledger.step call-alike
 
-module _ (m : List ℕ) (s : Setup) (slice : List ℕ) (long : s .«get_cfg_len» ≡ length slice) (zero : started m s slice .answer ≡ Value 0) where
-  begins : Begins m s
-  begins = started-begins m s slice zero
+module _ (m : List ℕ) (s : Setup) (slice lengths : List ℕ) (long : s .«get_cfg_len» ≡ length slice) (zero : started m s slice lengths .answer ≡ Value 0) where
+  begins : Begins m s lengths
+  begins = started-begins m s slice lengths zero
 
-  memory-is : memoryOf m s slice ≡ laidOut m s slice
-  memory-is = ap (λ (c : Called). c .memory) (begins-started m s slice begins)
+  lengths-pass : lengthsOk lengths ≡ true
+  lengths-pass = lengths-hold lengths (begins .channel-lengths .octets) (begins .channel-lengths .pairs)
+
+  memory-is : memoryOf m s slice lengths ≡ laidOut m s slice lengths
+  memory-is = ap (λ (c : Called). c .memory) (begins-started m s slice lengths begins)
 
   -- a freshly started station
-  pub begins-ready : Ready (memoryOf m s slice) (fresh s slice)
+  pub begins-ready : Ready (memoryOf m s slice lengths) (fresh s slice)
   begins-ready =
       let b = begins in
       subst (λ (x : List ℕ). Ready x (fresh s slice)) (sym memory-is)
       (record {
-        length-in = rw (laid-length m s slice long (b .room)) (b .length-in);
+        length-in = rw (laid-length m s slice lengths long (b .room)) (b .length-in);
         state = initialState s;
         on = record {
-          holds = laid-holds m s slice long (b .room) (b .ranged);
-          related = start-related m s slice long (b .room) (b .ranged);
+          holds = laid-holds m s slice lengths long (b .room) (b .ranged) lengths-pass;
+          related = start-related m s slice lengths long (b .room) (b .ranged) lengths-pass;
         };
       })
 
-  agree : (cs : List Call) → answers (memoryOf m s slice) cs ≡ ledger.answers (fresh s slice) cs
-  agree cs = agrees-on cs (memoryOf m s slice) (fresh s slice) begins-ready
+  agree : (cs : List Call) → answers (memoryOf m s slice lengths) cs ≡ ledger.answers (fresh s slice) cs
+  agree cs = agrees-on cs (memoryOf m s slice lengths) (fresh s slice) begins-ready
 
   -- after some calls the others answer as the ledger does after them
-  pub later : (cs rest : List Call) → answers (memoryAfter (memoryOf m s slice) cs) rest ≡ ledger.answers (ledger.after (fresh s slice) cs) rest
+  pub later : (cs rest : List Call) → answers (memoryAfter (memoryOf m s slice lengths) cs) rest ≡ ledger.answers (ledger.after (fresh s slice) cs) rest
   later cs rest =
-      agrees-on rest (memoryAfter (memoryOf m s slice) cs) (ledger.after (fresh s slice) cs)
-      (ready-after cs (memoryOf m s slice) (fresh s slice) begins-ready)
+      agrees-on rest (memoryAfter (memoryOf m s slice lengths) cs) (ledger.after (fresh s slice) cs)
+      (ready-after cs (memoryOf m s slice lengths) (fresh s slice) begins-ready)
 
-  agreed : Agreement m s slice
+  agreed : Agreement m s slice lengths
   agreed = record {
     agree = agree;
     octet-then-call = λ pre post b bad c u i. places-alike agree (exchange (fresh s slice) pre post b bad c .inner-first u i);
@@ -124,7 +129,7 @@ module _ (m : List ℕ) (s : Setup) (slice : List ℕ) (long : s .«get_cfg_len�
         ∙ outputs-read s slice cs index rest .answers-are h
         ∙ (λ i. sym (agree cs) i ++ x ∷ sym (later cs rest) i);
     takes = λ cs rest.
-        let a = memoryOf m s slice in
+        let a = memoryOf m s slice lengths in
         let told = call-alike (memoryAfter a cs) (ledger.after (fresh s slice) cs) (ready-after cs a (fresh s slice) begins-ready) take .answers ∙ takes-told s slice cs in
         answers-append (λ n c. called n c .answer) (λ n c. called n c .memory) a cs (take ∷ rest)
         ∙ (λ i. answers a cs ++ told i ∷ answers (sym (left-append (λ n c. called n c .memory) a cs (take ∷ [])) i) rest);

@@ -3,7 +3,7 @@ use Prim.Native.Nat.{ℕ, suc, _+_, _≤_, _<_}
 use native.Mathlib.Omega.{arith}
 use mathlib.Core.Path.{_≡_, refl, sym, ap, _∙_}
 use mathlib.Core.Bool.{Bool, true, false, cond}
-use mathlib.Core.Logic.{inr}
+use mathlib.Core.Logic.{inl, inr}
 use mathlib.Core.List.{List, [], _∷_, _++_}
 use lib.Dec.{ltb, eqb}
 use lib.ListN.{length, getD, take, length-append, List·getD-append}
@@ -13,7 +13,8 @@ use Rattle.octets.specs.Part.{part, storedIn}
 use Rattle.octets.proofs.Parts.{stored-next, stored-length, stored-apart, stored-past}
 use Rattle.state.specs.declared.setup.Setup.{Setup}
 use Rattle.state.specs.Layout.{rowCount, rowLength, startOf}
-use Rattle.state.proofs.Places.{in-front, apart}
+use Rattle.channels.specs.Image.{channelsAt, rowsLength}
+use Rattle.state.proofs.Places.{in-front, beyond, apart}
 use Rattle.agreement.proofs.Relation.{BeginsWith}
 use Rattle.agreement.proofs.OtherBuffersStay.{Elsewhere}
 
@@ -63,4 +64,5 @@ stored-elsewhere g m a i k octet h = record {
   later = λ b j n o.
       let u = in-front g a b i (rowLength g a) o h (omega arith) in
       stored-apart m (startOf g a i) (rowLength g a) k octet (startOf g b j) n (inr (omega arith));
+  rows = stored-apart m (startOf g a i) (rowLength g a) k octet channelsAt rowsLength (inl (let v = beyond g a i in omega arith));
 }

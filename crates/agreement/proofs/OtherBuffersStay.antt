@@ -15,7 +15,9 @@ use Rattle.state.specs.declared.setup.Setup.{Setup}
 use Rattle.state.specs.declared.state.Outputs as station-outputs
 use Rattle.state.specs.declared.state.Sets as station-sets
 use Rattle.state.specs.Layout.{inputRow, diagnosisRow, getCfgRow, rowCount, rowLength, startOf, endOf, inputsAt, diagnosisAt, getCfgAt, outputsAt}
-use Rattle.state.proofs.Places.{first-start, in-front, inside, apart}
+use Rattle.channels.specs.Image.{channelsAt, rowsLength}
+use Rattle.state.proofs.Channelled.{rowsOf}
+use Rattle.state.proofs.Places.{first-start, in-front, inside, beyond, apart}
 use Rattle.ledger.specs.Lists.{Inputs, Sets, Diagnoses, Outputs}
 use Rattle.steps.specs.Replies.{ownPlace, userPlace}
 use Rattle.steps.proofs.KeepsSafe.{own-in, user-in}
@@ -28,10 +30,12 @@ pub record Elsewhere (g : Setup) (a i : ℕ) (m m′ : List ℕ) : Type 0 where
   pub other : (b j k : ℕ) → j < rowCount b → k ≤ rowLength g b → (a ≡ b → i ≡ j → ⊥) → part m′ (startOf g b j) k ≡ part m (startOf g b j) k
   -- and all that begins with a later row
   pub later : (b j k : ℕ) → a < b → part m′ (startOf g b j) k ≡ part m (startOf g b j) k
+  -- and the channels' rows
+  pub rows : rowsOf m′ ≡ rowsOf m
 
 -- nothing changed
 pub same-elsewhere : {g : Setup} {a i : ℕ} {m : List ℕ} → Elsewhere g a i m m
-same-elsewhere = record { long = refl; other = λ b j k _ _ _. refl; later = λ b j k _. refl }
+same-elsewhere = record { long = refl; other = λ b j k _ _ _. refl; later = λ b j k _. refl; rows = refl }
 
 module _ (g : Setup) (m : List ℕ) (a i : ℕ) (room : endOf g ≤ length m) (there : i < rowCount a) where
   -- a buffer ends in front of every later row
@@ -47,6 +51,7 @@ module _ (g : Setup) (m : List ℕ) (a i : ℕ) (room : endOf g ≤ length m) (t
         long = pasted-length m (startOf g a i) xs (omega arith);
         other = λ b j k hj hk d. pasted-apart m (startOf g a i) xs (startOf g b j) k (omega arith) (apart g a i (length xs) b j k there hj h hk d);
         later = λ b j k o. pasted-apart m (startOf g a i) xs (startOf g b j) k (omega arith) (inr (front b j (length xs) h o));
+        rows = pasted-apart m (startOf g a i) xs channelsAt rowsLength (omega arith) (inl (let v = beyond g a i in omega arith));
       }
 
   -- an octet written into it
@@ -55,6 +60,7 @@ module _ (g : Setup) (m : List ℕ) (a i : ℕ) (room : endOf g ≤ length m) (t
     long = length-set m (startOf g a i + index) x;
     other = λ b j k hj hk d. part-set-outside m (startOf g b j) k (startOf g a i + index) x (go (startOf g b j) k (apart g a i (rowLength g a) b j k there hj (omega arith) hk d));
     later = λ b j k o. part-set-outside m (startOf g b j) k (startOf g a i + index) x (inl (let u = front b j (rowLength g a) (omega arith) o in omega arith));
+    rows = part-set-outside m channelsAt rowsLength (startOf g a i + index) x (inr (let v = beyond g a i in omega arith));
   }
     where
       go : (start k : ℕ) → (start + k ≤ startOf g a i) ⊎ (startOf g a i + rowLength g a ≤ start)

@@ -7,9 +7,10 @@ use lib.ListN.{length, getD}
 use Rattle.buffers.specs.Roles.{fillOf, nextOf, heldOf}
 use Rattle.buffers.specs.Roles as role
 use Rattle.octets.specs.Part.{part}
+use Rattle.channels.specs.Image.{channelsAt, rowsLength}
 use Rattle.state.specs.declared.setup.Setup.{Setup}
 use Rattle.state.specs.declared.state.State.{State}
-use Rattle.state.specs.Layout.{stateLength, outputRow, inputRow, parameterRow, configurationRow, diagnosisRow, rowCount, startOf, getCfgAt}
+use Rattle.state.specs.Layout.{imageLength, outputRow, inputRow, parameterRow, configurationRow, diagnosisRow, rowCount, startOf, getCfgAt}
 use Rattle.state.specs.Memory.{kept}
 use Rattle.state.proofs.Places.{inside, get-cfg-inside}
 use Rattle.state.proofs.Front.{kept-part, kept-length}
@@ -18,10 +19,10 @@ use Rattle.steps.specs.Replies.{ownPlace, userPlace}
 use Rattle.agreement.proofs.OtherBuffersStay.{outputs-stay}
 use Rattle.agreement.proofs.Relation.{Agrees}
 use Rattle.agreement.proofs.LineStays.{SameSource, SameFills, reply-stays, reading-stays}
-use Rattle.steps.proofs.KeepsSafe.{own-in, user-in, safe-length}
+use Rattle.steps.proofs.KeepsSafe.{own-in, user-in, safe-same}
 
 -- the relation holds of the packed memory
-pub kept-agrees : {s : State} {m : List ℕ} {l : Ledger} → stateLength ≤ length m → Agrees s m l → Agrees s (kept s m) l
+pub kept-agrees : {s : State} {m : List ℕ} {l : Ledger} → imageLength ≤ length m → Agrees s m l → Agrees s (kept s m) l
 kept-agrees {s} {m} {l} long a = record {
   setup = a .setup;
   control = a .control;
@@ -53,7 +54,7 @@ kept-agrees {s} {m} {l} long a = record {
   slice = in-slice ∙ a .slice;
   reading = reading-stays s s m (kept s m) refl fills (l .line) (a .reading);
   reply = reply-stays s s m (kept s m) refl (l .line) (λ _. source) (a .reply);
-  safe = safe-length s m (kept s m) (kept-length s m long) (a .safe);
+  safe = safe-same s m (kept s m) (kept-length s m long) (kept-part s m channelsAt rowsLength (omega arith)) (a .safe);
 }
   where
     g : Setup

@@ -34,7 +34,7 @@ use Rattle.agreement.proofs.Relation.{InputsAgree, SetsAgree, Diagnoses
 use Rattle.agreement.proofs.Steady.{SetsFit, Steady, Related}
 use Rattle.agreement.proofs.OtherBuffersStay.{Elsewhere, set-elsewhere, inputs-stay, diagnoses-stay, slice-stays, sets-stay, outputs-stay}
 use Rattle.agreement.proofs.LineStays.{reading-stays, reply-stays}
-use Rattle.steps.proofs.KeepsSafe.{own-in, user-in, safe-length}
+use Rattle.steps.proofs.KeepsSafe.{own-in, user-in, safe-same}
 use Rattle.state.proofs.Choice.{both, and-left, and-right, or-left}
 use Rattle.agreement.proofs.UserCallsAgree.{refuses}
 
@@ -166,7 +166,7 @@ module _ {s : State} {m m′ : List ℕ} {l : Ledger} (r : Agrees s m l) (t : St
               diagnosis = λ _. e .other diagnosisRow (ownPlace (s .swapped)) (s .setup .«diagnosis_len») (own-in (s .swapped)) (omega arith) not-own;
             })
             (r .reply);
-        safe = safe-length s m m′ (e .long) f;
+        safe = safe-same s m m′ (e .long) (e .rows) f;
       }
 
 module _ {s : State} {m : List ℕ} {l : Ledger} (r : Related s m l) (index x : ℕ) where

@@ -20,7 +20,7 @@ use Rattle.steps.specs.Safe.{Safe}
 use Rattle.state.specs.With.{withIncoming}
 use Rattle.steps.specs.Reading.{storedData}
 use Rattle.agreement.proofs.Relation.{SetsAgree, ReadingAgrees, ReplyAgrees, Agrees}
-use Rattle.steps.proofs.KeepsSafe.{safe-length, safe-incoming}
+use Rattle.steps.proofs.KeepsSafe.{safe-same, safe-incoming}
 use Rattle.agreement.proofs.OtherBuffersStay.{Elsewhere, same-elsewhere, inputs-stay, diagnoses-stay, slice-stays, sets-stay, outputs-stay}
 use Rattle.agreement.proofs.Steady.{SetsFit, Steady}
 use Rattle.agreement.proofs.DataOctetStored.{stored-elsewhere}
@@ -110,5 +110,5 @@ reread {s} {m} {m′} {l} i n d w r reading reply =
       slice = slice-stays e (h .no-slice) ∙ r .slice;
       reading = reading;
       reply = reply;
-      safe = safe-incoming s m′ i (safe-length s m m′ (e .long) f);
+      safe = safe-incoming s m′ i (safe-same s m m′ (e .long) (e .rows) f);
     }

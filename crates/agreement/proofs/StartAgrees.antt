@@ -2,6 +2,7 @@
 use Prim.Native.Nat.{ℕ, _≤_}
 use native.Mathlib.Omega.{arith}
 use mathlib.Core.Path.{_≡_, refl, ap, _∙_}
+use mathlib.Core.Bool.{true}
 use mathlib.Core.List.{List, []}
 use lib.ListN.{length}
 use Rattle.buffers.proofs.Triples.{initial-permutation}
@@ -11,10 +12,12 @@ use Rattle.telegram.specs.Sending.{empty}
 use Rattle.telegram.proofs.Run.{no-true, off-broken}
 use Rattle.telegram.proofs.Sends.{none}
 use Rattle.state.specs.declared.setup.Setup.{Setup}
-use Rattle.state.specs.Layout.{outputRow, inputRow, diagnosisRow, getCfgAt, endOf}
+use Rattle.state.specs.Layout.{outputRow, inputRow, diagnosisRow, getCfgAt, lastEnd}
+use Rattle.channels.specs.Setting.{lengthsGiven, lengthsOk}
 use Rattle.state.specs.Sound.{Ranged}
 use Rattle.state.specs.Start.{initialState, laidOut}
-use Rattle.state.proofs.LaidOut.{laid-length, laid-zeros, laid-slice}
+use Rattle.state.proofs.LaidOut.{laid-holds, laid-zeros, laid-slice}
+use Rattle.state.proofs.Channelled.{channelled-room}
 use Rattle.steps.specs.Reading.{isIgnored}
 use Rattle.ledger.specs.Ledger.{fresh}
 use Rattle.agreement.proofs.Relation.{Agrees}
@@ -22,11 +25,12 @@ use Rattle.agreement.proofs.Steady.{ReplySteady, Related}
 use Rattle.agreement.proofs.CallsKeepSteady.{fresh-steady}
 use Rattle.agreement.proofs.LineStays.{ignored-agrees}
 
-module _ (m : List ℕ) (s : Setup) (slice : List ℕ) (long : s .«get_cfg_len» ≡ length slice) (room : endOf s ≤ length m) (ranged : Ranged s) where
-  pub start-agrees : Agrees (initialState s) (laidOut m s slice) (fresh s slice)
+module _ (m : List ℕ) (s : Setup) (slice lengths : List ℕ) (long : s .«get_cfg_len» ≡ length slice)
+    (room : lastEnd (lengthsGiven lengths) s ≤ length m) (ranged : Ranged s) (ok : lengthsOk lengths ≡ true) where
+  pub start-agrees : Agrees (initialState s) (laidOut m s slice lengths) (fresh s slice)
   unfolding initialState
   start-agrees =
-      let zeros = laid-zeros m s slice long room in
+      let zeros = laid-zeros m s slice lengths long room in
       record {
         setup = refl;
         control = refl;
@@ -40,7 +44,7 @@ module _ (m : List ℕ) (s : Setup) (slice : List ℕ) (long : s .«get_cfg_len�
         parameters = record { shown = refl; waiting = refl; shown-count = refl; waiting-count = refl; fresh = refl };
         configuration = record { shown = refl; waiting = refl; shown-count = refl; waiting-count = refl; fresh = refl };
         diagnosis = record { own = zeros diagnosisRow 0 (omega arith) (omega arith); user = zeros diagnosisRow 1 (omega arith) (omega arith) };
-        slice = ap (λ (n : ℕ). part (laidOut m s slice) (getCfgAt s) n) long ∙ laid-slice m s slice long room;
+        slice = ap (λ (n : ℕ). part (laidOut m s slice lengths) (getCfgAt s) n) long ∙ laid-slice m s slice lengths long room;
         reading = ignored-agrees (ap isIgnored off-broken) refl refl;
         reply = ([], record { count = refl; octets = λ k g. absurd (omega arith); unsent = none empty [] refl; diagnosis = refl });
         safe = record {
@@ -50,7 +54,8 @@ module _ (m : List ℕ) (s : Setup) (slice : List ℕ) (long : s .«get_cfg_len�
           configuration = initial-permutation;
           reply = omega arith;
           long = ranged .parameter-len .0;
-          room = rw (laid-length m s slice long room) room;
+          room = channelled-room (laid-holds m s slice lengths long room ranged ok .room);
+          channels = laid-holds m s slice lengths long room ranged ok .room;
         };
       }
 
@@ -59,5 +64,5 @@ module _ (m : List ℕ) (s : Setup) (slice : List ℕ) (long : s .«get_cfg_len�
   no-reply w h = no-true h
 
   -- and all that is known between two calls holds
-  pub start-related : Related (initialState s) (laidOut m s slice) (fresh s slice)
+  pub start-related : Related (initialState s) (laidOut m s slice lengths) (fresh s slice)
   start-related = record { agrees = start-agrees; steady = fresh-steady s slice (ranged .diagnosis-len .0); reply-steady = no-reply }

@@ -6,7 +6,7 @@ use lib.ListN.{length}
 use Rattle.state.specs.declared.answer.Answer.{Answer}
 use Rattle.state.specs.declared.state.State.{State}
 use Rattle.state.specs.Memory.{Holds, kept}
-use Rattle.state.specs.Layout.{stateLength}
+use Rattle.state.specs.Layout.{imageLength}
 use Rattle.state.specs.Sound.{Ranged}
 use Rattle.state.proofs.Damage.{kept-holds}
 use Rattle.state.proofs.Front.{kept-length}
@@ -46,7 +46,7 @@ module _ (m : List ℕ) (s : State) (l : Ledger) (o : On m s l) (c : Call) where
   unfolding t
   after-length = step-keeps s m (o .related .agrees .safe) c .length-is
 
-  long : stateLength ≤ length (t .memory)
+  long : imageLength ≤ length (t .memory)
   long = rw after-length (o .holds .long)
 
   -- the state is packed in front again
@@ -55,7 +55,7 @@ module _ (m : List ℕ) (s : State) (l : Ledger) (o : On m s l) (c : Call) where
   packs =
       let r = follow .again in
       record {
-        holds = kept-holds (t .state) (t .memory) (step-sound s m c (o .holds .sound)) (r .agrees .safe .room);
+        holds = kept-holds (t .state) (t .memory) (step-sound s m c (o .holds .sound)) (r .agrees .safe .channels);
         related = record { agrees = kept-agrees long (r .agrees); steady = r .steady; reply-steady = r .reply-steady };
       }
 

@@ -28,8 +28,9 @@ pub extern "C" fn dp_start(
     configuration_len: u32,
     diagnosis_len: u32,
     get_cfg: &[u8],
+    channels: &[u8],
 ) -> i64
-    ensures { λ r. ⌜ Returns (started (now (memory .entry)) (given address ident «output_len» «input_len» «parameter_len» «configuration_len» «diagnosis_len» (length (now («get_cfg» .entry)))) (now («get_cfg» .entry))) r (now (memory .exit)) ⌝ }
+    ensures { λ r. ⌜ Returns (started (now (memory .entry)) (given address ident «output_len» «input_len» «parameter_len» «configuration_len» «diagnosis_len» (length (now («get_cfg» .entry)))) (now («get_cfg» .entry)) (now (channels .entry))) r (now (memory .exit)) ⌝ }
 {
     let answer = station::start::start(
         memory,
@@ -41,6 +42,7 @@ pub extern "C" fn dp_start(
         configuration_len,
         diagnosis_len,
         get_cfg,
+        channels,
     );
     answer.code()
 }

@@ -21,7 +21,7 @@ fn take_turn(memory: &mut [u8], telegram: &[u8], count: usize) {
 
 // Start, Set_Prm and Chk_Cfg with their judgements: address 5, ident 80B3, one output, one input, master 2, 100 Ticks.
 fn set_up(memory: &mut [u8]) {
-    station::start::start(memory, 5, 0x80B3, 1, 1, 7, 1, 6, b"\x31");
+    station::start::start(memory, 5, 0x80B3, 1, 1, 7, 1, 6, b"\x31", &[0u8; 32]);
     let prm = b"\x68\x0C\x0C\x68\x85\x82\x5D\x3D\x3E\x88\x01\x0A\x0B\x80\xB3\x00\xB0\x16";
     take_turn(memory, prm, 0);
     calls::judge_parameters(memory, 1);

@@ -18,7 +18,8 @@ use Rattle.state.specs.declared.control.Modes.{Modes}
 use Rattle.state.specs.declared.answer.Refusal.the-variants.{Range, Absent}
 use Rattle.state.specs.declared.state.Drawn.{Drawn}
 use Rattle.state.specs.declared.state.Drawn.the-variants as drawn
-use Rattle.state.specs.Layout.{stateLength, roundedUp, inputRow, rowBase}
+use Rattle.state.specs.Layout.{stateLength, inputRow, rowBase}
+use Rattle.octets.specs.Part.{roundedUp}
 use Rattle.state.proofs.Choice.{either}
 use Rattle.rules.specs.declared.outcome.OutputsDeed.{OutputsDeed}
 use Rattle.rules.specs.declared.outcome.OutputsDeed.the-variants.{Keep, Publish, HoldBack, Release, Zeros}

@@ -11,7 +11,7 @@ use Rattle.state.specs.declared.setup.Setup.{Setup}
 use Rattle.state.specs.declared.state.State.{State}
 use Rattle.state.specs.Answer.{Called}
 use Rattle.state.specs.Image.{image}
-use Rattle.state.specs.Layout.{stateLength}
+use Rattle.state.specs.Layout.{imageLength}
 use Rattle.state.specs.Memory.{kept, Holds}
 use Rattle.state.specs.Sound.{Sound}
 use Rattle.steps.specs.Calls.{started, wellMemory, called, answers, memoryAfter}
@@ -42,7 +42,7 @@ safe-beat s m h (octet b bad) = safe-heard s m b bad h
 safe-beat s m h gap = safe-paused s m h
 safe-beat s m h tick = safe-elapsed s m h
 
--- it reads and writes only behind the state part
+-- it reads and writes only behind the image of the state
 alike-beat : (s : State) (m n : List ℕ) → Safe s m → Safe s n → behind m ≡ behind n → (x : Beat) → Alike (beat s m x) (beat s n x)
 alike-beat s m n h g e (octet b bad) = alike-heard s m n h g e b bad
 alike-beat s m n h g e gap = alike-paused s m n h g e
@@ -78,7 +78,7 @@ sound-beat s m h tick = step-sound s m call.tick h
 holds-beat : (p : List ℕ) (s : State) → Holds p s → (x : Beat) → Holds (kept (beat s p x .state) (beat s p x .memory)) (beat s p x .state)
 holds-beat p s h x =
     let safe = holds-safe p s h in
-    kept-holds (beat s p x .state) (beat s p x .memory) (sound-beat s p (h .sound) x) (safe-beat s p safe x .room)
+    kept-holds (beat s p x .state) (beat s p x .memory) (sound-beat s p (h .sound) x) (safe-beat s p safe x .channels)
 
 -- ---- all of them
 
@@ -99,7 +99,7 @@ beside-beat p s m b x =
       length-in = rw (kept-length (beat s p x .state) (beat s p x .memory) (rw e (b .holds .long)), e) (b .length-in);
       holds = subst (Holds (kept (beat s p x .state) (beat s p x .memory))) (a .states) (holds-beat p s (b .holds) x);
       safe = safe-beat s m (b .safe) x;
-      bodies = kept-drop (beat s p x .state) (beat s p x .memory) stateLength (omega arith) ∙ a .bodies;
+      bodies = kept-drop (beat s p x .state) (beat s p x .memory) imageLength (omega arith) ∙ a .bodies;
     }
 
 -- the run packed where it is
@@ -144,18 +144,18 @@ lent-image m s n h bs = ends bs m s m (record { length-in = n; holds = h; safe =
 
 -- ---- from a freshly started station
 
-module _ (m : List ℕ) (s : Setup) (slice : List ℕ) (long : s .«get_cfg_len» ≡ length slice) (zero : started m s slice .answer ≡ Value 0) where
-  same : (pre : List Call) (bs : List Beat) → Same (memoryAfter (memoryOf m s slice) pre) bs
+module _ (m : List ℕ) (s : Setup) (slice lengths : List ℕ) (long : s .«get_cfg_len» ≡ length slice) (zero : started m s slice lengths .answer ≡ Value 0) where
+  same : (pre : List Call) (bs : List Beat) → Same (memoryAfter (memoryOf m s slice lengths) pre) bs
   same pre bs =
-      let r = ready-after pre (memoryOf m s slice) (fresh s slice) (begins-ready m s slice long zero) in
-      lent-same (memoryAfter (memoryOf m s slice) pre) (record { length-in = r .length-in; state = r .state; holds = r .on .holds }) bs
+      let r = ready-after pre (memoryOf m s slice lengths) (fresh s slice) (begins-ready m s slice lengths long zero) in
+      lent-same (memoryAfter (memoryOf m s slice lengths) pre) (record { length-in = r .length-in; state = r .state; holds = r .on .holds }) bs
 
-  carried-over : CarriesOver m s slice
+  carried-over : CarriesOver m s slice lengths
   carried-over = record {
     same = same;
     agree = λ pre bs cs.
-        ap (λ (p : List ℕ). answers p cs) (same pre bs .image-is ∙ sym (memory-append (memoryOf m s slice) pre (calls bs)))
-        ∙ later m s slice long zero (pre ++ calls bs) cs;
+        ap (λ (p : List ℕ). answers p cs) (same pre bs .image-is ∙ sym (memory-append (memoryOf m s slice lengths) pre (calls bs)))
+        ∙ later m s slice lengths long zero (pre ++ calls bs) cs;
   }
 
 pub carries-over : Demand3CarriesOver

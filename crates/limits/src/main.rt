@@ -1,8 +1,10 @@
-// States with every field at an extreme value go through save and load; a memory with one octet changed, or with other lengths and less
-// room, is damaged or not.
+// States and channels with every field at an extreme value go through save and load; a memory with one octet changed, or with other lengths
+// and less room, is damaged or not.
 use buffers::events::Events;
 use buffers::quad::Quad;
 use buffers::triple::Triple;
+use channels::channel;
+use channels::channel::Channel;
 use libc::STDOUT_FILENO;
 use state::chain::Chain;
 use state::control::Control;
@@ -159,6 +161,31 @@ fn least() -> State {
     })
 }
 
+// The lengths of both buffers of a channel, and how many octets of each are in use.
+fn channel_of(
+    indication_len: u8,
+    response_len: u8,
+    indication_count: u8,
+    response_count: u8,
+) -> Channel {
+    Channel {
+        indication_len: indication_len,
+        response_len: response_len,
+        indication_count: indication_count,
+        response_count: response_count,
+    }
+}
+
+// The longest buffers, and both full.
+fn most_channel() -> Channel {
+    channel_of(240, 240, 240, 240)
+}
+
+// One that is not set up.
+fn no_channel() -> Channel {
+    channel_of(0, 0, 0, 0)
+}
+
 fn print_octet(octet: u8) {
     io::print_hex(STDOUT_FILENO, octet as u64, 2);
 }
@@ -172,21 +199,27 @@ fn print_octets(octets: &[u8]) {
     io::write_all(STDOUT_FILENO, b"\n");
 }
 
-// The state part.
+// The state part up to its last field, the channels' last row.
 fn print_front(mem: &[u8]) {
-    if 128 <= mem.len() {
-        print_octets(&mem[..128]);
+    if 192 <= mem.len() {
+        print_octets(&mem[..192]);
     }
 }
 
-// Saved, loaded, and what was loaded saved again.
-fn through(s: State) {
-    let mut mem = [0u8; 4096];
+// Saved, with the first and the last channel so, loaded, and what was loaded saved again.
+fn through(s: State, c: Channel) {
+    let mut mem = [0u8; 512];
     save(s, &mut mem);
+    channel::save(c, 0, &mut mem);
+    channel::save(c, 15, &mut mem);
     print_front(&mem);
     let loaded = unpack(&mem);
-    let mut again = [0u8; 4096];
+    let first = channel::load(&mem, 0);
+    let last = channel::load(&mem, 15);
+    let mut again = [0u8; 512];
     save(loaded, &mut again);
+    channel::save(first, 0, &mut again);
+    channel::save(last, 15, &mut again);
     print_front(&again);
 }
 
@@ -198,10 +231,12 @@ fn print_well(ok: bool) {
     }
 }
 
-// One octet changed.
+// One octet changed. Of the channels the first and the last are set up.
 fn changed(at: usize, octet: u8) {
-    let mut mem = [0u8; 4096];
+    let mut mem = [0u8; 5440];
     save(most(), &mut mem);
+    channel::save(most_channel(), 0, &mut mem);
+    channel::save(most_channel(), 15, &mut mem);
     octets::store(&mut mem, at, octet);
     print_well(holds_state(&mem));
 }
@@ -225,14 +260,81 @@ fn codes() {
     changed(55, 128);
 }
 
-// The octets that are not used, and one behind the state.
+// The two octets that are not used among the counts; those that belong to no field, which may have any value, before the rows of the channels
+// and behind them; and one behind the state part.
 fn unused() {
     changed(62, 1);
     changed(63, 1);
     changed(68, 1);
-    changed(96, 1);
-    changed(127, 1);
-    changed(128, 1);
+    changed(127, 255);
+    changed(192, 1);
+    changed(511, 255);
+    changed(512, 255);
+}
+
+// A row of the channels: the first channel's octet and the last one's.
+fn ends_of_row(at: usize, octet: u8) {
+    if at < 512 {
+        changed(at, octet);
+        changed(at + 15, octet);
+    }
+}
+
+// One octet of the channels that are full: a length too long, too short for its count, 0 beside one that is not; a count above the length,
+// and below it.
+fn full_channels() {
+    ends_of_row(128, 241);
+    ends_of_row(128, 239);
+    ends_of_row(128, 0);
+    ends_of_row(144, 241);
+    ends_of_row(144, 239);
+    ends_of_row(144, 0);
+    ends_of_row(160, 241);
+    ends_of_row(160, 239);
+    ends_of_row(176, 241);
+    ends_of_row(176, 0);
+}
+
+// One octet of channels that are not set up: channel 1 beside one that is, channels 4 and 11 among such as are not either.
+fn free_channels() {
+    changed(129, 4);
+    changed(145, 4);
+    changed(161, 1);
+    changed(177, 1);
+    changed(132, 4);
+    changed(155, 4);
+    changed(164, 1);
+    changed(187, 1);
+}
+
+// A channel, as the first one and as the last one.
+fn channel_alone(c: Channel) {
+    let mut first = [0u8; 1536];
+    save(least(), &mut first);
+    channel::save(c, 0, &mut first);
+    print_well(holds_state(&first));
+    let mut last = [0u8; 1536];
+    save(least(), &mut last);
+    channel::save(c, 15, &mut last);
+    print_well(holds_state(&last));
+}
+
+// Lengths and counts at their limits, and one past them.
+fn channels_alone() {
+    channel_alone(channel_of(4, 4, 0, 0));
+    channel_alone(channel_of(4, 4, 4, 4));
+    channel_alone(channel_of(4, 4, 5, 4));
+    channel_alone(channel_of(4, 4, 4, 5));
+    channel_alone(channel_of(3, 4, 0, 0));
+    channel_alone(channel_of(4, 3, 0, 0));
+    channel_alone(channel_of(4, 240, 4, 240));
+    channel_alone(channel_of(240, 4, 240, 4));
+    channel_alone(channel_of(241, 4, 0, 0));
+    channel_alone(channel_of(4, 241, 0, 0));
+    channel_alone(channel_of(4, 0, 0, 0));
+    channel_alone(channel_of(0, 4, 0, 0));
+    channel_alone(channel_of(0, 0, 1, 0));
+    channel_alone(channel_of(0, 0, 0, 1));
 }
 
 // The ticks that remain and what they are refilled to: any octet, at the low end of each and at the high end.
@@ -267,9 +369,9 @@ fn in_front(mem: &[u8], len: usize) {
     }
 }
 
-// As Start leaves it with all six lengths n, in a memory of 1,536 octets and in one of eight fewer.
-fn room(n: u8) {
-    let mut mem = [0u8; 1536];
+// As Start leaves it with all six lengths n and the last channel so, in a memory of so many octets and in one of eight fewer.
+fn room(n: u8, c: Channel, len: usize) {
+    let mut mem = [0u8; 4992];
     let s = state::start::initial(Setup {
         address: 126,
         ident: 0,
@@ -281,8 +383,28 @@ fn room(n: u8) {
         get_cfg_len: n,
     });
     save(s, &mut mem);
-    in_front(&mem, 1536);
-    in_front(&mem, 1528);
+    channel::save(c, 15, &mut mem);
+    in_front(&mem, len);
+    if 8 <= len {
+        in_front(&mem, len - 8);
+    }
+}
+
+// 64 ends at 1,536; 56 and 7 well before; 65 at 1,664; 244 at 4,480; 6 is no length of parameters. Channels of 4 and 4 end 16 octets behind,
+// of 9 and 7 24, of 240 and 240 480.
+fn rooms() {
+    room(64, no_channel(), 1536);
+    room(56, no_channel(), 1536);
+    room(7, no_channel(), 1536);
+    room(65, no_channel(), 1536);
+    room(65, no_channel(), 1664);
+    room(244, no_channel(), 4480);
+    room(6, no_channel(), 1536);
+    room(64, channel_of(4, 4, 0, 0), 1552);
+    room(64, channel_of(9, 7, 0, 0), 1560);
+    room(7, most_channel(), 1120);
+    room(65, most_channel(), 2144);
+    room(244, most_channel(), 4960);
 }
 
 // As Start leaves it with these lengths of outputs and inputs, beside short ones and beside a long one.
@@ -292,7 +414,7 @@ fn sides(outputs: u8, inputs: u8) {
 }
 
 fn side(outputs: u8, inputs: u8, parameters: u8) {
-    let mut mem = [0u8; 4096];
+    let mut mem = [0u8; 4480];
     let s = state::start::initial(Setup {
         address: 126,
         ident: 0,
@@ -308,8 +430,8 @@ fn side(outputs: u8, inputs: u8, parameters: u8) {
 }
 
 fn main() {
-    through(most());
-    through(least());
+    through(most(), most_channel());
+    through(least(), channel_of(4, 4, 0, 0));
     codes();
     // an owner is any octet; a length and a count are not
     changed(0, 200);
@@ -327,11 +449,8 @@ fn main() {
     unused();
     ticks();
     counts();
-    // 88 ends at 1,536; 80 and 7 well before; 89 and 244 behind; 6 is no length of parameters
-    room(88);
-    room(80);
-    room(7);
-    room(89);
-    room(244);
-    room(6);
+    full_channels();
+    free_channels();
+    channels_alone();
+    rooms();
 }

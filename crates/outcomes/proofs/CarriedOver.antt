@@ -13,8 +13,9 @@ use Rattle.state.specs.declared.state.Outputs.{Outputs}
 use Rattle.state.specs.declared.state.Sets.{Sets}
 use Rattle.state.specs.declared.state.State.{State}
 use Rattle.state.specs.Image.{image}
-use Rattle.state.specs.Layout.{stateLength, outputRow, endOf}
-use Rattle.state.specs.Memory.{kept, Holds, Changes}
+use Rattle.state.specs.Layout.{imageLength, outputRow}
+use Rattle.state.specs.Memory.{kept, Channelled, Holds, Changes}
+use Rattle.state.proofs.Channelled.{kept-channelled}
 use Rattle.state.specs.Unpack.{unpacked}
 use Rattle.state.specs.With.{withControl, withControlButChain, withOutputs, withInputs, withParameters, withConfiguration}
 use Rattle.state.proofs.Damage.{fronted-same}
@@ -39,7 +40,7 @@ pub put : {A : Type 0} (part : State → A → State) {m n : List ℕ} {x y : A}
 put {A} part {m} p e s f = p s f ∙ ap (λ (z : A). kept (part s z) m) e
 
 -- zeros in a buffer leave the state part
-buffers-front : (d : OutputsDeed) (s : State) (m : List ℕ) → Safe s m → take stateLength (onMemory d s m) ≡ take stateLength m
+buffers-front : (d : OutputsDeed) (s : State) (m : List ℕ) → Safe s m → take imageLength (onMemory d s m) ≡ take imageLength m
 buffers-front outputs-deed.Keep s m safe = refl
 buffers-front outputs-deed.Publish s m safe = refl
 buffers-front outputs-deed.HoldBack s m safe = refl
@@ -48,7 +49,7 @@ buffers-front outputs-deed.Zeros s m safe =
     let k = nextOf (s .outputs .set .place) in
     let long = safe-long s m safe in
     let room = buffer-room s m outputRow k safe (safe .outputs .within role.next (omega arith)) in
-    pasted-take m _ _ stateLength (inside (s .setup) outputRow k 0 (safe .outputs .within role.next (omega arith)) (omega arith) .0) (omega arith)
+    pasted-take m _ _ imageLength (inside (s .setup) outputRow k 0 (safe .outputs .within role.next (omega arith)) (omega arith) .0) (omega arith)
 
 -- and which buffer it is does not depend on the control part
 buffers-apart : (d : OutputsDeed) (s : State) (c : Control) (m : List ℕ) → onMemory d (withControl s c) m ≡ onMemory d s m
@@ -72,11 +73,11 @@ module _ (m : List ℕ) (s : State) (o : Outcome) (count : ℕ) (h : Holds m s) 
 
   -- and so do the buffers,
   same-body : behind n₀ ≡ behind m
-  same-body = ap behind e₀ ∙ kept-drop s₀ m stateLength (omega arith)
+  same-body = ap behind e₀ ∙ kept-drop s₀ m imageLength (omega arith)
 
   -- in their room
   still-safe : Safe s n₀
-  still-safe = sound-safe n₀ s (h .sound) (subst (λ (k : ℕ). endOf (s .setup) ≤ k) (sym (ap length e₀ ∙ kept-length s₀ m (h .long))) (h .room))
+  still-safe = sound-safe n₀ s (h .sound) (subst (λ (l : List ℕ). Channelled l (s .setup)) (sym e₀) (kept-channelled s₀ m (s .setup) (h .room)))
 
   -- so the buffers may come next
   pub safe-then : Safe (unpacked n₀) n₀
@@ -91,6 +92,7 @@ module _ (m : List ℕ) (s : State) (o : Outcome) (count : ℕ) (h : Holds m s) 
         reply = safe .reply;
         long = safe .long;
         room = safe .room;
+        channels = safe .channels;
       })
 
   -- then the sets, each as it is read from the memory
@@ -113,9 +115,9 @@ module _ (m : List ℕ) (s : State) (o : Outcome) (count : ℕ) (h : Holds m s) 
       let body : behind n₁ ≡ behind (onMemory (o .outputs) s m) =
       ap behind zeroed ∙ alike-carried s n₀ m safe (holds-safe m s h) same-body o count .bodies in
       let e₁ : n₁ ≡ kept s₀ n₁ =
-      sym (take-append-drop stateLength n₁)
+      sym (take-append-drop imageLength n₁)
       ∙ ap (λ (l : List ℕ). l ++ behind n₁)
-      (ap (take stateLength) zeroed ∙ buffers-front (o .outputs) s n₀ safe ∙ ap (take stateLength) e₀ ∙ kept-take s₀ m) in
+      (ap (take imageLength) zeroed ∙ buffers-front (o .outputs) s n₀ safe ∙ ap (take imageLength) e₀ ∙ kept-take s₀ m) in
       let eo : outputs ≡ s .outputs = ro ∙ outputs-read s s₀ n₁ (h .sound) refl e₁ in
       let s₂ : State = withOutputs s₀ (onOutputs (o .outputs) outputs) in
       let e₂ : n₂ ≡ kept s₂ n₁ = p₂ s₀ (sym eo) e₁ in

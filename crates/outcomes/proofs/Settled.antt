@@ -9,8 +9,8 @@ use Rattle.state.specs.declared.control.Control.{Control}
 use Rattle.state.specs.declared.control.Diagnosis.{Diagnosis}
 use Rattle.state.specs.declared.state.Drawn.the-variants.{Nothing}
 use Rattle.state.specs.declared.state.State.{State}
-use Rattle.state.specs.Layout.{stateLength, endOf}
-use Rattle.state.specs.Memory.{kept, Holds}
+use Rattle.state.specs.Layout.{imageLength}
+use Rattle.state.specs.Memory.{kept, Channelled, Holds}
 use Rattle.state.specs.Sound.{Sound}
 use Rattle.state.specs.Unpack.{unpacked}
 use Rattle.state.proofs.Choice.{by-test}
@@ -37,7 +37,7 @@ use Rattle.steps.proofs.NothingWaits.{idle}
 -- the sound state t stands in n, and behind it n is m, which has room for its buffers
 pub record Fronts (t : State) (m n : List ℕ) : Type 0 where
   pub sound : Sound t
-  pub room : endOf (t .setup) ≤ length m
+  pub room : Channelled m (t .setup)
   pub front : n ≡ kept t m
 
 module _ {t : State} {m n : List ℕ} (f : Fronts t m n) where
@@ -53,7 +53,7 @@ module _ {t : State} {m n : List ℕ} (f : Fronts t m n) where
 
   -- and is m behind it
   same-behind : behind n ≡ behind m
-  same-behind = ap behind (f .front) ∙ kept-drop t m stateLength (omega arith)
+  same-behind = ap behind (f .front) ∙ kept-drop t m imageLength (omega arith)
 
   -- so an outcome carried out on n is that on m,
   carried-front : (o : Outcome) → packedAfter (carried t n o 0) ≡ packedAfter (carried t m o 0)
@@ -118,7 +118,7 @@ module _ (s : State) (m : List ℕ) where
 
   module _ (h : Holds m s) {n : List ℕ} (caught : n ≡ kept (afterReply s) m) where
     pub caught-fronts : Fronts (afterReply s) m n
-    caught-fronts = record { sound = sound-after-reply s (h .sound); room = safe-after-reply s m (holds-safe m s h) .room; front = caught }
+    caught-fronts = record { sound = sound-after-reply s (h .sound); room = safe-after-reply s m (holds-safe m s h) .channels; front = caught }
 
     -- the diagnosis first, then the clear
     pub settles : {out : List ℕ} → out ≡ packedAfter (carried (unpacked n) n (clearNoted (busy (unpacked n)) (unpacked n .control)) 0)

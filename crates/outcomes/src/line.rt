@@ -8,7 +8,7 @@ ghost use Prim.Native.Nat.{_≤_};
 ghost use mathlib.Core.Bool.{_||_};
 ghost use mathlib.Core.Path.{_≡_};
 ghost use lib.ListN.{length};
-ghost use Rattle.state.specs.Layout.{stateLength};
+ghost use Rattle.state.specs.Layout.{imageLength};
 ghost use Rattle.state.specs.Unpack.{unpacked};
 ghost use Rattle.rules.specs.Diagnosis.{delayed};
 ghost use Rattle.steps.specs.Line.{isInside, begun, busy, diagnosisLeaves};
@@ -52,7 +52,7 @@ pub fn diagnosis_leaves(s: State) -> bool
 
 // The same over the memory.
 pub fn busy_in(mem: &[u8]) -> bool
-    requires { ⌜ stateLength ≤ length (now mem) ⌝ }
+    requires { ⌜ imageLength ≤ length (now mem) ⌝ }
     ensures { λ r. ⌜ r ≡ busy (unpacked (now (mem .entry))) ⌝ }
 {
     let incoming = load::incoming(mem);
@@ -64,7 +64,7 @@ pub fn busy_in(mem: &[u8]) -> bool
 
 // A Slave_Diag reply is unfinished, over the memory.
 pub fn diagnosis_leaves_in(mem: &[u8]) -> bool
-    requires { ⌜ stateLength ≤ length (now mem) ⌝ }
+    requires { ⌜ imageLength ≤ length (now mem) ⌝ }
     ensures { λ r. ⌜ r ≡ diagnosisLeaves (unpacked (now (mem .entry))) ⌝ }
 {
     let reply = load::reply(mem);
@@ -75,7 +75,7 @@ pub fn diagnosis_leaves_in(mem: &[u8]) -> bool
 
 // Whether a diagnosis is delayed or a clear noted.
 pub fn waits(mem: &[u8]) -> bool
-    requires { ⌜ stateLength ≤ length (now mem) ⌝ }
+    requires { ⌜ imageLength ≤ length (now mem) ⌝ }
     ensures { λ r. ⌜ r ≡ delayed (unpacked (now (mem .entry)) .control) || unpacked (now (mem .entry)) .control .noted ⌝ }
 {
     is_delayed(load::diagnosis(mem)) | load::noted(mem)

@@ -20,7 +20,7 @@ ghost use Prim.Native.Nat.{_≤_};
 ghost use mathlib.Core.Path.{_≡_};
 ghost use lib.ListN.{length};
 ghost use Rattle.state.specs.declared.state.State.{State};
-ghost use Rattle.state.specs.Layout.{stateLength};
+ghost use Rattle.state.specs.Layout.{imageLength};
 ghost use Rattle.state.specs.Memory.{kept, Holds};
 ghost use Rattle.state.specs.Unpack.{unpacked};
 ghost use Rattle.state.specs.With.{withOutputs, withInputs, withParameters, withConfiguration};
@@ -56,7 +56,7 @@ fn carry_buffers(deed: OutputsDeed, mem: &mut [u8])
 
 // What becomes of the output set, which was `outputs`.
 fn put_outputs(deed: OutputsDeed, outputs: Outputs, mem: &mut [u8])
-    requires { ⌜ stateLength ≤ length (now mem) ⌝ }
+    requires { ⌜ imageLength ≤ length (now mem) ⌝ }
     ensures { λ _. ⌜ ((s : State) → s .outputs ≡ outputs → now (mem .entry) ≡ kept s (now (mem .entry)) → now (mem .exit) ≡ kept (withOutputs s (onOutputs deed outputs)) (now (mem .entry))) ⌝ }
 {
     match deed {
@@ -70,7 +70,7 @@ fn put_outputs(deed: OutputsDeed, outputs: Outputs, mem: &mut [u8])
 
 // Of the input set, which was `inputs`.
 fn put_inputs(deed: InputsDeed, inputs: Triple, mem: &mut [u8])
-    requires { ⌜ stateLength ≤ length (now mem) ⌝ }
+    requires { ⌜ imageLength ≤ length (now mem) ⌝ }
     ensures { λ _. ⌜ ((s : State) → s .inputs ≡ inputs → now (mem .entry) ≡ kept s (now (mem .entry)) → now (mem .exit) ≡ kept (withInputs s (onInputs deed inputs)) (now (mem .entry))) ⌝ }
 {
     match deed {
@@ -81,7 +81,7 @@ fn put_inputs(deed: InputsDeed, inputs: Triple, mem: &mut [u8])
 
 // Of the parameters received, which were `sets`.
 fn put_parameters(deed: SetDeed, sets: Sets, count: u8, mem: &mut [u8])
-    requires { ⌜ stateLength ≤ length (now mem) ⌝ }
+    requires { ⌜ imageLength ≤ length (now mem) ⌝ }
     ensures { λ _. ⌜ ((s : State) → s .parameters ≡ sets → now (mem .entry) ≡ kept s (now (mem .entry)) → now (mem .exit) ≡ kept (withParameters s (onSets deed sets count)) (now (mem .entry))) ⌝ }
 {
     match deed {
@@ -94,7 +94,7 @@ fn put_parameters(deed: SetDeed, sets: Sets, count: u8, mem: &mut [u8])
 
 // Of the configuration received, which was `sets`.
 fn put_configuration(deed: SetDeed, sets: Sets, count: u8, mem: &mut [u8])
-    requires { ⌜ stateLength ≤ length (now mem) ⌝ }
+    requires { ⌜ imageLength ≤ length (now mem) ⌝ }
     ensures { λ _. ⌜ ((s : State) → s .configuration ≡ sets → now (mem .entry) ≡ kept s (now (mem .entry)) → now (mem .exit) ≡ kept (withConfiguration s (onSets deed sets count)) (now (mem .entry))) ⌝ }
 {
     match deed {

@@ -14,7 +14,7 @@ ghost use Prim.Native.Nat.{_≤_};
 ghost use mathlib.Core.Path.{_≡_};
 ghost use lib.ListN.{length};
 ghost use Rattle.state.specs.declared.state.State.{State};
-ghost use Rattle.state.specs.Layout.{stateLength};
+ghost use Rattle.state.specs.Layout.{imageLength};
 ghost use Rattle.state.specs.Memory.{kept, Holds};
 ghost use Rattle.state.specs.Unpack.{unpacked};
 ghost use Rattle.rules.specs.Control.{withChain};
@@ -25,7 +25,7 @@ ghost use Rattle.steps.specs.Outcome.{carried, diagnosisChanged, afterReply, se
 
 // The two diagnosis buffers change, with that control part but for its chain.
 pub fn change_diagnosis(mem: &mut [u8], control: Control)
-    requires { ⌜ stateLength ≤ length (now mem) ⌝ }
+    requires { ⌜ imageLength ≤ length (now mem) ⌝ }
     ensures { λ _. ⌜ ((s : State) → unpacked (now (mem .entry)) ≡ s → now (mem .entry) ≡ kept s (now (mem .entry)) → now (mem .exit) ≡ kept (diagnosisChanged s (withChain control (s .control .chain))) (now (mem .entry))) ⌝ }
 {
     let swapped = load::swapped(&mem[..]);

@@ -1,2 +1,3 @@
 pub mod Words
 pub mod Limits
+pub mod Halves

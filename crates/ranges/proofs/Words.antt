@@ -3,7 +3,7 @@ use Prim.Native.Nat.{ℕ, zero, suc, _+_, _*_, _/_, _%_, _^_, _≤_, _<_}
 use native.Mathlib.Numerals.{add-one}
 use native.Mathlib.Omega.{arith}
 use mathlib.Core.Path.{_≡_, refl, sym, ap, ap₂, _∙_}
-use mathlib.Core.Bool.{_&&_, and-assoc}
+use mathlib.Core.Bool.{Bool, _&&_, and-assoc}
 use mathlib.Core.List.{List, [], _∷_, _++_}
 use lib.Dec.{leb, ltb, eqb, lit≤}
 use lib.ListN.{length, take, drop, getD, replicate, length-replicate, replicate-append-replicate}
@@ -51,7 +51,7 @@ joined a b c d e f g h a< b< c< d< e< f< g< h< =
 -- ---- a part of a memory
 
 -- its first octet and the rest
-part-cons : (m : List ℕ) (at k : ℕ) → at < length m → part m at (suc k) ≡ getD m at 0 ∷ part m (at + 1) k
+pub part-cons : (m : List ℕ) (at k : ℕ) → at < length m → part m at (suc k) ≡ getD m at 0 ∷ part m (at + 1) k
 part-cons m at k h = ap (take (suc k)) (drop-cons m at 0 h) ∙ ap (λ n. getD m at 0 ∷ take k (drop n m)) (sym (add-one at))
 
 -- the same from a place that is counted on
@@ -168,32 +168,40 @@ behind-first m at k small h =
 pub half-none : (m : List ℕ) (at r : ℕ) → at + 4 ≤ length m → r ≡ number (part m at 4) → eqb r 0 ≡ atMost (part m at 4) (replicate 4 0)
 half-none m at r h e = ap (λ x. eqb x 0) e ∙ all-zero (part m at 4) ∙ ap (λ n. atMost (part m at 4) (replicate n 0)) (part-length m at 4 h)
 
--- words that are 0 exactly if two parts of a memory are, one behind the other, are both 0 exactly if the part that these make is
-joined-none : (m : List ℕ) (at j k x y : ℕ) → at + j ≤ length m
+-- two parts of a memory, one behind the other, are 0 exactly if the part that they make is
+pub none-joined : (m : List ℕ) (at j k : ℕ) → at + j ≤ length m
+    → (atMost (part m at j) (replicate j 0) && atMost (part m (at + j) k) (replicate k 0)) ≡ atMost (part m at (j + k)) (replicate (j + k) 0)
+none-joined m at j k h =
+    sym (at-most-append (part m at j) (replicate j 0) (part m (at + j) k) (replicate k 0) (part-length m at j h ∙ sym (length-replicate {A = ℕ} j 0)))
+    ∙ ap₂ atMost (sym (take-add j k (drop at m) ∙ ap (λ l. part m at j ++ take k l) (drop-drop j at m))) (replicate-append-replicate {A = ℕ} j k 0)
+
+-- and so are words that are 0 exactly if these are
+pub joined-none : (m : List ℕ) (at j k x y : ℕ) → at + j ≤ length m
     → eqb x 0 ≡ atMost (part m at j) (replicate j 0)
     → eqb y 0 ≡ atMost (part m (at + j) k) (replicate k 0)
     → eqb (bitOr x y) 0 ≡ atMost (part m at (j + k)) (replicate (j + k) 0)
 joined-none m at j k x y h p q =
     or-zero x y
     ∙ ap₂ _&&_ p q
-    ∙ sym (at-most-append (part m at j) (replicate j 0) (part m (at + j) k) (replicate k 0) (part-length m at j h ∙ sym (length-replicate {A = ℕ} j 0)))
-    ∙ ap₂ atMost (sym (take-add j k (drop at m) ∙ ap (λ l. part m at j ++ take k l) (drop-drop j at m))) (replicate-append-replicate {A = ℕ} j k 0)
+    ∙ none-joined m at j k h
 
--- and so are three for parts of one length
-pub three-none : (m : List ℕ) (at n w x y : ℕ) → at + (n + n) ≤ length m
+-- and so are four for parts of one length
+pub four-none : (m : List ℕ) (at n w x y z : ℕ) → at + (n + n + n) ≤ length m
     → eqb w 0 ≡ atMost (part m at n) (replicate n 0)
     → eqb x 0 ≡ atMost (part m (at + n) n) (replicate n 0)
     → eqb y 0 ≡ atMost (part m (at + (n + n)) n) (replicate n 0)
-    → eqb (bitOr (bitOr w x) y) 0 ≡ atMost (part m at (n + n + n)) (replicate (n + n + n) 0)
-three-none m at n w x y h p q r =
-    joined-none m at (n + n) n (bitOr w x) y h (joined-none m at n n w x (omega arith) p q) r
+    → eqb z 0 ≡ atMost (part m (at + (n + n + n)) n) (replicate n 0)
+    → eqb (bitOr (bitOr (bitOr w x) y) z) 0 ≡ atMost (part m at (n + n + n + n)) (replicate (n + n + n + n) 0)
+four-none m at n w x y z h p q r s = joined-none m at (n + n + n) n (bitOr (bitOr w x) y) z h three s
+  where
+    three : eqb (bitOr (bitOr w x) y) 0 ≡ atMost (part m at (n + n + n)) (replicate (n + n + n) 0)
+    three = joined-none m at (n + n) n (bitOr w x) y (omega arith) (joined-none m at n n w x (omega arith) p q) r
 
--- and a fourth behind them for a part of any length
-pub four-none : (m : List ℕ) (at n k w x y z : ℕ) → at + (n + n + n) ≤ length m
-    → eqb w 0 ≡ atMost (part m at n) (replicate n 0)
-    → eqb x 0 ≡ atMost (part m (at + n) n) (replicate n 0)
-    → eqb y 0 ≡ atMost (part m (at + (n + n)) n) (replicate n 0)
-    → eqb z 0 ≡ atMost (part m (at + (n + n + n)) k) (replicate k 0)
-    → eqb (bitOr (bitOr (bitOr w x) y) z) 0 ≡ atMost (part m at (n + n + n + k)) (replicate (n + n + n + k) 0)
-four-none m at n k w x y z h p q r s =
-    joined-none m at (n + n + n) k (bitOr (bitOr w x) y) z h (three-none m at n w x y (omega arith) p q r) s
+-- an or of four is 0 exactly if each of them is
+pub or-four : (w x y z : ℕ) {p q r s : Bool} → eqb w 0 ≡ p → eqb x 0 ≡ q → eqb y 0 ≡ r → eqb z 0 ≡ s
+    → eqb (bitOr (bitOr (bitOr w x) y) z) 0 ≡ (p && (q && (r && s)))
+or-four w x y z {p = p} {q = q} {r = r} {s = s} a b c d =
+    or-zero (bitOr (bitOr w x) y) z
+    ∙ ap₂ _&&_ (or-zero (bitOr w x) y ∙ ap₂ _&&_ (or-zero w x ∙ ap₂ _&&_ a b) c) d
+    ∙ and-assoc (p && q) r s
+    ∙ and-assoc p q (r && s)

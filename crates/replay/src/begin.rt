@@ -1,4 +1,4 @@
-// The line of a Start: its numbers, its slice, and the fresh memory that it begins on.
+// The line of a Start: its numbers, its slice, the lengths of the channels, and the fresh memory that it begins on.
 use crate::call::Said;
 use crate::text;
 use crate::text::Span;
@@ -10,7 +10,7 @@ struct Field {
     end: usize,
 }
 
-// What the line asks for, and where the digits of its slice stand.
+// What the line asks for, and where the digits of its slice and of the channels' lengths stand.
 struct Asked {
     ok: bool,
     memory: u32,
@@ -22,6 +22,7 @@ struct Asked {
     configuration: u32,
     diagnosis: u32,
     slice: Span,
+    channels: Span,
 }
 
 // What a Start said, and the length of the memory from then on.
@@ -51,7 +52,8 @@ fn words(source: &[u8], from: usize, end: usize) -> Asked {
     let configuration = field_at(source, parameters.end, end);
     let diagnosis = field_at(source, configuration.end, end);
     let slice = text::word(source, diagnosis.end, end);
-    let rest = text::word(source, slice.to, end);
+    let channels = text::word(source, slice.to, end);
+    let rest = text::word(source, channels.to, end);
     Asked {
         ok: memory.ok
             & address.ok
@@ -71,16 +73,27 @@ fn words(source: &[u8], from: usize, end: usize) -> Asked {
         configuration: configuration.value,
         diagnosis: diagnosis.value,
         slice: slice,
+        channels: channels,
     }
 }
 
-// Start on the front of a memory, with the front of the octets as its slice.
-fn start_on(mem: &mut [u8], len: usize, asked: Asked, octets: &[u8], count: u32) -> Said {
+// Start on the front of a memory, with the front of some octets as its slice and the front of others as the channels' lengths.
+fn start_on(
+    mem: &mut [u8],
+    len: usize,
+    asked: Asked,
+    slice: &[u8],
+    count: usize,
+    channels: &[u8],
+    lengths: usize,
+) -> Said {
     if 65535 < asked.ident {
         return Said::Unknown;
     }
-    let count = count as usize;
-    if octets.len() < count {
+    if slice.len() < count {
+        return Said::Unknown;
+    }
+    if channels.len() < lengths {
         return Said::Unknown;
     }
     if mem.len() < len {
@@ -95,7 +108,8 @@ fn start_on(mem: &mut [u8], len: usize, asked: Asked, octets: &[u8], count: u32)
         asked.parameters,
         asked.configuration,
         asked.diagnosis,
-        &octets[..count],
+        &slice[..count],
+        &channels[..lengths],
     ))
 }
 
@@ -117,17 +131,27 @@ fn accepted(said: Said) -> bool {
 // A Start that is accepted puts a fresh memory in place of the old; any other leaves it.
 pub fn begin(memory: &mut [u8], len: usize, source: &[u8], from: usize, end: usize) -> Begun {
     let asked = words(source, from, end);
-    let mut octets = [0u8; 256];
-    let count = text::octets(source, asked.slice, &mut octets);
-    if !(asked.ok & count.ok & (asked.memory <= 4096)) {
+    let mut slice = [0u8; 256];
+    let count = text::octets(source, asked.slice, &mut slice);
+    let mut channels = [0u8; 256];
+    let lengths = text::octets(source, asked.channels, &mut channels);
+    if !(asked.ok & count.ok & lengths.ok & (asked.memory <= 16384)) {
         return Begun {
             said: Said::Unknown,
             len: len,
         };
     }
-    let mut scratch = [0u8; 4096];
+    let mut scratch = [0u8; 16384];
     let fresh = asked.memory as usize;
-    let said = start_on(&mut scratch, fresh, asked, &octets, count.value);
+    let said = start_on(
+        &mut scratch,
+        fresh,
+        asked,
+        &slice,
+        count.value as usize,
+        &channels,
+        lengths.value as usize,
+    );
     if !accepted(said) {
         return Begun {
             said: said,

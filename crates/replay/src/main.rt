@@ -1,13 +1,14 @@
 // Reads a list of calls, one to a line, makes each by its exported function and writes what it answers: a value, or a refusal's number
 // negated.
 // Numbers are decimal, octets two hexadecimal digits. Empty lines and lines that begin with # are skipped.
-//   start MEMORY ADDRESS IDENT OUTPUTS INPUTS PARAMETERS CONFIGURATION DIAGNOSIS SLICE
+//   start MEMORY ADDRESS IDENT OUTPUTS INPUTS PARAMETERS CONFIGURATION DIAGNOSIS SLICE CHANNELS
 //   octet XX, bad XX, gap, send, tick
 //   take, read KIND INDEX, write KIND INDEX XX, handover, diag COUNT FLAGS, judgeprm J, judgecfg J
 //   events, ack MASK, pending, leave
 //   winread O ADDRESS, winwrite O ADDRESS XX: O is i for Intel's order, m for Motorola's
-// The memory has at most 4,096 octets; the slice is a row of octets, or - for none. A Start that is refused leaves the
-// station as it was. Before the first that is accepted the memory is empty, which every other call refuses as damaged.
+// The memory has at most 16,384 octets; the slice that Get_Cfg sends and the lengths of the channels are each a row of octets, or - for
+// none. A Start that is refused leaves the station as it was. Before the first that is accepted the memory is empty, which every other call
+// refuses as damaged.
 // A line that is none of these gets a question mark and its number.
 mod begin;
 mod call;
@@ -99,7 +100,7 @@ fn replay(memory: &mut [u8], source: &[u8]) {
 fn main() {
     let mut buffer = io::large_buffer();
     let n = io::read_full(STDIN_FILENO, &mut buffer);
-    let mut memory = [0u8; 4096];
+    let mut memory = [0u8; 16384];
     replay(&mut memory, &buffer[..n]);
     let mut more = [0u8; 1];
     if 0 < io::read_full(STDIN_FILENO, &mut more) {

@@ -2,16 +2,18 @@
 use Prim.Native.Nat.{ℕ, _≤_}
 use native.Mathlib.Omega.{arith}
 use mathlib.Core.Path.{_≡_, refl}
-use mathlib.Core.Bool.{Bool, true, false, not, cond}
-use mathlib.Core.List.{[], _∷_}
+use mathlib.Core.Bool.{Bool, true, false, not, cond, _&&_}
+use mathlib.Core.List.{List, [], _∷_}
 use lib.Dec.{ltb}
 use borrow.Author.Tests.{leb-true, le-leb, ltb-false, le-ltb}
+use Rattle.channels.specs.Setting as channel
 use Rattle.state.specs.declared.answer.Refusal.the-variants.{Address, Length}
 use Rattle.state.specs.declared.setup.Setup.{Setup}
 use Rattle.state.specs.declared.start.Asked.the-variants.{Accepted, Declined}
 use Rattle.state.specs.Sound.{Ranged}
 use Rattle.state.specs.Start.{lengthsOk, asked}
 use Rattle.state.specs.Well.{all, lengthTests}
+use Rattle.state.proofs.Choice.{and-left, and-right}
 use Rattle.state.proofs.Tests.{all-at, within-true, within-holds, not-both-true, not-both-holds}
 
 pub tests-ranged : (s : Setup) → s .address ≤ 126 → all (lengthTests s) ≡ true → Ranged s
@@ -46,21 +48,26 @@ lengths-hold s r =
     ∷ [])
 
 -- what is accepted is what was given, in its ranges
-pub record Accepts (s t : Setup) : Type 0 where
+pub record Accepts (s t : Setup) (lengths : List ℕ) : Type 0 where
   pub same : t ≡ s
   pub ranged : Ranged s
+  pub channels : channel.lengthsOk lengths ≡ true
 
-pub accepts : (s t : Setup) → asked s ≡ Accepted t → Accepts s t
+pub accepts : (s t : Setup) (lengths : List ℕ) → asked s lengths ≡ Accepted t → Accepts s t lengths
 unfolding asked
-accepts s t h = go (ltb 126 (s .address)) refl (lengthsOk s) refl h
+accepts s t lengths h = go (ltb 126 (s .address)) refl (lengthsOk s && channel.lengthsOk lengths) refl h
   where
-    go : (p : Bool) → ltb 126 (s .address) ≡ p → (q : Bool) → lengthsOk s ≡ q
-        → cond p (Declined Address) (cond (not q) (Declined Length) (Accepted s)) ≡ Accepted t → Accepts s t
+    go : (p : Bool) → ltb 126 (s .address) ≡ p → (q : Bool) → (lengthsOk s && channel.lengthsOk lengths) ≡ q
+        → cond p (Declined Address) (cond (not q) (Declined Length) (Accepted s)) ≡ Accepted t → Accepts s t lengths
     go true e q f g = absurd (let z : _≡_ {A = ℕ} 0 1 = cc in omega arith)
     go false e false f g = absurd (let z : _≡_ {A = ℕ} 0 1 = cc in omega arith)
-    go false e true f g = record { same = cc; ranged = lengths-ranged s (ltb-false 126 (s .address) e) f }
+    go false e true f g = record {
+      same = cc;
+      ranged = lengths-ranged s (ltb-false 126 (s .address) e) (and-left (lengthsOk s) (channel.lengthsOk lengths) f);
+      channels = and-right (lengthsOk s) (channel.lengthsOk lengths) f;
+    }
 
 -- and what is in its ranges is accepted
-pub ranged-asked : (s : Setup) → Ranged s → asked s ≡ Accepted s
+pub ranged-asked : (s : Setup) (lengths : List ℕ) → Ranged s → channel.lengthsOk lengths ≡ true → asked s lengths ≡ Accepted s
 unfolding asked lengthsOk
-ranged-asked s r = simp (le-ltb 126 (s .address) (r .address), lengths-hold s r)
+ranged-asked s lengths r c = simp (le-ltb 126 (s .address) (r .address), lengths-hold s r, c)

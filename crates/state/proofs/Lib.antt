@@ -12,6 +12,7 @@ pub mod ShortLengths
 pub mod Codes
 pub mod Asking
 pub mod Front
+pub mod Channelled
 pub mod Wiped
 pub mod LaidOut
 pub mod Damage

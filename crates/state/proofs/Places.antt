@@ -8,9 +8,12 @@ use mathlib.Core.Logic.{_⊎_, inl, inr}
 use lib.ListN.{length, List·getD-eq-default}
 use lib.Dec.{ltb}
 use borrow.Author.Tests.{ltb-true, ltb-false}
+use Rattle.octets.specs.Part.{roundedUp}
 use Rattle.octets.proofs.Parts.{places-apart}
+use Rattle.channels.specs.Places.{Lengths, roomFrom}
+use Rattle.channels.proofs.Room.{rounded-small}
 use Rattle.state.specs.declared.setup.Setup.{Setup}
-use Rattle.state.specs.Layout.{stateLength, roundedUp, rowCounts, rowCount, rowLength, getCfgRow, rowBase, startOf, getCfgAt, endOf, BuffersEnd}
+use Rattle.state.specs.Layout.{stateLength, imageLength, rowCounts, rowCount, rowLength, getCfgRow, rowBase, startOf, getCfgAt, endOf, lastEnd, BuffersEnd}
 
 -- a length is at most what it is rounded up to
 pub rounded-le : (n : ℕ) → n ≤ roundedUp n
@@ -46,7 +49,7 @@ known a i h = go (ltb a (length rowCounts)) refl
         let z = List·getD-eq-default rowCounts 0 u in
         omega arith
 
--- the first buffer begins behind the state
+-- the first buffer begins behind the state part
 behind : (s : Setup) (a : ℕ) → stateLength ≤ rowBase s a
 unfolding rowBase
 behind s zero = omega arith
@@ -69,26 +72,36 @@ pub in-front : (s : Setup) (a b i n : ℕ) → a < b → i < rowCount a → n �
 in-front s a b i n o h g = let r = rounded-le (rowLength s a) in rounded-in-front s a b i n o h (omega arith)
 
 -- every buffer lies behind the state and in front of the end
-pub inside : (s : Setup) (a i n : ℕ) → i < rowCount a → n ≤ rowLength s a → (stateLength ≤ startOf s a i) × (startOf s a i + n ≤ endOf s)
+pub inside : (s : Setup) (a i n : ℕ) → i < rowCount a → n ≤ rowLength s a → (imageLength ≤ startOf s a i) × (startOf s a i + n ≤ endOf s)
 unfolding startOf
 inside s a i n h g =
     let u = behind s a in
     (omega arith, in-front s a (length rowCounts) i n (known a i h) h g)
+
+-- behind the whole state part, the rows of the channels among it
+pub beyond : (s : Setup) (a i : ℕ) → stateLength ≤ startOf s a i
+unfolding startOf
+beyond s a i = let u = behind s a in omega arith
 
 -- also with its length rounded up
 pub rounded-inside : (s : Setup) (a i n : ℕ) → i < rowCount a → n ≤ roundedUp (rowLength s a) → startOf s a i + n ≤ endOf s
 rounded-inside s a i n h g = rounded-in-front s a (length rowCounts) i n (known a i h) h g
 
 -- the one for Get_Cfg
-pub get-cfg-inside : (s : Setup) (n : ℕ) → n ≤ s .«get_cfg_len» → (stateLength ≤ getCfgAt s) × (getCfgAt s + n ≤ endOf s)
+pub get-cfg-inside : (s : Setup) (n : ℕ) → n ≤ s .«get_cfg_len» → (imageLength ≤ getCfgAt s) × (getCfgAt s + n ≤ endOf s)
 get-cfg-inside s n h =
     let u = inside s getCfgRow 0 n (omega arith) h in
     let e = first-start s getCfgRow in
     omega arith
 
--- the buffers end behind the state
+-- the buffers end behind the state part
 pub end-behind : (s : Setup) → stateLength ≤ endOf s
-end-behind s = let h = get-cfg-inside s 0 (omega arith) in omega arith
+end-behind s = behind s (length rowCounts)
+
+-- those of the channels end behind them
+pub last-behind : (z : Lengths) (s : Setup) → endOf s ≤ lastEnd z s
+unfolding lastEnd
+last-behind z s = omega arith
 
 -- two buffers that differ in row or in place lie apart
 pub apart : (s : Setup) (a i n b j k : ℕ) → i < rowCount a → j < rowCount b → n ≤ rowLength s a → k ≤ rowLength s b → (a ≡ b → i ≡ j → ⊥)
@@ -128,11 +141,6 @@ pub record Octets (s : Setup) : Type 0 where
   pub diagnosis-octet : s .«diagnosis_len» < 256
   pub get-cfg-octet : s .«get_cfg_len» < 256
 
--- what an octet is rounded up to
-pub rounded-small : (n : ℕ) → n < 256 → roundedUp n ≤ 256
-unfolding roundedUp
-rounded-small n h = omega arith
-
 -- every row begins far below what a number of the code can hold
 pub base-small : (s : Setup) (a : ℕ) → Octets s → a ≤ length rowCounts → rowBase s a ≤ 65536
 unfolding rowBase startOf
@@ -155,8 +163,8 @@ base-small s a o h = go (ltb a (length rowCounts)) refl
         let v : a ≡ length rowCounts = omega arith in
         rw v whole
 
--- ---- the four sums
+-- ---- the sums
 
 pub buffers-end : BuffersEnd
-unfolding rowBase roundedUp
-buffers-end = record { all-88 = refl; all-96 = refl; all-97 = refl; all-244 = refl }
+unfolding rowBase roundedUp lastEnd roomFrom
+buffers-end = record { all-64 = refl; all-96 = refl; all-97 = refl; all-244 = refl; with-channels = refl; with-one = refl }

@@ -14,11 +14,11 @@ use Rattle.buffers.proofs.Numbers.{number-below, number-places, places-permutat
 use Rattle.state.specs.declared.control.Flags.{Flags}
 use Rattle.state.specs.declared.state.State.{State}
 use Rattle.state.specs.Number.{readingNumber, kindNumber, stageNumber, phaseNumber, drawnNumber}
-use Rattle.state.specs.Layout.{stateLength, usedLength}
-use Rattle.state.specs.Image.{bitOf, lowWord, highWord, doubleOctets, flagsOf, modesOf, marksOf, inputsCode, used, unused, image}
+use Rattle.state.specs.Layout.{imageLength}
+use Rattle.state.specs.Image.{bitOf, lowWord, highWord, doubleOctets, flagsOf, modesOf, marksOf, inputsCode, image}
 use Rattle.state.specs.Unpack.{wordAt, doubleAt, setupIn, flagsIn, readerIn, senderIn, unpacked}
 use Rattle.state.specs.Sound.{Sound}
-use Rattle.state.specs.Well.{all, lengthTests, lengthsTests, countTests, lineTests, limitTests, codeTests, unusedTests, imageTests, wellImage}
+use Rattle.state.specs.Well.{all, lengthTests, lengthsTests, countTests, lineTests, limitTests, codeTests, imageTests, wellImage}
 use Rattle.state.proofs.Numbers.{reading-back, reading-counted, reading-le, kind-back, kind-counted, kind-le, stage-back, stage-counted, stage-le, phase-back, phase-counted, phase-le, drawn-back, drawn-counted, drawn-le}
 use Rattle.state.proofs.Asking.{tests-ranged, lengths-hold}
 use Rattle.state.proofs.Tests.{all-at, all-behind, within-true, within-holds, none-or-true, none-or-holds, set-counts-true, set-counts-holds}
@@ -27,8 +27,8 @@ use Rattle.state.proofs.Bits.{bit-le, bit-in, mark-coded, Marked, marke
 use Rattle.state.proofs.SetCodes.{outputs-back, marks-coded, marks-below, modes-back, modes-coded, modes-below, inputs-back, inputs-coded, inputs-below}
 
 -- the image has its length
-pub image-length : (s : State) → length (image s) ≡ stateLength
-unfolding image used
+pub image-length : (s : State) → length (image s) ≡ imageLength
+unfolding image
 image-length s = refl
 
 -- the flags come back from their octet, and so does the note of a clear
@@ -56,7 +56,7 @@ double-back x = (λ i. mod-add-div (lowWord x) 256 i + 65536 * mod-add-div (high
 
 -- a sound state comes back from its image, whatever lies behind it
 pub round : (s : State) → Sound s → (r : List ℕ) → unpacked (image s ++ r) ≡ s
-unfolding image used unpacked
+unfolding image unpacked
 round s h r =
     let l = image s ++ r in
     let c = s .control in
@@ -132,7 +132,7 @@ mark-passes b = le-leb (bitOf b) 1 (bit-le b)
 module _ (s : State) (h : Sound s) (r : List ℕ) where
   -- the lengths pass
   lengths-well : all (lengthsTests (image s ++ r)) ≡ true
-  unfolding image used
+  unfolding image
   lengths-well =
       let chain = s .control .chain in
       (λ i. all (le-leb (chain .code) 17 (h .chain-code) i ∷ le-leb (chain .master) 127 (h .chain-master) i ∷ lengthTests (s .setup)))
@@ -140,7 +140,7 @@ module _ (s : State) (h : Sound s) (r : List ℕ) where
 
   -- the codes pass
   codes-well : all (codeTests (image s ++ r)) ≡ true
-  unfolding image used
+  unfolding image
   codes-well =
       λ i.
       all
@@ -164,7 +164,7 @@ module _ (s : State) (h : Sound s) (r : List ℕ) where
 
   -- the counts of diagnosis and of the sets pass
   counts-well : all (countTests (image s ++ r)) ≡ true
-  unfolding image used
+  unfolding image
   counts-well =
       let d = s .control .diagnosis in
       λ i.
@@ -179,7 +179,7 @@ module _ (s : State) (h : Sound s) (r : List ℕ) where
 
   -- the counts of the telegram and of the reply pass
   line-well : all (lineTests (image s ++ r)) ≡ true
-  unfolding image used
+  unfolding image
   line-well =
       let a = s .incoming .reader in
       let b = s .reply .sender in
@@ -191,21 +191,16 @@ module _ (s : State) (h : Sound s) (r : List ℕ) where
       ∷ part-holds 7 (stageNumber (b .stage)) (b .count) (b .at) (stage-before (b .stage)) (h .sending .sent) (h .sending .none-yet) i
       ∷ [])
 
-  -- the octets that are not used pass
-  unused-well : all (unusedTests (image s ++ r)) ≡ true
-  unfolding image used
-  unused-well = refl
-
   -- it passes the tests
   pub image-well : wellImage (image s ++ r) ≡ true
-  unfolding image used wellImage
-  image-well = λ i. all (counts-well i ∷ line-well i ∷ codes-well i ∷ unused-well i ∷ lengths-well i ∷ [])
+  unfolding image wellImage
+  image-well = λ i. all (counts-well i ∷ line-well i ∷ codes-well i ∷ lengths-well i ∷ [])
 
 -- a memory whose first octets are the image of a sound state passes the tests
-pub front-well : (m : List ℕ) (s : State) → Sound s → image s ≡ take stateLength m → wellImage m ≡ true
+pub front-well : (m : List ℕ) (s : State) → Sound s → image s ≡ take imageLength m → wellImage m ≡ true
 front-well m s h e =
-    let rest = drop stateLength m in
-    subst (λ (l : List ℕ). wellImage l ≡ true) (ap (λ (l : List ℕ). l ++ rest) e ∙ take-append-drop stateLength m) (image-well s h rest)
+    let rest = drop imageLength m in
+    subst (λ (l : List ℕ). wellImage l ≡ true) (ap (λ (l : List ℕ). l ++ rest) e ∙ take-append-drop imageLength m) (image-well s h rest)
 
 -- the octets at their limits, from the test of the codes
 code-at : (m : List ℕ) → all (codeTests m) ≡ true → (k : ℕ) → getD (codeTests m) k true ≡ true
@@ -216,9 +211,9 @@ pub lengths-in : (m : List ℕ) → all (lengthsTests m) ≡ true → all (lengt
 lengths-in m h = all-behind (leb (getD m 55 0) 127) (lengthTests (setupIn m 0)) (all-behind (leb (getD m 54 0) 17) (leb (getD m 55 0) 127 ∷ lengthTests (setupIn m 0)) h)
 
 -- octets that pass the tests hold a sound state
-pub well-sound : (m : List ℕ) → wellImage m ≡ true → Sound (unpacked m)
+pub image-sound : (m : List ℕ) → wellImage m ≡ true → Sound (unpacked m)
 unfolding wellImage unpacked
-well-sound m h =
+image-sound m h =
     let counts = all-at (imageTests m) 0 h in
     let line = all-at (imageTests m) 1 h in
     let codes = all-at (imageTests m) 2 h in
@@ -231,7 +226,7 @@ well-sound m h =
     (all-at (lineTests m) 3 line)
     in
     record {
-      setup = tests-ranged (setupIn m (wordAt m 42)) (leb-true (getD m 20 0) 126 (code-at m codes 4)) (lengths-in m (all-at (imageTests m) 4 h));
+      setup = tests-ranged (setupIn m (wordAt m 42)) (leb-true (getD m 20 0) 126 (code-at m codes 4)) (lengths-in m (all-at (imageTests m) 3 h));
       outputs = places4-permutation (getD m 22 0);
       inputs = places-permutation (getD m 23 0 / 2);
       parameters = places-permutation (getD m 24 0);
@@ -243,8 +238,8 @@ well-sound m h =
         delayed = none-or-true 6 (getD m 57 0) (getD m 52 0) (all-at (countTests m) 1 counts);
         flags = leb-true (getD m 26 0) 7 (code-at m codes 10);
       };
-      chain-code = leb-true (getD m 54 0) 17 (all-at (lengthsTests m) 0 (all-at (imageTests m) 4 h));
-      chain-master = leb-true (getD m 55 0) 127 (all-at (lengthsTests m) 1 (all-at (imageTests m) 4 h));
+      chain-code = leb-true (getD m 54 0) 17 (all-at (lengthsTests m) 0 (all-at (imageTests m) 3 h));
+      chain-master = leb-true (getD m 55 0) 127 (all-at (lengthsTests m) 1 (all-at (imageTests m) 3 h));
       reading = record { count = leb-true (getD m 32 0) 246 (all-at (lineTests m) 0 line); read = reading .0; none-yet = reading .1 };
       sending = record { count = leb-true (getD m 14 0) 246 (all-at (lineTests m) 2 line); sent = sending .0; none-yet = sending .1 };
       place = leb-true (getD m 19 0) 3 (code-at m codes 3);
@@ -297,18 +292,9 @@ role-at m i e = let h = leb-true (getD m i 0) 5 e in number-places (getD m i 0) 
 zero-at : (m : List ℕ) (i : ℕ) → eqb (getD m i 0) 0 ≡ true → 0 ≡ getD m i 0
 zero-at m i e = sym (eqb-true (getD m i 0) 0 e)
 
--- octets that are at most 0
-zeros-at : (m : List ℕ) (i n : ℕ) → all (limitTests m i (replicate n 0)) ≡ true → replicate n 0 ≡ spread m i n
-zeros-at m i zero h = refl
-zeros-at m i (suc n) h =
-    let none = leb-true (getD m i 0) 0 (all-at (limitTests m i (replicate (suc n) 0)) 0 h) in
-    let first : 0 ≡ getD m i 0 = omega arith in
-    let rest = zeros-at m (suc i) n (all-behind (leb (getD m i 0) 0) (limitTests m (suc i) (replicate n 0)) h) in
-    λ j. first j ∷ rest j
-
 -- the image of the state that they hold, octet by octet
-image-spread : (m : List ℕ) → ((i : ℕ) → getD m i 0 < 256) → wellImage m ≡ true → image (unpacked m) ≡ spread m 0 stateLength
-unfolding image used wellImage unpacked
+image-spread : (m : List ℕ) → ((i : ℕ) → getD m i 0 < 256) → wellImage m ≡ true → image (unpacked m) ≡ spread m 0 imageLength
+unfolding image wellImage unpacked
 image-spread m small h =
     let counts = all-at (imageTests m) 0 h in
     let codes = code-at m (all-at (imageTests m) 2 h) in
@@ -341,8 +327,7 @@ image-spread m small h =
     ++ zero-at m 62 (all-at (countTests m) 4 counts) i
     ∷ zero-at m 63 (all-at (countTests m) 5 counts) i
     ∷ double-at m small 64 i
-    ++ zeros-at m usedLength (stateLength - usedLength) (all-at (imageTests m) 3 h) i
 
 -- octets that pass the tests are the image of the state that they hold
-pub well-image : (m : List ℕ) → stateLength ≤ length m → ((i : ℕ) → getD m i 0 < 256) → wellImage m ≡ true → image (unpacked m) ≡ take stateLength m
-well-image m long small h = image-spread m small h ∙ sym (take-spread m 0 stateLength long)
+pub well-image : (m : List ℕ) → imageLength ≤ length m → ((i : ℕ) → getD m i 0 < 256) → wellImage m ≡ true → image (unpacked m) ≡ take imageLength m
+well-image m long small h = image-spread m small h ∙ sym (take-spread m 0 imageLength long)

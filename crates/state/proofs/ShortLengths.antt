@@ -7,11 +7,11 @@ use mathlib.Core.List.{List, [], _∷_}
 use lib.Dec.{leb, eqb}
 use lib.ListN.{length, getD}
 use borrow.Author.Tests.{leb-true, le-leb, eqb-true}
-use Rattle.octets.specs.Part.{part}
+use Rattle.octets.specs.Part.{part, roundedUp}
 use Rattle.ranges.specs.Octets.{atMost}
 use Rattle.state.specs.declared.setup.Setup.{Setup}
-use Rattle.state.specs.Layout.{roundedUp, rowBase, endOf, allLengths}
-use Rattle.state.specs.Short.{shortLength, shortEnd, lastEnd, shortLeasts, shortMosts, shortTests, inputLeasts, inputMosts, shortInputTests, shortInputs}
+use Rattle.state.specs.Layout.{rowBase, endOf, allLengths}
+use Rattle.state.specs.Short.{shortLength, shortEnd, longEnd, shortLeasts, shortMosts, shortTests, inputLeasts, inputMosts, shortInputTests, shortInputs}
 use Rattle.state.specs.Sound.{Within}
 use Rattle.state.specs.Unpack.{unpacked}
 use Rattle.state.specs.Well.{all, within, lengthsTests}
@@ -58,6 +58,11 @@ room-for m end h ends long =
 
 -- ---- short lengths
 
+-- they pass the test of lengths, and their buffers end early
+pub record ShortBoth (m : List ℕ) : Type 0 where
+  pub pass : all (lengthsTests m) ≡ true
+  pub ends : endOf (unpacked m .setup) ≤ shortEnd
+
 -- octet i is lo to the longest short length
 abbrev ShortAt : List ℕ → ℕ → ℕ → Type 0
 ShortAt m lo i = Within lo (getD m i 0) shortLength
@@ -87,42 +92,43 @@ module _ (m : List ℕ) (outs : ShortAt m 0 48) (ins : ShortAt m 0 49) (some : 1
       ∷ longer 1 53 get i
       ∷ [])
 
-  -- and their buffers end where all-88 says or before
+  -- and their buffers end where all-64 says or before
   short-end : endOf (unpacked m .setup) ≤ shortEnd
   unfolding unpacked rowBase roundedUp
   short-end = ends-by (unpacked m .setup) shortLength (outs .1) (ins .1) (prm .1) (cfg .1) (diag .1) (get .1)
 
-  -- so there is room for them in a memory that goes as far
-  short-fit : shortEnd ≤ length m → true ≡ (all (lengthsTests m) && leb (endOf (unpacked m .setup)) (length m))
-  short-fit long = room-for m shortEnd short-lengths short-end long
+  short-both : ShortBoth m
+  short-both = record { pass = short-lengths; ends = short-end }
 
 -- one octet of a word whose test passes, by the test's number
 octet-in : (m : List ℕ) (tests : List Bool) (k lo i hi : ℕ) → all tests ≡ true → getD tests k true ≡ within lo (getD m i 0) hi → Within lo (getD m i 0) hi
 octet-in m tests k lo i hi h e = within-true lo (getD m i 0) hi (sym e ∙ all-at tests k h)
 
 -- by the test of a station with outputs
-pub short-room : (m : List ℕ) → all (shortTests m) ≡ true → shortEnd ≤ length m
-    → true ≡ (all (lengthsTests m) && leb (endOf (unpacked m .setup)) (length m))
-short-room m h long =
+pub short-lengths-are : (m : List ℕ) → all (shortTests m) ≡ true → ShortBoth m
+short-lengths-are m h =
     let t = shortTests m in
     let outs = octet-in m t 0 1 48 shortLength h refl in
     let least = outs .0 in
-    short-fit m (omega arith, outs .1) (octet-in m t 1 0 49 shortLength h refl) (omega arith) (octet-in m t 2 7 50 shortLength h refl)
+    short-both m (omega arith, outs .1) (octet-in m t 1 0 49 shortLength h refl) (omega arith) (octet-in m t 2 7 50 shortLength h refl)
     (octet-in m t 3 1 51 shortLength h refl) (octet-in m t 4 6 52 shortLength h refl) (octet-in m t 5 1 53 shortLength h refl)
-    (octet-in m t 6 0 54 17 h refl .1) (octet-in m t 7 0 55 127 h refl .1) long
+    (octet-in m t 6 0 54 17 h refl .1) (octet-in m t 7 0 55 127 h refl .1)
 
 -- and of one without
-pub short-input-room : (m : List ℕ) → shortInputs m ≡ true → shortEnd ≤ length m
-    → true ≡ (all (lengthsTests m) && leb (endOf (unpacked m .setup)) (length m))
-short-input-room m h long =
+pub short-inputs-are : (m : List ℕ) → shortInputs m ≡ true → ShortBoth m
+short-inputs-are m h =
     let t = shortInputTests m in
     let none : getD m 48 0 ≡ 0 = eqb-true (getD m 48 0) 0 (and-left (eqb (getD m 48 0) 0) (all t) h) in
     let p = and-right (eqb (getD m 48 0) 0) (all t) h in
     let ins = octet-in m t 0 1 49 shortLength p refl in
     let least = ins .0 in
-    short-fit m (omega arith, omega arith) (omega arith, ins .1) (omega arith) (octet-in m t 1 7 50 shortLength p refl)
+    short-both m (omega arith, omega arith) (omega arith, ins .1) (omega arith) (octet-in m t 1 7 50 shortLength p refl)
     (octet-in m t 2 1 51 shortLength p refl) (octet-in m t 3 6 52 shortLength p refl) (octet-in m t 4 1 53 shortLength p refl)
-    (octet-in m t 5 0 54 17 p refl .1) (octet-in m t 6 0 55 127 p refl .1) long
+    (octet-in m t 5 0 54 17 p refl .1) (octet-in m t 6 0 55 127 p refl .1)
+
+-- so there is room for them in a memory that goes as far
+pub short-room : (m : List ℕ) → ShortBoth m → shortEnd ≤ length m → true ≡ (all (lengthsTests m) && leb (endOf (unpacked m .setup)) (length m))
+short-room m h long = room-for m shortEnd (h .pass) (h .ends) long
 
 -- ---- any lengths
 
@@ -136,9 +142,9 @@ module _ (m : List ℕ) (h : all (lengthsTests m) ≡ true) where
   most lo x e = within-true lo x 244 e .1
 
   -- their buffers end where all-244 says or before
-  last-end : endOf (unpacked m .setup) ≤ lastEnd
+  pub long-end : endOf (unpacked m .setup) ≤ longEnd
   unfolding unpacked rowBase roundedUp
-  last-end =
+  long-end =
       ends-by (unpacked m .setup) 244 (leb-true (getD m 48 0) 244 (length-test 3)) (leb-true (getD m 49 0) 244 (length-test 4))
       (most 7 (getD m 50 0) (length-test 5))
       (most 1 (getD m 51 0) (length-test 6))
@@ -146,5 +152,5 @@ module _ (m : List ℕ) (h : all (lengthsTests m) ≡ true) where
       (most 1 (getD m 53 0) (length-test 8))
 
   -- so there is room for them too in a memory that goes as far
-  pub last-room : lastEnd ≤ length m → true ≡ (all (lengthsTests m) && leb (endOf (unpacked m .setup)) (length m))
-  last-room long = room-for m lastEnd h last-end long
+  pub long-room : longEnd ≤ length m → true ≡ (all (lengthsTests m) && leb (endOf (unpacked m .setup)) (length m))
+  long-room long = room-for m longEnd h long-end long

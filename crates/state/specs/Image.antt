@@ -1,15 +1,13 @@
--- The image of a state: 128 octets, of which those from 68 on have no fields.
-use Prim.Native.Nat.{ℕ, _+_, _-_, _*_, _/_, _%_}
+-- The image of a state but for its channels: 68 octets.
+use Prim.Native.Nat.{ℕ, _+_, _*_, _/_, _%_}
 use mathlib.Core.Bool.{Bool, true, false}
-use mathlib.Core.List.{List, [], _∷_, _++_}
-use lib.ListN.{replicate}
+use mathlib.Core.List.{List, [], _∷_}
 use Rattle.buffers.specs.declared.triple.Triple.{Triple}
 use Rattle.buffers.specs.Number.{numberOf, numberOf4}
 use Rattle.state.specs.declared.control.Flags.{Flags}
 use Rattle.state.specs.declared.control.Modes.{Modes}
 use Rattle.state.specs.declared.state.Outputs.{Outputs}
 use Rattle.state.specs.declared.state.State.{State}
-use Rattle.state.specs.Layout.{stateLength, usedLength}
 use Rattle.state.specs.Number.{readingNumber, kindNumber, stageNumber, phaseNumber, drawnNumber}
 
 -- a mark as a number
@@ -53,9 +51,9 @@ marksOf o = bitOf (o .set .fresh) + 2 * bitOf (o .zeros) + 4 * bitOf (o .set .wi
 abbrev pub inputsCode : Triple → ℕ
 inputsCode t = 2 * numberOf (t .place) + bitOf (t .fresh)
 
--- those with fields, octet by octet from 0 on; among them 62 and 63 are not used
-unfoldable pub used : State → List ℕ
-used s =
+-- octet by octet from 0 on; among them 62 and 63 are not used
+unfoldable pub image : State → List ℕ
+image s =
     s .control .owner
     ∷ s .control .group
     ∷ s .control .stored
@@ -125,11 +123,3 @@ used s =
     ∷ highWord (s .control .watchdog .reload) % 256
     ∷ highWord (s .control .watchdog .reload) / 256
     ∷ []
-
--- the octets 68 to 127 are not used yet
-abbrev pub unused : List ℕ
-unused = replicate (stateLength - usedLength) 0
-
--- the image
-unfoldable pub image : State → List ℕ
-image s = used s ++ unused

@@ -1,21 +1,20 @@
--- Where the buffers lie behind the state part. Nothing else knows these numbers.
-use Prim.Native.Nat.{ℕ, zero, suc, _+_, _*_, _/_}
+-- Where the buffers lie behind the state part. What a channel has in the state part is the crate channels'.
+use Prim.Native.Nat.{ℕ, zero, suc, _+_, _*_}
 use mathlib.Core.Path.{_≡_}
 use mathlib.Core.List.{List, [], _∷_}
 use lib.ListN.{length, getD}
+use Rattle.octets.specs.Part.{roundedUp}
+use Rattle.channels.specs.Places.{indication, response, Lengths, roomOf}
 use Rattle.state.specs.declared.setup.Setup.{Setup}
 
--- "the state part 128 octets" (document 02, Req 01)
+-- "the state part 512" (document 02, Req 08)
 abbrev pub stateLength : ℕ
-stateLength = 128
+stateLength = 512
 
--- from here on they have no fields and are 0
-abbrev pub usedLength : ℕ
-usedLength = 68
-
--- "each length rounded up to a multiple of 8"
-unfoldable pub roundedUp : ℕ → ℕ
-roundedUp n = (n + 7) / 8 * 8
+-- so many of its octets are the image of the state but for the channels, whose rows lie behind it (crate channels, Image.antt). The octets
+-- that belong to no field are no part of an image: no call but Start, which zeroes them, reads or changes them
+abbrev pub imageLength : ℕ
+imageLength = 68
 
 -- the rows of buffers, in their order: the buffers of one use, one after the other
 abbrev pub outputRow : ℕ
@@ -84,9 +83,13 @@ diagnosisAt s k = startOf s diagnosisRow k
 abbrev pub getCfgAt : Setup → ℕ
 getCfgAt s = rowBase s getCfgRow
 
--- where the last one ends
+-- where the last one ends, and the channels' buffers begin
 abbrev pub endOf : Setup → ℕ
 endOf s = rowBase s (length rowCounts)
+
+-- where those end: "an indication and a response buffer .. beside the present ones" (document 02, Req 08)
+unfoldable pub lastEnd : Lengths → Setup → ℕ
+lastEnd z s = endOf s + roomOf z
 
 -- all six lengths n
 abbrev pub allLengths : ℕ → Setup
@@ -102,9 +105,21 @@ allLengths n =
       «get_cfg_len» = n;
     }
 
--- "the ends in document 01 grow by one output buffer and 64; all six lengths 244 then end at 4,096"; 88 are the most that fit in 1,536
+-- sixteen channels with both buffers of n octets
+abbrev pub allChannels : ℕ → Lengths
+allChannels n k side = n
+
+-- one channel, with buffers of a and b octets
+abbrev pub oneChannel : ℕ → ℕ → Lengths
+oneChannel a b zero indication = a
+oneChannel a b zero response = b
+oneChannel a b (suc n) side = 0
+
+-- where document 01 and Req 01 name the ends, those grow by the longer state part; 64 are the most that fit in 1,536
 pub record BuffersEnd : Type 0 where
-  pub all-88 : endOf (allLengths 88) ≡ 1536
-  pub all-96 : endOf (allLengths 96) ≡ 1664
-  pub all-97 : endOf (allLengths 97) ≡ 1792
-  pub all-244 : endOf (allLengths 244) ≡ 4096
+  pub all-64 : endOf (allLengths 64) ≡ 1536
+  pub all-96 : endOf (allLengths 96) ≡ 2048
+  pub all-97 : endOf (allLengths 97) ≡ 2176
+  pub all-244 : endOf (allLengths 244) ≡ 4480
+  pub with-channels : lastEnd (allChannels 240) (allLengths 244) ≡ 12160
+  pub with-one : lastEnd (oneChannel 4 9) (allLengths 64) ≡ 1560

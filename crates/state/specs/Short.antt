@@ -6,17 +6,17 @@ use lib.Dec.{eqb}
 use lib.ListN.{getD, replicate}
 use Rattle.state.specs.Well.{all, within}
 
--- the longest of them: all six lengths 88 end at 1,536, the length of the shortest memory
+-- the longest of them: all six lengths 64 end at 1,536, the length of the shortest memory
 abbrev pub shortLength : ℕ
-shortLength = 88
+shortLength = 64
 
 -- where the buffers of short lengths end at most
 abbrev pub shortEnd : ℕ
 shortEnd = 1536
 
--- where the buffers of any lengths end at most: "all six lengths 244 then end at 4,096"
-abbrev pub lastEnd : ℕ
-lastEnd = 4096
+-- where the buffers of any lengths end at most, those of the channels left out
+abbrev pub longEnd : ℕ
+longEnd = 4480
 
 -- the octets from i on, each from its least to its most
 abbrev pub betweenTests : List ℕ → ℕ → List ℕ → List ℕ → List Bool
@@ -36,7 +36,7 @@ shortTests m = betweenTests m 48 shortLeasts shortMosts
 
 -- octets 49 to 56: the lengths but that of the outputs where all of them are short and there are inputs, and the chain; the last octet, the
 -- count of the diagnosis, is in the word only because words have eight: its own test stands in `countTests`, which with short lengths
--- holds it below 89, so that 127 refuses none
+-- holds it below 65, so that 127 refuses none
 abbrev pub inputLeasts : List ℕ
 inputLeasts = 1 ∷ 7 ∷ 1 ∷ 6 ∷ 1 ∷ 0 ∷ 0 ∷ 0 ∷ []
 

@@ -1,6 +1,6 @@
 -- Start: what it asks of a setup, the first state, and what it leaves. Its conditions on the whole memory are in the crate steps.
 use Prim.Native.Nat.{ℕ, _-_}
-use mathlib.Core.Bool.{Bool, false, not, cond}
+use mathlib.Core.Bool.{Bool, false, not, cond, _&&_}
 use mathlib.Core.List.{List}
 use lib.ListN.{replicate}
 use lib.Dec.{ltb}
@@ -8,6 +8,9 @@ use Rattle.buffers.specs.Events.{noEvents}
 use Rattle.buffers.specs.Triple.{initial}
 use Rattle.buffers.specs.Quad as quad
 use Rattle.octets.specs.Part.{pasted}
+use Rattle.channels.specs.Image.{channels}
+use Rattle.channels.specs.Setting.{lengthsGiven, setUp}
+use Rattle.channels.specs.Setting as channel
 use Rattle.telegram.specs.Reading.{off}
 use Rattle.telegram.specs.Sending.{empty}
 use Rattle.state.specs.declared.setup.Setup.{Setup}
@@ -21,7 +24,7 @@ use Rattle.state.specs.declared.answer.Refusal.the-variants.{Address, Le
 use Rattle.state.specs.declared.start.Asked.{Asked}
 use Rattle.state.specs.declared.start.Asked.the-variants.{Accepted, Declined}
 use Rattle.state.specs.Chain.{noChain}
-use Rattle.state.specs.Layout.{stateLength, getCfgAt, endOf}
+use Rattle.state.specs.Layout.{imageLength, getCfgAt, lastEnd}
 use Rattle.state.specs.Memory.{kept}
 use Rattle.state.specs.Well.{all, lengthTests}
 
@@ -43,11 +46,11 @@ given address ident outputs inputs parameters configuration diagnosis n =
 unfoldable pub lengthsOk : Setup → Bool
 lengthsOk s = all (lengthTests s)
 
--- "2 address; 3 a length or slice outside its range", and "both zero is 3 too" (document 02, Req 05)
-unfoldable pub asked : Setup → Asked
-asked s =
+-- "2 address; 3 a length or slice outside its range", "both zero is 3 too" (document 02, Req 05), and so for the lengths of the channels
+unfoldable pub asked : Setup → List ℕ → Asked
+asked s lengths =
     cond (ltb 126 (s .address)) (Declined Address)
-    (cond (not (lengthsOk s)) (Declined Length)
+    (cond (not (lengthsOk s && channel.lengthsOk lengths)) (Declined Length)
     (Accepted s))
 
 -- what diagnosis shows for no owner
@@ -113,10 +116,12 @@ initialState s =
 abbrev pub zeros : ℕ → List ℕ
 zeros n = replicate n 0
 
--- "Start zeroes them, copies the Get_Cfg slice", "changes nothing past the buffers"
-unfoldable pub wiped : List ℕ → Setup → List ℕ → List ℕ
-wiped m s slice = pasted (pasted m stateLength (zeros (endOf s - stateLength))) (getCfgAt s) slice
+-- "Start zeroes them, copies the Get_Cfg slice", "changes nothing past the buffers"; the octets between the state's image and the buffers
+-- are zeroed too. end: where the last buffer ends
+unfoldable pub wiped : List ℕ → Setup → List ℕ → (end : ℕ) → List ℕ
+wiped m s slice end = pasted (pasted m imageLength (zeros (end - imageLength))) (getCfgAt s) slice
 
--- the first state in front of the wiped buffers
-unfoldable pub laidOut : List ℕ → Setup → List ℕ → List ℕ
-laidOut m s slice = kept (initialState s) (wiped m s slice)
+-- the first state in front of the wiped buffers, and the channels with their lengths, all of them free
+unfoldable pub laidOut : List ℕ → Setup → List ℕ → List ℕ → List ℕ
+laidOut m s slice lengths =
+    kept (initialState s) (setUp (wiped m s slice (lastEnd (lengthsGiven lengths) s)) lengths channels)

@@ -5,8 +5,6 @@ use mathlib.Core.List.{List, [], _∷_, _++_}
 use lib.Dec.{leb, eqb}
 use lib.ListN.{getD}
 use Rattle.state.specs.declared.setup.Setup.{Setup}
-use Rattle.state.specs.Image.{unused}
-use Rattle.state.specs.Layout.{usedLength}
 use Rattle.state.specs.Unpack.{setupIn}
 
 -- a and each of l
@@ -101,13 +99,9 @@ limitTests m i (limit ∷ limits) = leb (getD m i 0) limit ∷ limitTests m (suc
 abbrev pub codeTests : List ℕ → List Bool
 codeTests m = limitTests m 16 codeLimits
 
--- the octets 68 to 127, which are not used
-abbrev pub unusedTests : List ℕ → List Bool
-unusedTests m = limitTests m usedLength unused
-
 -- all of them
 abbrev pub imageTests : List ℕ → List Bool
-imageTests m = all (countTests m) ∷ all (lineTests m) ∷ all (codeTests m) ∷ all (unusedTests m) ∷ all (lengthsTests m) ∷ []
+imageTests m = all (countTests m) ∷ all (lineTests m) ∷ all (codeTests m) ∷ all (lengthsTests m) ∷ []
 
 -- the octets are the image of a sound state
 unfoldable pub wellImage : List ℕ → Bool

@@ -1,7 +1,6 @@
 // The image of a state: the octets that hold it, laid out one by one.
 use crate::control::Flags;
 use crate::control::Modes;
-use crate::layout;
 use crate::number::drawn_number;
 use crate::number::kind_number;
 use crate::number::phase_number;
@@ -14,8 +13,8 @@ ghost use mathlib.Core.Path.{_≡_};
 ghost use mathlib.Core.List.{_++_};
 ghost use Prim.Native.Nat.{_≤_, _/_, _%_};
 ghost use lib.ListN.{length, drop};
-ghost use Rattle.state.specs.Layout.{stateLength};
-ghost use Rattle.state.specs.Image.{bitOf, flagsOf, modesOf, marksOf, inputsCode, doubleOctets, used, image};
+ghost use Rattle.state.specs.Layout.{imageLength};
+ghost use Rattle.state.specs.Image.{bitOf, flagsOf, modesOf, marksOf, inputsCode, doubleOctets, image};
 
 // A mark as a number.
 pub fn bit(b: bool) -> u8
@@ -87,9 +86,9 @@ pub fn inputs_code(t: Triple) -> u8
     2 * t.number() + bit(t.fresh)
 }
 
-// The octets that are used, in their order.
+// The octets of the image, in their order.
 pub fn octets(s: State) -> [u8; 68]
-    ensures { λ r. ⌜ r ≡ used s ⌝ }
+    ensures { λ r. ⌜ r ≡ image s ⌝ }
 {
     let control = s.control;
     let phase = control.phase;
@@ -178,14 +177,9 @@ pub fn octets(s: State) -> [u8; 68]
 
 // The state's octets at the front of the memory; what lies behind them stays.
 pub fn save(s: State, mem: &mut [u8])
-    requires { ⌜ stateLength ≤ length (now mem) ⌝ }
-    ensures { λ _. ⌜ now (mem .exit) ≡ image s ++ drop stateLength (now (mem .entry)) ⌝ }
+    requires { ⌜ imageLength ≤ length (now mem) ⌝ }
+    ensures { λ _. ⌜ now (mem .exit) ≡ image s ++ drop imageLength (now (mem .entry)) ⌝ }
 {
     let a = octets(s);
     octets::copy(&a, mem);
-    octets::clear_at(
-        mem,
-        layout::USED_LENGTH,
-        layout::STATE_LENGTH - layout::USED_LENGTH,
-    );
 }

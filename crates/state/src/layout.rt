@@ -1,20 +1,21 @@
-// Where the buffers lie behind the state part. Nothing else knows these numbers.
+// Where the buffers lie behind the state part. What a channel has in the state part is the crate channels'.
 use crate::setup::Setup;
+use octets::rounded_up;
 ghost use mathlib.Core.Path.{_≡_};
 ghost use Prim.Native.Nat.{_≤_, _^_};
-ghost use Rattle.state.specs.Layout.{roundedUp, placeAt, outputsAt, inputsAt, parametersAt, configurationAt, diagnosisAt, getCfgAt, endOf};
+ghost use Rattle.state.specs.Layout.{placeAt, outputsAt, inputsAt, parametersAt, configurationAt, diagnosisAt, getCfgAt, endOf};
 
-// How many octets hold the state.
-pub const STATE_LENGTH: usize = 128;
+// How many octets the state part has.
+pub const STATE_LENGTH: usize = 512;
 
-// How many of them have fields; the others are 0.
-pub const USED_LENGTH: usize = 68;
+// How many of them, from the first on, are the image of the state but for its channels.
+pub const IMAGE_LENGTH: usize = 68;
 
-// Where the buffers end at most if all lengths are at most 88.
+// Where the buffers end at most if all lengths are at most 64, those of the channels left out.
 pub const SHORT_END: usize = 1536;
 
 // Where they end at most with any lengths.
-pub const LAST_END: usize = 4096;
+pub const LONG_END: usize = 4480;
 
 // How many output buffers there are,
 pub const OUTPUT_BUFFERS: u8 = 4;
@@ -33,13 +34,6 @@ pub const DIAGNOSIS_BUFFERS: u8 = 2;
 
 // and for Get_Cfg.
 pub const GET_CFG_BUFFERS: u8 = 1;
-
-// A length rounded up to a multiple of 8.
-fn rounded_up(n: u8) -> usize
-    ensures { λ r. ⌜ (r ≡ roundedUp n) × (r ≤ 256) ⌝ }
-{
-    (n as usize + 7) / 8 * 8
-}
 
 // Where buffer k begins, of buffers of n octets that lie one after the other from a base on.
 fn place_at(base: usize, n: u8, k: u8) -> usize
@@ -95,9 +89,9 @@ pub fn get_cfg_at(s: Setup) -> usize
     diagnosis_at(s, DIAGNOSIS_BUFFERS)
 }
 
-// Where the last buffer ends.
+// Where the last of them ends, and the channels' buffers begin.
 pub fn end_of(s: Setup) -> usize
-    ensures { λ r. ⌜ r ≡ endOf s ⌝ }
+    ensures { λ r. ⌜ (r ≡ endOf s) × (r ≤ 65536) ⌝ }
 {
     place_at(get_cfg_at(s), s.get_cfg_len, GET_CFG_BUFFERS)
 }

@@ -31,7 +31,7 @@ ghost use mathlib.Core.Path.{_≡_};
 ghost use Prim.Native.Nat.{_+_, _≤_, _<_};
 ghost use lib.ListN.{length};
 ghost use Rattle.telegram.specs.Reading.{takesData};
-ghost use Rattle.state.specs.Layout.{stateLength};
+ghost use Rattle.state.specs.Layout.{imageLength};
 ghost use Rattle.state.specs.Unpack.{wordAt, doubleAt, setupIn, flagsIn, modesIn, setsIn, readerIn, senderIn, headerIn, unpacked};
 
 // An octet as a word.
@@ -59,7 +59,7 @@ fn double_at(mem: &[u8], i: usize) -> u32
 
 // What Start was given, the ident number handed in.
 fn setup_in(mem: &[u8], ident: u16) -> Setup
-    requires { ⌜ stateLength ≤ length (now mem) ⌝ }
+    requires { ⌜ imageLength ≤ length (now mem) ⌝ }
     ensures { λ r. ⌜ r ≡ setupIn (now (mem .entry)) ident ⌝ }
 {
     Setup {
@@ -76,7 +76,7 @@ fn setup_in(mem: &[u8], ident: u16) -> Setup
 
 // What Start was given.
 pub fn setup(mem: &[u8]) -> Setup
-    requires { ⌜ stateLength ≤ length (now mem) ⌝ }
+    requires { ⌜ imageLength ≤ length (now mem) ⌝ }
     ensures { λ r. ⌜ r ≡ unpacked (now (mem .entry)) .setup ⌝ }
 {
     setup_in(mem, word_at(mem, 42))
@@ -111,7 +111,7 @@ fn modes_in(x: u8) -> Modes
 
 // Diagnosis and the delayed one.
 pub fn diagnosis(mem: &[u8]) -> Diagnosis
-    requires { ⌜ stateLength ≤ length (now mem) ⌝ }
+    requires { ⌜ imageLength ≤ length (now mem) ⌝ }
     ensures { λ r. ⌜ r ≡ unpacked (now (mem .entry)) .control .diagnosis ⌝ }
 {
     Diagnosis {
@@ -123,7 +123,7 @@ pub fn diagnosis(mem: &[u8]) -> Diagnosis
 
 // The event word.
 pub fn events(mem: &[u8]) -> Events
-    requires { ⌜ stateLength ≤ length (now mem) ⌝ }
+    requires { ⌜ imageLength ≤ length (now mem) ⌝ }
     ensures { λ r. ⌜ r ≡ unpacked (now (mem .entry)) .control .events ⌝ }
 {
     let word = word_at(mem, 4);
@@ -132,7 +132,7 @@ pub fn events(mem: &[u8]) -> Events
 
 // Whether a clear is noted.
 pub fn noted(mem: &[u8]) -> bool
-    requires { ⌜ stateLength ≤ length (now mem) ⌝ }
+    requires { ⌜ imageLength ≤ length (now mem) ⌝ }
     ensures { λ r. ⌜ r ≡ unpacked (now (mem .entry)) .control .noted ⌝ }
 {
     mem[3] / 4 % 2 == 1
@@ -140,7 +140,7 @@ pub fn noted(mem: &[u8]) -> bool
 
 // The last request, with which the next is compared.
 pub fn chain(mem: &[u8]) -> Chain
-    requires { ⌜ stateLength ≤ length (now mem) ⌝ }
+    requires { ⌜ imageLength ≤ length (now mem) ⌝ }
     ensures { λ r. ⌜ r ≡ unpacked (now (mem .entry)) .control .chain ⌝ }
 {
     Chain {
@@ -151,7 +151,7 @@ pub fn chain(mem: &[u8]) -> Chain
 
 // The control part.
 pub fn control(mem: &[u8]) -> Control
-    requires { ⌜ stateLength ≤ length (now mem) ⌝ }
+    requires { ⌜ imageLength ≤ length (now mem) ⌝ }
     ensures { λ r. ⌜ r ≡ unpacked (now (mem .entry)) .control ⌝ }
 {
     let remaining = double_at(mem, 44);
@@ -186,7 +186,7 @@ fn sets_in(mem: &[u8], k: usize, i: usize) -> Sets
 
 // The set of output buffers.
 pub fn outputs(mem: &[u8]) -> Outputs
-    requires { ⌜ stateLength ≤ length (now mem) ⌝ }
+    requires { ⌜ imageLength ≤ length (now mem) ⌝ }
     ensures { λ r. ⌜ r ≡ unpacked (now (mem .entry)) .outputs ⌝ }
 {
     let marks = mem[29];
@@ -199,7 +199,7 @@ pub fn outputs(mem: &[u8]) -> Outputs
 
 // The set of input buffers.
 pub fn inputs(mem: &[u8]) -> Triple
-    requires { ⌜ stateLength ≤ length (now mem) ⌝ }
+    requires { ⌜ imageLength ≤ length (now mem) ⌝ }
     ensures { λ r. ⌜ r ≡ unpacked (now (mem .entry)) .inputs ⌝ }
 {
     let code = mem[23];
@@ -208,7 +208,7 @@ pub fn inputs(mem: &[u8]) -> Triple
 
 // The parameters received.
 pub fn parameters(mem: &[u8]) -> Sets
-    requires { ⌜ stateLength ≤ length (now mem) ⌝ }
+    requires { ⌜ imageLength ≤ length (now mem) ⌝ }
     ensures { λ r. ⌜ r ≡ unpacked (now (mem .entry)) .parameters ⌝ }
 {
     sets_in(mem, 24, 58)
@@ -216,7 +216,7 @@ pub fn parameters(mem: &[u8]) -> Sets
 
 // The configuration received.
 pub fn configuration(mem: &[u8]) -> Sets
-    requires { ⌜ stateLength ≤ length (now mem) ⌝ }
+    requires { ⌜ imageLength ≤ length (now mem) ⌝ }
     ensures { λ r. ⌜ r ≡ unpacked (now (mem .entry)) .configuration ⌝ }
 {
     sets_in(mem, 25, 60)
@@ -224,7 +224,7 @@ pub fn configuration(mem: &[u8]) -> Sets
 
 // Whether the controller's diagnosis buffer is the second.
 pub fn swapped(mem: &[u8]) -> bool
-    requires { ⌜ stateLength ≤ length (now mem) ⌝ }
+    requires { ⌜ imageLength ≤ length (now mem) ⌝ }
     ensures { λ r. ⌜ r ≡ unpacked (now (mem .entry)) .swapped ⌝ }
 {
     mem[28] == 1
@@ -232,7 +232,7 @@ pub fn swapped(mem: &[u8]) -> bool
 
 // The reader at a phase.
 fn reader_in(mem: &[u8], phase: reader::Phase, kind: Kind) -> Reader
-    requires { ⌜ stateLength ≤ length (now mem) ⌝ }
+    requires { ⌜ imageLength ≤ length (now mem) ⌝ }
     ensures { λ r. ⌜ r ≡ readerIn (now (mem .entry)) phase kind ⌝ }
 {
     Reader {
@@ -251,7 +251,7 @@ fn reader_in(mem: &[u8], phase: reader::Phase, kind: Kind) -> Reader
 
 // The telegram that is coming.
 pub fn incoming(mem: &[u8]) -> Incoming
-    requires { ⌜ stateLength ≤ length (now mem) ⌝ }
+    requires { ⌜ imageLength ≤ length (now mem) ⌝ }
     ensures { λ r. ⌜ r ≡ unpacked (now (mem .entry)) .incoming ⌝ }
 {
     Incoming {
@@ -263,7 +263,7 @@ pub fn incoming(mem: &[u8]) -> Incoming
 
 // Whether its next octet is data. By the octets as they stand, since most octets are data and nothing else of it is then looked at.
 pub fn takes_data(mem: &[u8]) -> bool
-    requires { ⌜ stateLength ≤ length (now mem) ⌝ }
+    requires { ⌜ imageLength ≤ length (now mem) ⌝ }
     ensures { λ r. ⌜ r ≡ takesData (unpacked (now (mem .entry)) .incoming .reader) ⌝ }
 {
     (mem[31] == reading_number(reader::Phase::Body)) & (mem[33] < mem[32])
@@ -271,7 +271,7 @@ pub fn takes_data(mem: &[u8]) -> bool
 
 // The sender at a stage.
 fn sender_in(mem: &[u8], stage: Stage, kind: Kind) -> Sender
-    requires { ⌜ stateLength ≤ length (now mem) ⌝ }
+    requires { ⌜ imageLength ≤ length (now mem) ⌝ }
     ensures { λ r. ⌜ r ≡ senderIn (now (mem .entry)) stage kind ⌝ }
 {
     Sender {
@@ -288,7 +288,7 @@ fn sender_in(mem: &[u8], stage: Stage, kind: Kind) -> Sender
 
 // The first diagnosis octets of the reply.
 fn header_in(mem: &[u8]) -> Header
-    requires { ⌜ stateLength ≤ length (now mem) ⌝ }
+    requires { ⌜ imageLength ≤ length (now mem) ⌝ }
     ensures { λ r. ⌜ r ≡ headerIn (now (mem .entry)) ⌝ }
 {
     Header {
@@ -301,7 +301,7 @@ fn header_in(mem: &[u8]) -> Header
 
 // The reply in progress.
 pub fn reply(mem: &[u8]) -> Reply
-    requires { ⌜ stateLength ≤ length (now mem) ⌝ }
+    requires { ⌜ imageLength ≤ length (now mem) ⌝ }
     ensures { λ r. ⌜ r ≡ unpacked (now (mem .entry)) .reply ⌝ }
 {
     Reply {
@@ -314,7 +314,7 @@ pub fn reply(mem: &[u8]) -> Reply
 
 // The state that the first octets hold.
 pub fn unpack(mem: &[u8]) -> State
-    requires { ⌜ stateLength ≤ length (now mem) ⌝ }
+    requires { ⌜ imageLength ≤ length (now mem) ⌝ }
     ensures { λ r. ⌜ r ≡ unpacked (now (mem .entry)) ⌝ }
 {
     State {

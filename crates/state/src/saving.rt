@@ -24,13 +24,13 @@ use buffers::triple::Triple;
 use telegram::sender::Sender;
 ghost use Prim.Native.Nat.{_≤_};
 ghost use lib.ListN.{length};
-ghost use Rattle.state.specs.Layout.{stateLength};
+ghost use Rattle.state.specs.Layout.{imageLength};
 ghost use Rattle.state.specs.Memory.{Changes};
 ghost use Rattle.state.specs.With.{withControlButChain, withStanding, withEventWord, withTicks, withChain, withOutputs, withInputs, withParameters, withConfiguration, withSwapped, withIncoming, withRead, withKept, withSender, withOutline, withReply};
 
 // The telegram that is coming: octets 30 to 41.
 pub fn save_incoming(i: Incoming, mem: &mut [u8])
-    requires { ⌜ stateLength ≤ length (now mem) ⌝ }
+    requires { ⌜ imageLength ≤ length (now mem) ⌝ }
     ensures { λ _. ⌜ Changes (now (mem .entry)) (now (mem .exit)) (λ s. withIncoming s i) ⌝ }
 {
     let reader = i.reader;
@@ -52,7 +52,7 @@ pub fn save_incoming(i: Incoming, mem: &mut [u8])
 
 // How many data octets of it were read, and its checksum.
 pub fn save_read(at: u8, sum: u8, mem: &mut [u8])
-    requires { ⌜ stateLength ≤ length (now mem) ⌝ }
+    requires { ⌜ imageLength ≤ length (now mem) ⌝ }
     ensures { λ _. ⌜ Changes (now (mem .entry)) (now (mem .exit)) (λ s. withRead s at sum) ⌝ }
 {
     mem[33] = at;
@@ -61,7 +61,7 @@ pub fn save_read(at: u8, sum: u8, mem: &mut [u8])
 
 // Its data octet k, if that is one of the first two.
 pub fn keep_octet(k: u8, b: u8, mem: &mut [u8])
-    requires { ⌜ stateLength ≤ length (now mem) ⌝ }
+    requires { ⌜ imageLength ≤ length (now mem) ⌝ }
     ensures { λ _. ⌜ Changes (now (mem .entry)) (now (mem .exit)) (λ s. withKept s k b) ⌝ }
 {
     if k < 2 {
@@ -71,7 +71,7 @@ pub fn keep_octet(k: u8, b: u8, mem: &mut [u8])
 
 // The sender of the reply: octets 10 to 17.
 pub fn save_sender(sender: Sender, mem: &mut [u8])
-    requires { ⌜ stateLength ≤ length (now mem) ⌝ }
+    requires { ⌜ imageLength ≤ length (now mem) ⌝ }
     ensures { λ _. ⌜ Changes (now (mem .entry)) (now (mem .exit)) (λ s. withSender s sender) ⌝ }
 {
     let stage = sender.stage;
@@ -88,7 +88,7 @@ pub fn save_sender(sender: Sender, mem: &mut [u8])
 
 // The reply but for its sender: octets 6 to 9, 18 and 19.
 fn save_outline(reply: Reply, mem: &mut [u8])
-    requires { ⌜ stateLength ≤ length (now mem) ⌝ }
+    requires { ⌜ imageLength ≤ length (now mem) ⌝ }
     ensures { λ _. ⌜ Changes (now (mem .entry)) (now (mem .exit)) (λ s. withOutline s reply) ⌝ }
 {
     let drawn = reply.drawn;
@@ -102,7 +102,7 @@ fn save_outline(reply: Reply, mem: &mut [u8])
 
 // The reply: octets 6 to 19.
 pub fn save_reply(reply: Reply, mem: &mut [u8])
-    requires { ⌜ stateLength ≤ length (now mem) ⌝ }
+    requires { ⌜ imageLength ≤ length (now mem) ⌝ }
     ensures { λ _. ⌜ Changes (now (mem .entry)) (now (mem .exit)) (λ s. withReply s reply) ⌝ }
 {
     save_outline(reply, mem);
@@ -111,7 +111,7 @@ pub fn save_reply(reply: Reply, mem: &mut [u8])
 
 // The events: octets 4 and 5.
 pub fn save_events(events: Events, mem: &mut [u8])
-    requires { ⌜ stateLength ≤ length (now mem) ⌝ }
+    requires { ⌜ imageLength ≤ length (now mem) ⌝ }
     ensures { λ _. ⌜ Changes (now (mem .entry)) (now (mem .exit)) (λ s. withEventWord s events) ⌝ }
 {
     mem[4] = low(events.word);
@@ -120,7 +120,7 @@ pub fn save_events(events: Events, mem: &mut [u8])
 
 // The ticks that remain of the watchdog: octets 44 to 47.
 pub fn save_ticks(ticks: u32, mem: &mut [u8])
-    requires { ⌜ stateLength ≤ length (now mem) ⌝ }
+    requires { ⌜ imageLength ≤ length (now mem) ⌝ }
     ensures { λ _. ⌜ Changes (now (mem .entry)) (now (mem .exit)) (λ s. withTicks s ticks) ⌝ }
 {
     let octets = double_octets(ticks);
@@ -132,7 +132,7 @@ pub fn save_ticks(ticks: u32, mem: &mut [u8])
 
 // The last request, with which the next is compared: octets 54 and 55.
 pub fn save_chain(chain: Chain, mem: &mut [u8])
-    requires { ⌜ stateLength ≤ length (now mem) ⌝ }
+    requires { ⌜ imageLength ≤ length (now mem) ⌝ }
     ensures { λ _. ⌜ Changes (now (mem .entry)) (now (mem .exit)) (λ s. withChain s chain) ⌝ }
 {
     mem[54] = chain.code;
@@ -141,7 +141,7 @@ pub fn save_chain(chain: Chain, mem: &mut [u8])
 
 // The control part but for the events, the ticks that remain and the chain: octets 0 to 3, 21, 26, 27, 56, 57 and 64 to 67.
 fn save_standing(control: Control, mem: &mut [u8])
-    requires { ⌜ stateLength ≤ length (now mem) ⌝ }
+    requires { ⌜ imageLength ≤ length (now mem) ⌝ }
     ensures { λ _. ⌜ Changes (now (mem .entry)) (now (mem .exit)) (λ s. withStanding s control) ⌝ }
 {
     let phase = control.phase;
@@ -165,7 +165,7 @@ fn save_standing(control: Control, mem: &mut [u8])
 
 // The control part but for the chain, which requests alone change: octets 0 to 5, 21, 26, 27, 44 to 47, 56, 57 and 64 to 67.
 pub fn save_control(control: Control, mem: &mut [u8])
-    requires { ⌜ stateLength ≤ length (now mem) ⌝ }
+    requires { ⌜ imageLength ≤ length (now mem) ⌝ }
     ensures { λ _. ⌜ Changes (now (mem .entry)) (now (mem .exit)) (λ s. withControlButChain s control) ⌝ }
 {
     save_standing(control, mem);
@@ -175,7 +175,7 @@ pub fn save_control(control: Control, mem: &mut [u8])
 
 // The output set: octets 22 and 29.
 pub fn save_outputs(outputs: Outputs, mem: &mut [u8])
-    requires { ⌜ stateLength ≤ length (now mem) ⌝ }
+    requires { ⌜ imageLength ≤ length (now mem) ⌝ }
     ensures { λ _. ⌜ Changes (now (mem .entry)) (now (mem .exit)) (λ s. withOutputs s outputs) ⌝ }
 {
     let marks = output_marks(outputs);
@@ -185,7 +185,7 @@ pub fn save_outputs(outputs: Outputs, mem: &mut [u8])
 
 // The input set: octet 23.
 pub fn save_inputs(inputs: Triple, mem: &mut [u8])
-    requires { ⌜ stateLength ≤ length (now mem) ⌝ }
+    requires { ⌜ imageLength ≤ length (now mem) ⌝ }
     ensures { λ _. ⌜ Changes (now (mem .entry)) (now (mem .exit)) (λ s. withInputs s inputs) ⌝ }
 {
     mem[23] = inputs_code(inputs);
@@ -193,7 +193,7 @@ pub fn save_inputs(inputs: Triple, mem: &mut [u8])
 
 // The parameters received: octets 24, 58 and 59.
 pub fn save_parameters(parameters: Sets, mem: &mut [u8])
-    requires { ⌜ stateLength ≤ length (now mem) ⌝ }
+    requires { ⌜ imageLength ≤ length (now mem) ⌝ }
     ensures { λ _. ⌜ Changes (now (mem .entry)) (now (mem .exit)) (λ s. withParameters s parameters) ⌝ }
 {
     mem[24] = parameters.set.number();
@@ -203,7 +203,7 @@ pub fn save_parameters(parameters: Sets, mem: &mut [u8])
 
 // The configuration received: octets 25, 60 and 61.
 pub fn save_configuration(configuration: Sets, mem: &mut [u8])
-    requires { ⌜ stateLength ≤ length (now mem) ⌝ }
+    requires { ⌜ imageLength ≤ length (now mem) ⌝ }
     ensures { λ _. ⌜ Changes (now (mem .entry)) (now (mem .exit)) (λ s. withConfiguration s configuration) ⌝ }
 {
     mem[25] = configuration.set.number();
@@ -213,7 +213,7 @@ pub fn save_configuration(configuration: Sets, mem: &mut [u8])
 
 // Which diagnosis buffer is the controller's: octet 28.
 pub fn save_swapped(swapped: bool, mem: &mut [u8])
-    requires { ⌜ stateLength ≤ length (now mem) ⌝ }
+    requires { ⌜ imageLength ≤ length (now mem) ⌝ }
     ensures { λ _. ⌜ Changes (now (mem .entry)) (now (mem .exit)) (λ s. withSwapped s swapped) ⌝ }
 {
     mem[28] = bit(swapped);

@@ -20,12 +20,14 @@ use crate::state::State;
 use buffers::events::Events;
 use buffers::quad::Quad;
 use buffers::triple::Triple;
+use channels::setting;
 use telegram::reader::Reader;
 use telegram::sender::Sender;
 ghost use mathlib.Core.Path.{_≡_};
 ghost use Prim.Native.Nat.{_≤_};
 ghost use lib.ListN.{length};
-ghost use Rattle.state.specs.Layout.{endOf};
+ghost use Rattle.channels.specs.Setting.{lengthOctets, lengthsGiven};
+ghost use Rattle.state.specs.Layout.{endOf, lastEnd};
 ghost use Rattle.state.specs.Start.{given, lengthsOk, asked, firstControl, noSets, noReply, initialState, wiped, laidOut};
 
 // What Start is asked for: a setup, or why there is none.
@@ -64,8 +66,9 @@ pub fn setup_of(
     configuration: u32,
     diagnosis: u32,
     get_cfg: usize,
+    channels: &[u8],
 ) -> Asked
-    ensures { λ r. ⌜ r ≡ asked (given address ident outputs inputs parameters configuration diagnosis «get_cfg») ⌝ }
+    ensures { λ r. ⌜ r ≡ asked (given address ident outputs inputs parameters configuration diagnosis «get_cfg») (now (channels .entry)) ⌝ }
 {
     if 126 < address {
         return Asked::Declined(Refusal::Address);
@@ -78,6 +81,9 @@ pub fn setup_of(
         diagnosis,
         get_cfg,
     ) {
+        return Asked::Declined(Refusal::Length);
+    }
+    if !setting::lengths_ok(channels) {
         return Asked::Declined(Refusal::Length);
     }
     Asked::Accepted(Setup {
@@ -183,21 +189,29 @@ pub fn initial(setup: Setup) -> State
     }
 }
 
-// Zeros in all the buffers, then the slice in the last.
-fn wiped(mem: &mut [u8], setup: Setup, get_cfg: &[u8])
-    requires { ⌜ (endOf setup ≤ length (now mem)) × (setup .«get_cfg_len» ≡ length (now «get_cfg»)) ⌝ }
-    ensures { λ _. ⌜ now (mem .exit) ≡ wiped (now (mem .entry)) setup (now («get_cfg» .entry)) ⌝ }
+// Zeros up to the end of all buffers, then the slice in its own.
+fn wipe(mem: &mut [u8], setup: Setup, get_cfg: &[u8], end: usize)
+    requires { ⌜ (endOf setup ≤ end) × (end ≤ length (now mem)) × (setup .«get_cfg_len» ≡ length (now «get_cfg»)) ⌝ }
+    ensures { λ _. ⌜ now (mem .exit) ≡ wiped (now (mem .entry)) setup (now («get_cfg» .entry)) end ⌝ }
 {
-    let end = layout::end_of(setup);
-    octets::clear_at(mem, layout::STATE_LENGTH, end - layout::STATE_LENGTH);
+    octets::clear_at(mem, layout::IMAGE_LENGTH, end - layout::IMAGE_LENGTH);
     octets::copy_at(mem, layout::get_cfg_at(setup), get_cfg);
 }
 
-// The first state in front of the wiped buffers, in a memory that has room for them.
-pub fn lay_out(mem: &mut [u8], setup: Setup, get_cfg: &[u8])
-    requires { ⌜ (endOf setup ≤ length (now mem)) × (setup .«get_cfg_len» ≡ length (now «get_cfg»)) ⌝ }
-    ensures { λ _. ⌜ now (mem .exit) ≡ laidOut (now (mem .entry)) setup (now («get_cfg» .entry)) ⌝ }
+// Where the last buffer ends, that of a channel or another one.
+pub fn last_end(setup: Setup, channels: &[u8]) -> usize
+    requires { ⌜ length (now channels) ≡ lengthOctets ⌝ }
+    ensures { λ r. ⌜ r ≡ lastEnd (lengthsGiven (now (channels .entry))) setup ⌝ }
 {
-    wiped(mem, setup, get_cfg);
+    layout::end_of(setup) + setting::room_for(channels)
+}
+
+// The first state in front of the wiped buffers, and the channels set up, in a memory that has room for them. end: of the last buffer.
+pub fn lay_out(mem: &mut [u8], setup: Setup, get_cfg: &[u8], channels: &[u8], end: usize)
+    requires { ⌜ (end ≡ lastEnd (lengthsGiven (now channels)) setup) × (end ≤ length (now mem)) × (length (now channels) ≡ lengthOctets) × (setup .«get_cfg_len» ≡ length (now «get_cfg»)) ⌝ }
+    ensures { λ _. ⌜ now (mem .exit) ≡ laidOut (now (mem .entry)) setup (now («get_cfg» .entry)) (now (channels .entry)) ⌝ }
+{
+    wipe(mem, setup, get_cfg, end);
+    setting::set_up(mem, channels);
     image::save(initial(setup), mem);
 }

@@ -21,7 +21,7 @@ use Rattle.telegram.proofs.Run.{no-true}
 use Rattle.telegram.proofs.Above.{datum-number, datum-nothing, data-inside, data-goes-on, data-changes}
 use Rattle.state.specs.declared.state.Incoming.{Incoming}
 use Rattle.state.specs.declared.state.State.{State}
-use Rattle.state.specs.Layout.{stateLength, rowCount, startOf, outputRow, parameterRow, configurationRow, outputsAt, parametersAt, configurationAt}
+use Rattle.state.specs.Layout.{imageLength, rowCount, startOf, outputRow, parameterRow, configurationRow, outputsAt, parametersAt, configurationAt}
 use Rattle.state.specs.Memory.{kept, Holds, Changes}
 use Rattle.state.specs.With.{withIncoming, withRead, withKept}
 use Rattle.state.proofs.Choice.{and-left, and-right}
@@ -92,23 +92,23 @@ module _ (s : State) (m : List ℕ) (b : ℕ) where
 
 -- ---- a store leaves the state part
 
-stored-behind : (m : List ℕ) (a n k b : ℕ) → stateLength ≤ a → take stateLength (storedIn m a n k b) ≡ take stateLength m
+stored-behind : (m : List ℕ) (a n k b : ℕ) → imageLength ≤ a → take imageLength (storedIn m a n k b) ≡ take imageLength m
 unfolding storedIn
 stored-behind m a n k b h = go (ltb k n)
   where
-    go : (t : Bool) → take stateLength (cond t (set m (a + k) b) m) ≡ take stateLength m
-    go true = take-set-le stateLength m (a + k) b (omega arith)
+    go : (t : Bool) → take imageLength (cond t (set m (a + k) b) m) ≡ take imageLength m
+    go true = take-set-le imageLength m (a + k) b (omega arith)
     go false = refl
 
-one-of : (t : Bool) (x y z : List ℕ) → take stateLength x ≡ z → take stateLength y ≡ z → take stateLength (cond t x y) ≡ z
+one-of : (t : Bool) (x y z : List ℕ) → take imageLength x ≡ z → take imageLength y ≡ z → take imageLength (cond t x y) ≡ z
 one-of true x y z e f = e
 one-of false x y z e f = f
 
 module _ (m : List ℕ) (s : State) (h : Holds m s) where
-  behind : (row i : ℕ) → i < rowCount row → stateLength ≤ startOf (s .setup) row i
+  behind : (row i : ℕ) → i < rowCount row → imageLength ≤ startOf (s .setup) row i
   behind row i lt = inside (s .setup) row i 0 lt (omega arith) .0
 
-  stored-front : (k b : ℕ) → take stateLength (storedData s m k b) ≡ take stateLength m
+  stored-front : (k b : ℕ) → take imageLength (storedData s m k b) ≡ take imageLength m
   stored-front k b =
       let safe = holds-safe m s h in
       one-of (ltb (s .incoming .reader .da) 128) _ _ _
@@ -154,7 +154,7 @@ module _ (m : List ℕ) (s : State) (h : Holds m s) where
     leaves-data e n₀ n₁ x out en ex k₁ k₂ =
         let stored : n₀ ≡ storedData s m (s .incoming .reader .at) b = en ∙ (λ t. storedData s m (same t .reader .at) b) in
         let read : x ≡ readerStep (s .incoming .reader) b = ex ∙ (λ t. readerStep (same t .reader) b) in
-        then n₀ n₁ out _ _ k₁ k₂ s (fronted m n₀ s h (ap (take stateLength) stored ∙ stored-front (s .incoming .reader .at) b))
+        then n₀ n₁ out _ _ k₁ k₂ s (fronted m n₀ s h (ap (take imageLength) stored ∙ stored-front (s .incoming .reader .at) b))
         ∙ (λ t. kept (withKept (withRead s (read t .at) (read t .sum)) (same t .reader .at) b) (stored t))
         ∙ data-octet b e
 

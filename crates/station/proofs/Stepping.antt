@@ -7,7 +7,7 @@ use Rattle.state.specs.declared.answer.Answer.{Answer}
 use Rattle.state.specs.declared.answer.Answer.the-variants.{Value}
 use Rattle.state.specs.declared.state.State.{State}
 use Rattle.state.specs.Answer.{Meets}
-use Rattle.state.specs.Layout.{stateLength}
+use Rattle.state.specs.Layout.{imageLength}
 use Rattle.state.specs.Memory.{kept, Holds}
 use Rattle.state.specs.Unpack.{unpacked}
 use Rattle.rules.specs.Call as calls
@@ -41,5 +41,5 @@ module _ (m : List ℕ) (s : State) (c : Call) (h : Holds m s) where
 pub wrote : (m : List ℕ) (s : State) (kind index x : ℕ) → Holds m s → (a : Answer) (n : List ℕ)
     → Tells (writeOctet s m kind index x) a s n → Meets (stepOver m (calls.write kind index x)) a n
 wrote m s kind index x h a n r =
-    let front = ap (take stateLength) (r .leaves) ∙ written-front s m kind index (holds-safe m s h) x in
+    let front = ap (take imageLength) (r .leaves) ∙ written-front s m kind index (holds-safe m s h) x in
     stepped m s (calls.write kind index x) h a n r (fronted m n s h front)

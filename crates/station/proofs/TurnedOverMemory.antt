@@ -62,7 +62,7 @@ module _ (m : List ℕ) (i : Incoming) (next : Reader) (y : Status) (turns : Tur
     unfolding outcomeOf
     completed-fronts e k = record {
       sound = sound-completed s m next (turns .holds .sound) (turns .counts);
-      room = safe-completed s m next (holds-safe m s (turns .holds)) .room;
+      room = safe-completed s m next (holds-safe m s (turns .holds)) .channels;
       front = k ∙ (λ r. let x = read e r in packedAfter (answered (withIncoming s x) m (outcomeOf s m (requestBy (x .reader))) (requestBy (x .reader))));
     }
 

@@ -52,7 +52,7 @@ ghost use Prim.Native.Nat.{_≤_};
 ghost use mathlib.Core.Bool.{true, false, cond};
 ghost use mathlib.Core.Path.{_≡_};
 ghost use lib.ListN.{length};
-ghost use Rattle.state.specs.Layout.{stateLength};
+ghost use Rattle.state.specs.Layout.{imageLength};
 ghost use Rattle.state.specs.Memory.{Holds, Changes};
 ghost use Rattle.state.specs.Unpack.{unpacked};
 ghost use Rattle.state.specs.With.{withReply, withChain};
@@ -97,7 +97,7 @@ fn served_in(mem: &[u8], r: Request, service: Service) -> Outcome
 
 // If the telegram is a request, the next one is compared with it, or with none where its frame count bit does not count.
 fn keep_request(mem: &mut [u8], r: Request, drawn: Drawn)
-    requires { ⌜ stateLength ≤ length (now mem) ⌝ }
+    requires { ⌜ imageLength ≤ length (now mem) ⌝ }
     ensures { λ _. ⌜ Changes (now (mem .entry)) (now (mem .exit)) (λ s. withChain s (cond (asks r) (chainBy r drawn) (s .control .chain))) ⌝ }
 {
     if asks(r) {
@@ -173,7 +173,7 @@ fn reply_exchange(
     held: u8,
     header: Header,
 )
-    requires { ⌜ stateLength ≤ length (now mem) ⌝ }
+    requires { ⌜ imageLength ≤ length (now mem) ⌝ }
     ensures { λ _. ⌜ Changes (now (mem .entry)) (now (mem .exit)) (λ s. withReply (withChain s (chainBy r (exchangeDrew setup control))) (repliedWith (exchangeSender setup control (masterOf r)) held header)) ⌝ }
 {
     let master = master_of(r);

@@ -22,7 +22,7 @@ ghost use mathlib.Core.Bool.{true, false};
 ghost use mathlib.Core.Path.{_≡_};
 ghost use lib.ListN.{length};
 ghost use Rattle.telegram.specs.Reading.{takesData};
-ghost use Rattle.state.specs.Layout.{stateLength};
+ghost use Rattle.state.specs.Layout.{imageLength};
 ghost use Rattle.state.specs.Memory.{Holds, Changes};
 ghost use Rattle.state.specs.Start.{noReply};
 ghost use Rattle.state.specs.Unpack.{unpacked};
@@ -80,7 +80,7 @@ fn is_plain(reader: Reader, next: Reader) -> bool
 
 // The telegram that is coming, with an unfinished reply dropped.
 pub fn drop_reply(mem: &mut [u8], i: Incoming)
-    requires { ⌜ stateLength ≤ length (now mem) ⌝ }
+    requires { ⌜ imageLength ≤ length (now mem) ⌝ }
     ensures { λ _. ⌜ Changes (now (mem .entry)) (now (mem .exit)) (λ s. withReply (withIncoming s i) noReply) ⌝ }
 {
     save_incoming(i, mem);

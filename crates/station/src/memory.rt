@@ -4,11 +4,11 @@ ghost use mathlib.Core.Path.{_≡_};
 ghost use Rattle.state.specs.Well.{within};
 ghost use Rattle.steps.specs.Calls.{lengthOk, wellMemory};
 
-// 1,536 to 4,096 octets.
+// 1,536 to 16,384 octets.
 fn in_range(n: usize) -> bool
-    ensures { λ r. ⌜ r ≡ within 1536 n 4096 ⌝ }
+    ensures { λ r. ⌜ r ≡ within 1536 n 16384 ⌝ }
 {
-    (1536 <= n) & (n <= 4096)
+    (1536 <= n) & (n <= 16384)
 }
 
 // So many, and a multiple of 8.
@@ -18,17 +18,13 @@ pub fn length_ok(n: usize) -> bool
     in_range(n) & (n % 8 == 0)
 }
 
-// Whether the memory is well: else every call but Start is refused with 5. Whether its length is a multiple of 8 is asked last: asked with its
-// range, the compiler would make numbers of both answers.
+// Whether the memory is well: else every call but Start is refused with 5. Its length is asked first: asked behind the state, it would have to
+// be kept over the survey of the channels, for which every call would save a register.
 pub fn is_well(mem: &[u8]) -> bool
     ensures { λ r. ⌜ r ≡ wellMemory (now (mem .entry)) ⌝ }
 {
-    let n = mem.len();
-    if !in_range(n) {
+    if !length_ok(mem.len()) {
         return false;
     }
-    if !holds_state(mem) {
-        return false;
-    }
-    n % 8 == 0
+    holds_state(mem)
 }

@@ -1,4 +1,4 @@
--- A step reads and writes only behind the state part: what it makes of two memories that agree there agrees.
+-- A step reads and writes only behind the image of the state: what it makes of two memories that agree there agrees.
 use Prim.Native.Nat.{ℕ, _+_, _-_, _≤_, _<_}
 use native.Mathlib.Omega.{arith}
 use mathlib.Core.Path.{_≡_, refl, sym, ap, subst, _∙_}
@@ -19,7 +19,7 @@ use Rattle.telegram.specs.declared.reader.Status.the-variants.{Fresh, Inside, C
 use Rattle.telegram.specs.Reading.{start, off, readerAfter, status, datumOf}
 use Rattle.state.specs.declared.state.State.{State}
 use Rattle.state.specs.Image.{image}
-use Rattle.state.specs.Layout.{stateLength, outputRow, parameterRow, configurationRow, rowCount, startOf, outputsAt, parametersAt}
+use Rattle.state.specs.Layout.{imageLength, outputRow, parameterRow, configurationRow, rowCount, startOf, outputsAt, parametersAt}
 use Rattle.state.proofs.Places.{inside}
 use Rattle.rules.specs.declared.outcome.OutputsDeed.{OutputsDeed}
 use Rattle.rules.specs.declared.outcome.OutputsDeed.the-variants as outputs-deed
@@ -36,9 +36,9 @@ use Rattle.steps.specs.Reading.{storedData, storedAs, readBy, requestBy,
 use Rattle.steps.specs.Bus.{paused, silencedReader, elapsed}
 use Rattle.steps.proofs.KeepsSafe.{safe-after-reply, safe-read-by, safe-beginning, safe-completed}
 
--- what lies behind the state part
+-- what lies behind the image
 abbrev pub behind : List ℕ → List ℕ
-behind m = drop stateLength m
+behind m = drop imageLength m
 
 -- two outcomes of a step agree but for what stands in front
 pub record Alike (r q : Stepped) : Type 0 where
@@ -49,57 +49,57 @@ pub record Alike (r q : Stepped) : Type 0 where
 pub alike-packs : {r q : Stepped} → Alike r q → packedAfter r ≡ packedAfter q
 alike-packs a = λ i. image (a .states i) ++ a .bodies i
 
--- ---- stores and reads behind the state part
+-- ---- stores and reads behind the image
 
 -- a memory that has room for the buffers has room for the state
-pub safe-long : (s : State) (m : List ℕ) → Safe s m → stateLength ≤ length m
+pub safe-long : (s : State) (m : List ℕ) → Safe s m → imageLength ≤ length m
 safe-long s m h =
     let u = inside (s .setup) outputRow 0 0 (omega arith) (omega arith) in
     let r = h .room in
     omega arith
 
 -- a buffer begins behind it
-starts : (s : State) (row k : ℕ) → k < rowCount row → stateLength ≤ startOf (s .setup) row k
+starts : (s : State) (row k : ℕ) → k < rowCount row → imageLength ≤ startOf (s .setup) row k
 starts s row k h = inside (s .setup) row k 0 h (omega arith) .0
 
-module _ (m : List ℕ) (long : stateLength ≤ length m) (a : ℕ) (far : stateLength ≤ a) where
-  place : a ≡ stateLength + (a - stateLength)
+module _ (m : List ℕ) (long : imageLength ≤ length m) (a : ℕ) (far : imageLength ≤ a) where
+  place : a ≡ imageLength + (a - imageLength)
   place = omega arith
 
-  parts : m ≡ take stateLength m ++ behind m
-  parts = sym (take-append-drop stateLength m)
+  parts : m ≡ take imageLength m ++ behind m
+  parts = sym (take-append-drop imageLength m)
 
-  front : length (take stateLength m) ≡ stateLength
-  front = length-take-le stateLength m long
+  front : length (take imageLength m) ≡ imageLength
+  front = length-take-le imageLength m long
 
-  behind-stored : (n i x : ℕ) → behind (storedIn m a n i x) ≡ storedIn (behind m) (a - stateLength) n i x
+  behind-stored : (n i x : ℕ) → behind (storedIn m a n i x) ≡ storedIn (behind m) (a - imageLength) n i x
   behind-stored n i x =
       (λ j. behind (storedIn (parts j) (place j) n i x))
-      ∙ ap behind (stored-append (take stateLength m) (behind m) stateLength (a - stateLength) n i x front)
-      ∙ drop-at (take stateLength m) (storedIn (behind m) (a - stateLength) n i x) stateLength front
+      ∙ ap behind (stored-append (take imageLength m) (behind m) imageLength (a - imageLength) n i x front)
+      ∙ drop-at (take imageLength m) (storedIn (behind m) (a - imageLength) n i x) imageLength front
 
-  behind-pasted : (xs : List ℕ) → behind (pasted m a xs) ≡ pasted (behind m) (a - stateLength) xs
+  behind-pasted : (xs : List ℕ) → behind (pasted m a xs) ≡ pasted (behind m) (a - imageLength) xs
   behind-pasted xs =
       (λ j. behind (pasted (parts j) (place j) xs))
-      ∙ ap behind (pasted-append (take stateLength m) (behind m) stateLength (a - stateLength) xs front)
-      ∙ drop-at (take stateLength m) (pasted (behind m) (a - stateLength) xs) stateLength front
+      ∙ ap behind (pasted-append (take imageLength m) (behind m) imageLength (a - imageLength) xs front)
+      ∙ drop-at (take imageLength m) (pasted (behind m) (a - imageLength) xs) imageLength front
 
-behind-at : (m : List ℕ) (a : ℕ) → stateLength ≤ a → getD m a 0 ≡ getD (behind m) (a - stateLength) 0
+behind-at : (m : List ℕ) (a : ℕ) → imageLength ≤ a → getD m a 0 ≡ getD (behind m) (a - imageLength) 0
 behind-at m a far =
-    let e : stateLength + (a - stateLength) ≡ a = omega arith in
-    ap (λ (k : ℕ). getD m k 0) (sym e) ∙ sym (getD-drop stateLength m (a - stateLength) 0)
+    let e : imageLength + (a - imageLength) ≡ a = omega arith in
+    ap (λ (k : ℕ). getD m k 0) (sym e) ∙ sym (getD-drop imageLength m (a - imageLength) 0)
 
 -- ---- the steps, on one state and two memories that agree behind it
 
 module _ (s : State) (m n : List ℕ) (h : Safe s m) (g : Safe s n) (e : behind m ≡ behind n) where
-  same-stored : (a : ℕ) → stateLength ≤ a → (k i x : ℕ) → behind (storedIn m a k i x) ≡ behind (storedIn n a k i x)
+  same-stored : (a : ℕ) → imageLength ≤ a → (k i x : ℕ) → behind (storedIn m a k i x) ≡ behind (storedIn n a k i x)
   same-stored a far k i x =
       behind-stored m (safe-long s m h) a far k i x
-      ∙ ap (λ (l : List ℕ). storedIn l (a - stateLength) k i x) e
+      ∙ ap (λ (l : List ℕ). storedIn l (a - imageLength) k i x) e
       ∙ sym (behind-stored n (safe-long s n g) a far k i x)
 
-  same-at : (a : ℕ) → stateLength ≤ a → getD m a 0 ≡ getD n a 0
-  same-at a far = behind-at m a far ∙ ap (λ (l : List ℕ). getD l (a - stateLength) 0) e ∙ sym (behind-at n a far)
+  same-at : (a : ℕ) → imageLength ≤ a → getD m a 0 ≡ getD n a 0
+  same-at a far = behind-at m a far ∙ ap (λ (l : List ℕ). getD l (a - imageLength) 0) e ∙ sym (behind-at n a far)
 
   on-memory : (d : OutputsDeed) → behind (onMemory d s m) ≡ behind (onMemory d s n)
   on-memory outputs-deed.Keep = e
@@ -111,7 +111,7 @@ module _ (s : State) (m n : List ℕ) (h : Safe s m) (g : Safe s n) (e : behind 
       let far = starts s outputRow (nextOf (s .outputs .set .place)) (h .outputs .within role.next (omega arith)) in
       let xs = replicate {A = ℕ} (s .setup .«output_len») 0 in
       behind-pasted m (safe-long s m h) a far xs
-      ∙ ap (λ (l : List ℕ). pasted l (a - stateLength) xs) e
+      ∙ ap (λ (l : List ℕ). pasted l (a - imageLength) xs) e
       ∙ sym (behind-pasted n (safe-long s n g) a far xs)
 
   pub alike-carried : (o : Outcome) (count : ℕ) → Alike (carried s m o count) (carried s n o count)
@@ -143,7 +143,7 @@ module _ (s : State) (m n : List ℕ) (h : Safe s m) (g : Safe s n) (e : behind 
   alike-stored Nothing r b = record { states = refl; bodies = e }
   alike-stored (Number k) r b = record { states = refl; bodies = same-data k b }
 
-  same-prm-at : (a : ℕ) → stateLength ≤ a → prmAt m a ≡ prmAt n a
+  same-prm-at : (a : ℕ) → imageLength ≤ a → prmAt m a ≡ prmAt n a
   same-prm-at a far = λ j. record {
     status = same-at a far j;
     factor1 = same-at (a + 1) (omega arith) j;

@@ -4,7 +4,7 @@ use Prim.Native.Nat.{ℕ}
 use native.Mathlib.Omega.{arith}
 use mathlib.Core.Path.{_≡_, refl, sym, ap, subst, _∙_}
 use mathlib.Core.Logic.{_↔_}
-use mathlib.Core.Bool.{Bool, true, false, not}
+use mathlib.Core.Bool.{Bool, true, false, not, _&&_}
 use mathlib.Core.List.{List}
 use lib.Dec.{ltb}
 use lib.ListN.{length}
@@ -20,7 +20,11 @@ use Rattle.state.specs.declared.setup.Setup.{Setup}
 use Rattle.state.specs.declared.state.State.{State}
 use Rattle.state.specs.Answer.{Called}
 use Rattle.state.specs.declared.start.Asked.{Asked}
-use Rattle.state.specs.Layout.{endOf}
+use Rattle.channels.specs.Setting.{lengthsGiven}
+use Rattle.channels.specs.Setting as channel
+use Rattle.channels.proofs.Exact.{lengths-hold}
+use Rattle.state.proofs.LaidOut.{laid-holds, laid-channels, laid-slice, laid-zero, laid-behind}
+use Rattle.state.specs.Layout.{lastEnd}
 use Rattle.state.specs.Memory.{Holds, kept}
 use Rattle.state.specs.Unpack.{unpacked}
 use Rattle.state.specs.Start.{lengthsOk, asked}
@@ -32,10 +36,10 @@ use Rattle.rules.specs.Call.{Call, events, pending}
 use Rattle.steps.specs.Stepped.{Told}
 use Rattle.steps.specs.Step.{step, packed, stepOver}
 use Rattle.steps.specs.Calls.{lengthOk, startedIn, startedAs, started, wellMemory, called}
-use Rattle.steps.specs.Demand1.{LengthIn, Undamaged, EventsTold, Demand1}
+use Rattle.steps.specs.Demand1.{LengthIn, Undamaged, EventsTold, Demand1, Laid, StartLays}
 use Rattle.steps.proofs.Holding.{ByUser, step-cases, whole, step-whole}
 use Rattle.steps.proofs.KeepsSound.{step-sound}
-use Rattle.steps.proofs.StaysUndamaged.{stays-undamaged}
+use Rattle.steps.proofs.StaysUndamaged.{stays-undamaged, rest-stays}
 use Rattle.steps.proofs.Guarded.{well-length, well-passes, holds-well, called-steps, called-damaged, started-begins, begins-started, refused-same}
 
 -- an answer that a step may give
@@ -79,18 +83,31 @@ ByStart (Refused Absent) = ⊥
 ByStart (Refused Delayed) = ⊥
 ByStart (Refused Cell) = ⊥
 
-by-start : (m : List ℕ) (s : Setup) (slice : List ℕ) → ByStart (started m s slice .answer)
+by-start : (m : List ℕ) (s : Setup) (slice lengths : List ℕ) → ByStart (started m s slice lengths .answer)
 unfolding started asked startedIn
-by-start m s slice =
+by-start m s slice lengths =
     either May (not (lengthOk (length m))) tt
     (either May-as (ltb 126 (s .address)) tt
-    (either May-as (not (lengthsOk s)) tt (either May (ltb (length m) (endOf s)) tt tt)))
+    (either May-as (not (lengthsOk s && channel.lengthsOk lengths)) tt (either May (ltb (length m) (lastEnd (lengthsGiven lengths) s)) tt tt)))
   where
     May : Called → Type 0
     May x = ByStart (x .answer)
 
     May-as : Asked → Type 0
-    May-as a = ByStart (startedAs m slice a .answer)
+    May-as a = ByStart (startedAs m slice lengths a .answer)
+
+-- what it leaves
+start-lays : StartLays
+start-lays m s slice lengths long e =
+    let b = started-begins m s slice lengths e in
+    subst (λ (x : Called). Laid m (x .memory) s slice lengths) (sym (begins-started m s slice lengths b))
+    (record {
+      holds = laid-holds m s slice lengths long (b .room) (b .ranged) (lengths-hold lengths (b .channel-lengths .octets) (b .channel-lengths .pairs));
+      channels-are = laid-channels m s slice lengths long (b .room);
+      slice-is = laid-slice m s slice lengths long (b .room);
+      zeros-are = laid-zero m s slice lengths long (b .room);
+      behind-is = laid-behind m s slice lengths long (b .room);
+    })
 
 -- ---- a refusal leaves the memory
 
@@ -134,12 +151,14 @@ module _ (m : List ℕ) (s : State) (n : LengthIn (length m)) (h : Holds m s) wh
 
 pub demand-1 : Demand1
 demand-1 = record {
-  damage-check = record { exactly = exactly; not-by-start = λ m s slice e. subst ByStart e (by-start m s slice) };
+  damage-check = record { exactly = exactly; not-by-start = λ m s slice lengths e. subst ByStart e (by-start m s slice lengths) };
   refusals-leave = record { of-call = called-same; of-start = refused-same };
   one-image = image-injective;
   numbers-apart = codes-equal;
   sound-kept = step-sound;
   stays-undamaged = stays-undamaged;
+  rest-stays = rest-stays;
+  start-lays = start-lays;
   events-told = λ m u. events-told m (u .state) (u .length-in) (u .holds);
-  start-answers = λ m s slice. (started-begins m s slice, λ b. ap (λ (x : Called). x .answer) (begins-started m s slice b));
+  start-answers = λ m s slice lengths. (started-begins m s slice lengths, λ b. ap (λ (x : Called). x .answer) (begins-started m s slice lengths b));
 }

@@ -9,8 +9,8 @@ use Rattle.state.specs.declared.answer.Refusal.{Refusal}
 use Rattle.state.specs.declared.answer.Refusal.the-variants.{MemoryLength, Address, Length, Room, Damaged, Judging, Range, Absent, Delayed, Cell}
 use Rattle.state.specs.declared.state.State.{State}
 use Rattle.state.specs.Answer.{Called, refused}
-use Rattle.state.specs.Layout.{endOf}
-use Rattle.state.specs.Memory.{kept, Holds}
+use Rattle.state.specs.Memory.{kept, Channelled, Holds}
+use Rattle.state.proofs.Channelled.{channelled-room}
 use Rattle.state.specs.Sound.{Sound}
 use Rattle.state.proofs.Choice.{either}
 use Rattle.state.proofs.Damage.{fronted-same, holds-unpacked}
@@ -29,7 +29,7 @@ use Rattle.steps.specs.Step.{step, packed, stepOver}
 -- ---- a memory that holds a state
 
 -- the steps may be made from a sound state whose buffers end in the memory
-pub sound-safe : (m : List ℕ) (s : State) → Sound s → endOf (s .setup) ≤ length m → Safe s m
+pub sound-safe : (m : List ℕ) (s : State) → Sound s → Channelled m (s .setup) → Safe s m
 sound-safe m s h room =
     record {
       outputs = h .outputs;
@@ -38,7 +38,8 @@ sound-safe m s h room =
       configuration = h .configuration;
       reply = h .place;
       long = h .setup .parameter-len .0;
-      room = room;
+      room = channelled-room room;
+      channels = room;
     }
 
 -- so they may be made on a memory that holds one

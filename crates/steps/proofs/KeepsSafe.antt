@@ -2,6 +2,7 @@
 use Prim.Native.Nat.{ℕ, _+_, _≤_, _<_}
 use native.Mathlib.Omega.{arith}
 use mathlib.Core.Path.{_≡_, refl}
+use mathlib.Core.Logic.{_⊎_, inl, inr}
 use mathlib.Core.Bool.{Bool, true, false, cond, not, _&&_}
 use mathlib.Core.List.{List}
 use lib.Dec.{eqb, ltb}
@@ -12,7 +13,9 @@ use Rattle.buffers.specs.Roles as role
 use Rattle.buffers.specs.Triple.{brought}
 use Rattle.buffers.proofs.Triples.{published-permutes, taken-permutes, brought-permutes, shown-permutes}
 use Rattle.buffers.proofs.Quads as quads
-use Rattle.octets.proofs.Parts.{pasted-length, stored-length}
+use Rattle.octets.specs.Part.{part, storedIn, roundedUp}
+use Rattle.octets.proofs.Parts.{pasted-length, pasted-apart, stored-length, stored-apart}
+use Rattle.channels.specs.Image.{channelsAt, rowsLength}
 use Rattle.telegram.specs.declared.Datum.{Datum}
 use Rattle.telegram.specs.declared.Datum.the-variants.{Number, Nothing}
 use Rattle.telegram.specs.declared.reader.Reader.{Reader}
@@ -20,6 +23,7 @@ use Rattle.telegram.specs.declared.reader.Status.{Status}
 use Rattle.telegram.specs.declared.reader.Status.the-variants.{Fresh, Inside, Complete, Broken}
 use Rattle.telegram.specs.Reading.{start, off, readerAfter, status, datumOf}
 use Rattle.telegram.specs.Sending.{left, sent}
+use Rattle.state.specs.declared.setup.Setup.{Setup}
 use Rattle.state.specs.declared.control.Control.{Control}
 use Rattle.state.specs.declared.state.Drawn.{Drawn}
 use Rattle.state.specs.declared.state.Incoming.{Incoming}
@@ -27,9 +31,10 @@ use Rattle.state.specs.declared.state.Outputs.{Outputs}
 use Rattle.state.specs.declared.state.Reply.{Reply}
 use Rattle.state.specs.declared.state.Sets.{Sets}
 use Rattle.state.specs.declared.state.State.{State}
-use Rattle.state.specs.Layout.{roundedUp, outputRow, parameterRow, rowCount, rowLength, startOf, outputsAt, parametersAt, getCfgAt}
+use Rattle.state.specs.Layout.{stateLength, outputRow, parameterRow, configurationRow, rowCount, rowLength, startOf, outputsAt, parametersAt, getCfgAt, endOf}
 use Rattle.state.proofs.Choice.{either}
-use Rattle.state.proofs.Places.{inside, rounded-inside, get-cfg-inside}
+use Rattle.state.proofs.Channelled.{rowsOf, channelled-same}
+use Rattle.state.proofs.Places.{inside, beyond, rounded-inside, get-cfg-inside}
 use Rattle.rules.specs.declared.outcome.OutputsDeed.{OutputsDeed}
 use Rattle.rules.specs.declared.outcome.OutputsDeed.the-variants as outputs-deed
 use Rattle.rules.specs.declared.outcome.InputsDeed.{InputsDeed}
@@ -95,10 +100,30 @@ Safely r = Safe (r .state) (r .memory)
 pub safe-steps : (r : Stepped) (s : State) (m : List ℕ) → Steps r s m → Safely r → Safe s m
 safe-steps r s m e h = rw (e .states, e .leaves) h
 
--- ---- a memory of the same length
+-- ---- what lies beside the buffers
 
-pub safe-length : (s : State) (m n : List ℕ) → length n ≡ length m → Safe s m → Safe s n
-safe-length s m n e h =
+-- k octets from a on lie in the state part, or behind the buffers, where the channels' are
+abbrev pub Beside : Setup → ℕ → ℕ → Type 0
+Beside g a k = (a + k ≤ stateLength) ⊎ (endOf g ≤ a)
+
+-- n is m but for the buffers
+abbrev pub BesideStays : State → List ℕ → List ℕ → Type 0
+BesideStays s m n = (a k : ℕ) → Beside (s .setup) a k → part n a k ≡ part m a k
+
+-- such octets lie apart from every buffer
+beside-buffer : (s : State) (row i n a k : ℕ) → i < rowCount row → n ≤ rowLength (s .setup) row → Beside (s .setup) a k
+    → (a + k ≤ startOf (s .setup) row i) ⊎ (startOf (s .setup) row i + n ≤ a)
+beside-buffer s row i n a k h g (inl b) = let u = beyond (s .setup) row i in inl (omega arith)
+beside-buffer s row i n a k h g (inr b) = let u = inside (s .setup) row i n h g in inr (omega arith)
+
+-- and the rows of the channels are such
+pub beside-rows : (s : State) (m n : List ℕ) → BesideStays s m n → rowsOf n ≡ rowsOf m
+beside-rows s m n f = f channelsAt rowsLength (inl (omega arith))
+
+-- ---- a memory of the same length, with the channels' rows as they were
+
+pub safe-same : (s : State) (m n : List ℕ) → length n ≡ length m → rowsOf n ≡ rowsOf m → Safe s m → Safe s n
+safe-same s m n e rows h =
     record {
       outputs = h .outputs;
       inputs = h .inputs;
@@ -107,6 +132,7 @@ safe-length s m n e h =
       reply = h .reply;
       long = h .long;
       room = rw e (h .room);
+      channels = channelled-same m n e rows (h .channels);
     }
 
 -- ---- other parts of the state
@@ -124,6 +150,7 @@ safe-others s m c o t swapped i r p q g h =
       reply = g;
       long = h .long;
       room = h .room;
+      channels = h .channels;
     }
 
 -- another control part, and which diagnosis buffer is whose
@@ -197,6 +224,18 @@ on-memory-length outputs-deed.Zeros s m h =
     (rw (length-replicate {A = ℕ} (s .setup .«output_len») 0)
     (buffer-room s m outputRow (nextOf (s .outputs .set .place)) h (h .outputs .within role.next (omega arith))))
 
+-- and nothing but the buffers changes
+pub on-memory-beside : (d : OutputsDeed) (s : State) (m : List ℕ) → Safe s m → BesideStays s m (onMemory d s m)
+on-memory-beside outputs-deed.Keep s m h a k b = refl
+on-memory-beside outputs-deed.Publish s m h a k b = refl
+on-memory-beside outputs-deed.HoldBack s m h a k b = refl
+on-memory-beside outputs-deed.Release s m h a k b = refl
+on-memory-beside outputs-deed.Zeros s m h a k b =
+    let there = h .outputs .within role.next (omega arith) in
+    let u = buffer-room s m outputRow (nextOf (s .outputs .set .place)) h there in
+    pasted-apart m (outputsAt (s .setup) (nextOf (s .outputs .set .place))) (replicate (s .setup .«output_len») 0) a k (omega arith)
+    (rw (length-replicate {A = ℕ} (s .setup .«output_len») 0) (beside-buffer s outputRow (nextOf (s .outputs .set .place)) (s .setup .«output_len») a k there (omega arith) b))
+
 pub safe-carried : (s : State) (m : List ℕ) (o : Outcome) (count : ℕ) → Safe s m → Safely (carried s m o count)
 unfolding carried
 safe-carried s m o count h =
@@ -208,6 +247,7 @@ safe-carried s m o count h =
       reply = h .reply;
       long = h .long;
       room = rw (on-memory-length (o .outputs) s m h) (h .room);
+      channels = channelled-same m (onMemory (o .outputs) s m) (on-memory-length (o .outputs) s m h) (beside-rows s m (onMemory (o .outputs) s m) (on-memory-beside (o .outputs) s m h)) (h .channels);
     }
 
 -- ---- the line settled
@@ -242,10 +282,25 @@ stored-data-length s m k b =
     (cond-length (eqb (s .incoming .reader .dsap) 61) _ _ (length m) (stored-length m _ _ k b)
     (cond-length (eqb (s .incoming .reader .dsap) 62) _ _ (length m) (stored-length m _ _ k b) refl))
 
+cond-part : (t : Bool) (x y m : List ℕ) (a k : ℕ) → part x a k ≡ part m a k → part y a k ≡ part m a k → part (cond t x y) a k ≡ part m a k
+cond-part true x y m a k e f = e
+cond-part false x y m a k e f = f
+
+pub stored-data-beside : (s : State) (m : List ℕ) (k b : ℕ) → Safe s m → BesideStays s m (storedData s m k b)
+stored-data-beside s m k b h a n beside =
+    cond-part (ltb (s .incoming .reader .da) 128) _ _ m a n (into outputRow (fillOf (s .outputs .set .place)) (h .outputs .within role.fill (omega arith)))
+    (cond-part (eqb (s .incoming .reader .dsap) 61) _ _ m a n (into parameterRow (fillOf (s .parameters .set .place)) (h .parameters .within role.fill (omega arith)))
+    (cond-part (eqb (s .incoming .reader .dsap) 62) _ _ m a n
+    (into configurationRow (fillOf (s .configuration .set .place)) (h .configuration .within role.fill (omega arith))) refl))
+  where
+    into : (row i : ℕ) → i < rowCount row → part (storedIn m (startOf (s .setup) row i) (rowLength (s .setup) row) k b) a n ≡ part m a n
+    into row i there =
+        stored-apart m (startOf (s .setup) row i) (rowLength (s .setup) row) k b a n (beside-buffer s row i (rowLength (s .setup) row) a n there (omega arith) beside)
+
 pub safe-stored-as : (d : Datum) (s : State) (m : List ℕ) (r : Reader) (b : ℕ) → Safe s m → Safely (storedAs d s m r b)
 safe-stored-as Nothing s m r b h = safe-read-by s m r h
 safe-stored-as (Number k) s m r b h =
-    safe-length (withIncoming s (keptOctets (s .incoming) r k b)) m (storedData s m k b) (stored-data-length s m k b)
+    safe-same (withIncoming s (keptOctets (s .incoming) r k b)) m (storedData s m k b) (stored-data-length s m k b) (beside-rows s m (storedData s m k b) (stored-data-beside s m k b h))
     (safe-incoming s m (keptOctets (s .incoming) r k b) h)
 
 pub safe-answered : (s : State) (m : List ℕ) (o : Outcome) (r : Request) → Safe s m → Safely (answered s m o r)

@@ -1,4 +1,5 @@
 pub mod KeepsSafe
+pub mod KindsInside
 pub mod KeepsSetup
 pub mod NothingWaits
 pub mod Behind

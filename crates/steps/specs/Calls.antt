@@ -12,7 +12,8 @@ use Rattle.state.specs.declared.setup.Setup.{Setup}
 use Rattle.state.specs.declared.start.Asked.{Asked}
 use Rattle.state.specs.declared.start.Asked.the-variants.{Accepted, Declined}
 use Rattle.state.specs.Answer.{Called, refused}
-use Rattle.state.specs.Layout.{endOf}
+use Rattle.state.specs.Layout.{lastEnd}
+use Rattle.channels.specs.Setting.{lengthsGiven}
 use Rattle.state.specs.Memory.{holdsState}
 use Rattle.state.specs.Start.{asked, laidOut}
 use Rattle.state.specs.Well.{within}
@@ -20,23 +21,25 @@ use Rattle.rules.specs.Call.{Call}
 use Rattle.rules.specs.Runs.{answersTo, leftBy}
 use Rattle.steps.specs.Step.{stepOver}
 
--- "1,536 to 4,096 octets, a multiple of 8"
+-- "1,536 to 4,096 octets, a multiple of 8", and "The memory may be up to 16,384 octets" (document 02, Req 08)
 unfoldable pub lengthOk : ℕ → Bool
-lengthOk n = within 1536 n 4096 && eqb (n % 8) 0
+lengthOk n = within 1536 n 16384 && eqb (n % 8) 0
 
--- "4 buffers end beyond the memory"; else the buffers are wiped and the first state stands in front
-unfoldable pub startedIn : List ℕ → Setup → List ℕ → Called
-startedIn m s slice =
-    cond (ltb (length m) (endOf s)) (refused m Room) (record { answer = Value 0; memory = laidOut m s slice })
+-- "4 buffers end beyond the memory"; else the buffers are wiped, the channels set up and the first state stands in front. lengths: of the
+-- channels
+unfoldable pub startedIn : List ℕ → Setup → List ℕ → List ℕ → Called
+startedIn m s slice lengths =
+    cond (ltb (length m) (lastEnd (lengthsGiven lengths) s)) (refused m Room) (record { answer = Value 0; memory = laidOut m s slice lengths })
 
 -- a setup that is accepted is laid out, and a refusal is the answer
-abbrev pub startedAs : List ℕ → List ℕ → Asked → Called
-startedAs m slice (Accepted s) = startedIn m s slice
-startedAs m slice (Declined why) = refused m why
+abbrev pub startedAs : List ℕ → List ℕ → List ℕ → Asked → Called
+startedAs m slice lengths (Accepted s) = startedIn m s slice lengths
+startedAs m slice lengths (Declined why) = refused m why
 
 -- Start; "checks go upward": 1 the memory's length here, 2 and 3 in asked, 4 in startedIn
-unfoldable pub started : List ℕ → Setup → List ℕ → Called
-started m s slice = cond (not (lengthOk (length m))) (refused m MemoryLength) (startedAs m slice (asked s))
+unfoldable pub started : List ℕ → Setup → List ℕ → List ℕ → Called
+started m s slice lengths =
+    cond (not (lengthOk (length m))) (refused m MemoryLength) (startedAs m slice lengths (asked s lengths))
 
 -- a memory is damaged where this fails: its length, or the state that it holds
 unfoldable pub wellMemory : List ℕ → Bool

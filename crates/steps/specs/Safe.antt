@@ -6,6 +6,7 @@ use lib.ListN.{length}
 use Rattle.buffers.specs.Roles.{Permutation}
 use Rattle.state.specs.declared.state.State.{State}
 use Rattle.state.specs.Layout.{endOf}
+use Rattle.state.specs.Memory.{Channelled}
 
 -- s is safe over the memory m
 pub record Safe (s : State) (m : List ℕ) : Type 0 where
@@ -17,3 +18,5 @@ pub record Safe (s : State) (m : List ℕ) : Type 0 where
   -- Set_Prm's octets are read from a buffer of at least 7, which has room for 8
   pub long : 7 ≤ s .setup .«parameter_len»
   pub room : endOf (s .setup) ≤ length m
+  -- the channels keep their rules, and their buffers end in the memory too
+  pub channels : Channelled m (s .setup)

@@ -8,7 +8,7 @@ use Rattle.state.specs.declared.answer.Refusal.{Refusal}
 use Rattle.state.specs.declared.state.State.{State}
 use Rattle.state.specs.Memory.{kept}
 
--- the state, and the memory, of which only what lies behind the state part counts
+-- the state, and the memory, of which only what lies behind the image of the state counts
 pub record Stepped : Type 0 where
   pub state : State
   pub memory : List ℕ

@@ -65,24 +65,24 @@ unfolding behind
 take-told s slice es =
     ap (λ (a : Ledger). calls-on-ledger.step a take .answer) (ledger-left es (fresh s slice)) ∙ takes-told s slice (translated (fresh s slice) es)
 
-module _ (m : List ℕ) (s : Setup) (slice : List ℕ) (long : s .«get_cfg_len» ≡ length slice) (zero : steps.started m s slice .answer ≡ Value 0) where
-  ready : Ready (memoryOf m s slice) (fresh s slice)
-  ready = begins-ready m s slice long zero
+module _ (m : List ℕ) (s : Setup) (slice lengths : List ℕ) (long : s .«get_cfg_len» ≡ length slice) (zero : steps.started m s slice lengths .answer ≡ Value 0) where
+  ready : Ready (memoryOf m s slice lengths) (fresh s slice)
+  ready = begins-ready m s slice lengths long zero
 
-  agree : (es : List Entry) → answers (memoryOf m s slice) es ≡ ledger.answers (fresh s slice) es
-  agree es = agrees-on es (memoryOf m s slice) (fresh s slice) ready
+  agree : (es : List Entry) → answers (memoryOf m s slice lengths) es ≡ ledger.answers (fresh s slice) es
+  agree es = agrees-on es (memoryOf m s slice lengths) (fresh s slice) ready
 
-  later : (es rest : List Entry) → answers (memoryAfter (memoryOf m s slice) es) rest ≡ ledger.answers (after (fresh s slice) es) rest
-  later es rest = agrees-on rest (memoryAfter (memoryOf m s slice) es) (after (fresh s slice) es) (ready-after es (memoryOf m s slice) (fresh s slice) ready)
+  later : (es rest : List Entry) → answers (memoryAfter (memoryOf m s slice lengths) es) rest ≡ ledger.answers (after (fresh s slice) es) rest
+  later es rest = agrees-on rest (memoryAfter (memoryOf m s slice lengths) es) (after (fresh s slice) es) (ready-after es (memoryOf m s slice lengths) (fresh s slice) ready)
 
-  agreed : Agreement m s slice
+  agreed : Agreement m s slice lengths
   agreed = record {
     agree = agree;
     answers-behind = λ es.
         agree es ∙ ledger-answers es (fresh s slice)
-        ∙ ap (answersBy (behindEach (fresh s slice) es)) (sym (core.demand-3 m s slice long zero .agree (translated (fresh s slice) es)));
+        ∙ ap (answersBy (behindEach (fresh s slice) es)) (sym (core.demand-3 m s slice lengths long zero .agree (translated (fresh s slice) es)));
     ledger-behind = λ es. ledger-left es (fresh s slice);
-    memory-behind = λ es. memory-left es (memoryOf m s slice) (fresh s slice) ready;
+    memory-behind = λ es. memory-left es (memoryOf m s slice lengths) (fresh s slice) ready;
     octet-then-call = λ pre post b bad e u i. places-alike agree (inner-first (fresh s slice) pre post b bad e u i);
     call-then-octet = λ pre post b bad e u i. places-alike agree (inner-second (fresh s slice) pre post b bad e u i);
     outputs = λ es index rest i.
@@ -91,7 +91,7 @@ module _ (m : List ℕ) (s : Setup) (slice : List ℕ) (long : s .«get_cfg_len�
         ∙ read-answers s slice es index i rest
         ∙ (λ j. sym (agree es) j ++ x ∷ sym (later es rest) j);
     takes = λ es rest.
-        let a = memoryOf m s slice in
+        let a = memoryOf m s slice lengths in
         let told = entry-alike (memoryAfter a es) (after (fresh s slice) es) (ready-after es a (fresh s slice) ready) (call take) .answers ∙ take-told s slice es in
         answers-append (λ n e. entered n e .answer) (λ n e. entered n e .memory) a es (call take ∷ rest)
         ∙ (λ j. answers a es ++ told j ∷ answers (sym (left-append (λ n e. entered n e .memory) a es (call take ∷ [])) j) rest);

@@ -26,35 +26,35 @@ ofUser (call c) = exchange.ofUser c
 ofUser (window-read order address) = true
 ofUser (window-write order address x) = true
 
--- m is the memory that Start was given, s its numbers, slice the octets for Get_Cfg
-pub record Agreement (m : List ℕ) (s : Setup) (slice : List ℕ) : Type 0 where
+-- m is the memory that Start was given, s its numbers, slice the octets for Get_Cfg, lengths those of the channels
+pub record Agreement (m : List ℕ) (s : Setup) (slice lengths : List ℕ) : Type 0 where
   -- every answer is that of the ledger
-  pub agree : (es : List Entry) → answers (memoryOf m s slice) es ≡ entries-on-ledger.answers (fresh s slice) es
+  pub agree : (es : List Entry) → answers (memoryOf m s slice lengths) es ≡ entries-on-ledger.answers (fresh s slice) es
   -- "a list with window accesses answers as the list of the calls behind them, Events cut to the eight bits read"
   pub answers-behind : (es : List Entry)
-      → answers (memoryOf m s slice) es
-      ≡ answersBy (behindEach (fresh s slice) es) (steps.answers (memoryOf m s slice) (translated (fresh s slice) es))
+      → answers (memoryOf m s slice lengths) es
+      ≡ answersBy (behindEach (fresh s slice) es) (steps.answers (memoryOf m s slice lengths) (translated (fresh s slice) es))
   -- and leaves the memory and the ledger that these leave: what holds of every ledger that calls lead to holds here too
-  pub memory-behind : (es : List Entry) → memoryAfter (memoryOf m s slice) es ≡ steps.memoryAfter (memoryOf m s slice) (translated (fresh s slice) es)
+  pub memory-behind : (es : List Entry) → memoryAfter (memoryOf m s slice lengths) es ≡ steps.memoryAfter (memoryOf m s slice lengths) (translated (fresh s slice) es)
   pub ledger-behind : (es : List Entry) → after (fresh s slice) es ≡ calls-on-ledger.after (fresh s slice) (translated (fresh s slice) es)
   -- if a call of the vat program and a neighbouring inner octet change places, every call keeps its answer, whichever came first
   pub octet-then-call : (pre post : List Entry) (b : ℕ) (bad : Bool) (e : Entry) → ofUser e ≡ true
-      → Inner (after (fresh s slice) pre) b bad → PlacesChanged (answers (memoryOf m s slice)) pre post (call (octet b bad)) e
+      → Inner (after (fresh s slice) pre) b bad → PlacesChanged (answers (memoryOf m s slice lengths)) pre post (call (octet b bad)) e
   pub call-then-octet : (pre post : List Entry) (b : ℕ) (bad : Bool) (e : Entry) → ofUser e ≡ true
-      → Inner (after (fresh s slice) (pre ++ e ∷ [])) b bad → PlacesChanged (answers (memoryOf m s slice)) pre post (call (octet b bad)) e
+      → Inner (after (fresh s slice) (pre ++ e ∷ [])) b bad → PlacesChanged (answers (memoryOf m s slice lengths)) pre post (call (octet b bad)) e
   -- outputs read are those of the newest telegram accepted before the latest take, or zeros, whatever calls come behind the read; an
   -- access that takes is a take
   pub outputs : (es : List Entry) (index : ℕ) (rest : List Entry) → index < s .«output_len»
-      → answers (memoryOf m s slice) (es ++ call (read 1 index) ∷ rest)
-      ≡ answers (memoryOf m s slice) es
+      → answers (memoryOf m s slice lengths) (es ++ call (read 1 index) ∷ rest)
+      ≡ answers (memoryOf m s slice lengths) es
       ++ Value (getD (readable (s .«output_len») (history (fresh s slice) (translated (fresh s slice) es))) index 0)
-      ∷ answers (memoryAfter (memoryOf m s slice) es) rest
+      ∷ answers (memoryAfter (memoryOf m s slice lengths) es) rest
   -- a take tells of them, also where they have no octet that could be read
   pub takes : (es rest : List Entry)
-      → answers (memoryOf m s slice) (es ++ call take ∷ rest)
-      ≡ answers (memoryOf m s slice) es
+      → answers (memoryOf m s slice lengths) (es ++ call take ∷ rest)
+      ≡ answers (memoryOf m s slice lengths) es
       ++ Value (newsOf (history (fresh s slice) (translated (fresh s slice) es)))
-      ∷ answers (memoryAfter (memoryOf m s slice) (es ++ call take ∷ [])) rest
+      ∷ answers (memoryAfter (memoryOf m s slice lengths) (es ++ call take ∷ [])) rest
 
 -- demand 3 whole
 abbrev pub Demand3 : Type 0

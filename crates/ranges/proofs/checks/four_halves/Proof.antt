@@ -39,7 +39,7 @@ returns c =
     let h2 = c .before .before .half2 in
     let h3 = c .before .half3 in
     let h4 = c .half4 in
-    four-none m at 4 4 (h .result) (h2 .result) (h3 .result) (h4 .result) (omega arith)
+    four-none m at 4 (h .result) (h2 .result) (h3 .result) (h4 .result) (omega arith)
     (half-none m at (h .result) (omega arith) (h .ensures))
     (half-none m (at + 4) (h2 .result) (omega arith) (h2 .ensures))
     (half-none m (at + 8) (h3 .result) (omega arith) (h3 .ensures))

@@ -1,7 +1,7 @@
 -- `state::image::octets` meets its contract: each called octet is what the image has there, and the others are the fields themselves.
 use mathlib.Core.List.{_∷_, _++_}
 use Rattle.octets.specs.Part.{part}
-use Rattle.state.specs.Image.{used}
+use Rattle.state.specs.Image.{image}
 use Rattle.state.proofs.Written.{four}
 use borrow.Author.Needs.{needs}
 use Rattle.state.proofs.image.octets.Statement.{statement}
@@ -92,7 +92,7 @@ array-read-t57 : tie.Need-array-read-t57
 array-read-t57 c = search needs
 
 returns : tie.Need-returns
-unfolding used
+unfolding image
 returns c =
     let c1 = c .before in
     let c2 = c1 .before in
@@ -113,7 +113,7 @@ returns c =
     let c17 = c16 .before in
     let reloaded = c17 .before .before .before .before .before in
     let ticked = reloaded .before in
-    let same = part (used (ticked .before .before .args .s)) in
+    let same = part (image (ticked .before .before .args .s)) in
     λ i.
     same 0 3
     ++ c17 .flags .ensures i

@@ -12,7 +12,7 @@ use Rattle.state.specs.Short.{shortEnd}
 use Rattle.state.specs.Unpack.{unpacked, setupIn}
 use Rattle.state.specs.Well.{all, exchangesNothing, rangeTests, chainTests, lengthsTests}
 use Rattle.state.proofs.Choice.{and-left, and-right}
-use Rattle.state.proofs.ShortLengths.{short-room, short-input-room, last-room}
+use Rattle.state.proofs.ShortLengths.{short-lengths-are, short-inputs-are, short-room, long-room}
 use Rattle.state.proofs.Tests.{all-fails, Passed, others-decide, test-first}
 use borrow.Author.Needs.{needs}
 use Rattle.state.proofs.memory.has_room.Statement.{statement}
@@ -45,7 +45,7 @@ returns c =
     let short = c .before .short-lengths in
     let fits = leb shortEnd (length m) in
     short-room m
-    (sym (short .ensures) ∙ and-left (short .result) fits (c .if1 .taken))
+    (short-lengths-are m (sym (short .ensures) ∙ and-left (short .result) fits (c .if1 .taken)))
     (leb-true shortEnd (length m) (and-right (short .result) fits (c .if1 .taken)))
 
 short-inputs-requires : tie.Need-short-inputs-requires
@@ -56,8 +56,8 @@ returns-2 c =
     let m = now (c .before .before .before .before .before .args .mem) in
     let short = c .before .short-inputs in
     let fits = leb shortEnd (length m) in
-    short-input-room m
-    (sym (short .ensures) ∙ and-left (short .result) fits (c .if2 .taken))
+    short-room m
+    (short-inputs-are m (sym (short .ensures) ∙ and-left (short .result) fits (c .if2 .taken)))
     (leb-true shortEnd (length m) (and-right (short .result) fits (c .if2 .taken)))
 
 exchanges-nothing-requires : tie.Need-exchanges-nothing-requires
@@ -87,7 +87,7 @@ returns-5 c =
     let well = c .before .before in
     let nothing = well .before in
     let p = passed m _ _ (nothing .before .exchanges-nothing .ensures) (well .well-lengths .ensures) (nothing .if3 .left) (c .before .if4 .left) in
-    last-room m (lengths-pass m p) (c .if5 .taken)
+    long-room m (lengths-pass m p) (c .if5 .taken)
 
 setup-requires : tie.Need-setup-requires
 setup-requires c κs = search needs
@@ -101,7 +101,7 @@ returns-6 c =
     let well = c .before .before .before .before in
     let nothing = well .before in
     let p = passed m _ _ (nothing .before .exchanges-nothing .ensures) (well .well-lengths .ensures) (nothing .if3 .left) (c .before .before .before .if4 .left) in
-    ap (λ (n : ℕ). leb n (length m)) (c .end-of .ensures ∙ ap endOf (c .before .setup .ensures))
+    ap (λ (n : ℕ). leb n (length m)) (c .end-of .ensures .0 ∙ ap endOf (c .before .setup .ensures))
     ∙ others-decide 2 (tests m) p ∙ tests-are m
 
 pub has-room-spec : {M : Type 1} → statement M

@@ -9,13 +9,13 @@ use borrow.Author.Needs.{needs}
 use Rattle.station.proofs.start.start_in.Statement.{statement}
 use Rattle.station.proofs.start.start_in.Tie as tie
 
-end-of-requires : tie.Need-end-of-requires
-end-of-requires c κs = search needs
+last-end-requires : tie.Need-last-end-requires
+last-end-requires c κs = search needs
 
 returns : tie.Need-returns
 unfolding startedIn
 returns c =
-    let e = ap (ltb (length (now (c .before .before .before .before .args .mem)))) (sym (c .before .end-of .ensures)) ∙ lt-ltb _ _ (c .if1 .taken) in
+    let e = ap (ltb (length (now (c .before .before .before .before .before .args .mem)))) (sym (c .before .last-end .ensures)) ∙ lt-ltb _ _ (c .if1 .taken) in
     record { answers = simp e; leaves = simp e }
 
 lay-out-requires : tie.Need-lay-out-requires
@@ -28,8 +28,8 @@ returns-2 : tie.Need-returns-2
 unfolding startedIn
 returns-2 c =
     let d = c .before .before .before .before .before in
-    let e = ap (ltb (length (now (d .before .before .before .args .mem)))) (sym (d .end-of .ensures)) ∙ le-ltb _ _ (c .before .before .before .before .if1 .left) in
+    let e = ap (ltb (length (now (d .before .before .before .before .args .mem)))) (sym (d .last-end .ensures)) ∙ le-ltb _ _ (c .before .before .before .before .if1 .left) in
     record { answers = simp e; leaves = simp (e, c .before .before .lay-out .ensures) }
 
 pub start-in-spec : {M : Type 1} → statement M
-start-in-spec = tie.close (tie.spec end-of-requires returns lay-out-requires same-length returns-2)
+start-in-spec = tie.close (tie.spec last-end-requires returns lay-out-requires same-length returns-2)

@@ -1,10 +1,10 @@
--- `state::layout::rounded_up` meets its contract.
+-- `octets::rounded_up` meets its contract.
 use native.Mathlib.Omega.{arith}
 use mathlib.Core.Path.{refl}
-use Rattle.state.specs.Layout.{roundedUp}
+use Rattle.octets.specs.Part.{roundedUp}
 use borrow.Author.Needs.{needs}
-use Rattle.state.proofs.layout.rounded_up.Statement.{statement}
-use Rattle.state.proofs.layout.rounded_up.Tie as tie
+use Rattle.octets.proofs.rounded_up.Statement.{statement}
+use Rattle.octets.proofs.rounded_up.Tie as tie
 
 add-result : tie.Need-add-result
 add-result c = search needs

@@ -1,0 +1,4 @@
+pub mod Image
+pub mod Rules
+pub mod Places
+pub mod Setting
