@@ -137,7 +137,8 @@ fn both_factors_1_and_a_factor_0_are_faults_on_either_base() {
 #[test]
 fn where_octet_7_has_no_room_it_is_a_fault() {
     let mut line = Line::without_start();
-    assert_eq!(line.call("start 1536 5 32947 1 1 7 1 9 20"), 0);
+    let start = line::without_channels("start 1536 5 32947 1 1 7 1 9 20");
+    assert_eq!(line.call(&start), 0);
     assert_eq!(line.put(&set_prm((1, 2), &[BASE_1_MS])), [0xE5]);
     assert_eq!(line.diagnosis(), PRM_FAULT);
     assert_eq!(line.put(&set_prm((1, 2), &[])), [0xE5]);

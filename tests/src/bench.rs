@@ -4,6 +4,7 @@
 
 use crate::call;
 use crate::ledger::Station;
+use crate::line::without_channels;
 
 struct Bench {
     station: Station,
@@ -14,7 +15,8 @@ impl Bench {
         let mut bench = Bench {
             station: Station::default(),
         };
-        assert_eq!(bench.call("start 1536 5 32947 1 1 7 1 6 20"), 0);
+        let start = without_channels("start 1536 5 32947 1 1 7 1 6 20");
+        assert_eq!(bench.call(&start), 0);
         bench
     }
 

@@ -2,6 +2,13 @@
 
 use std::fmt;
 
+/// What Start is told of the channels: for each the length of its indication and of its response.
+pub const CHANNELS: usize = 16;
+pub const NO_CHANNELS: [u8; 2 * CHANNELS] = [0; 2 * CHANNELS];
+
+/// The octets before the buffers: document 02, Req 08, "the state part 512".
+pub const STATE: usize = 512;
+
 /// Start's arguments; the memory is known by its length alone.
 #[derive(Clone, PartialEq, Eq, Debug)]
 pub struct StartValues {
@@ -14,20 +21,34 @@ pub struct StartValues {
     pub configuration: u32,
     pub diagnosis: u32,
     pub get_cfg: Vec<u8>,
+    /// 32 octets, or Start refuses them: `NO_CHANNELS` if no channel is set up.
+    pub channels: Vec<u8>,
 }
 
 impl StartValues {
-    /// Where the buffers end: document 01, section "The station and its memory", with the state part and the fourth
-    /// output buffer of document 02, Req 01. Buffers of a length 0 take no room.
+    /// Where all buffers end: those of the channels lie behind the others.
     pub fn end_of_buffers(&self) -> u64 {
-        let rounded = |length: u64| length.div_ceil(8) * 8;
-        128 + 4 * rounded(self.outputs.into())
+        let channels = self.channels.iter();
+        let room: u64 = channels.map(|length| rounded((*length).into())).sum();
+        self.end_without_channels() + room
+    }
+
+    /// Where the buffers end if no channel is set up: document 01, section "The station and its memory", with the fourth
+    /// output buffer of document 02, Req 01, and the state part of its Req 08. Buffers of a length 0 take no room.
+    pub fn end_without_channels(&self) -> u64 {
+        STATE as u64
+            + 4 * rounded(self.outputs.into())
             + 3 * rounded(self.inputs.into())
             + 3 * rounded(self.parameters.into())
             + 3 * rounded(self.configuration.into())
             + 2 * rounded(self.diagnosis.into())
             + rounded(self.get_cfg.len() as u64)
     }
+}
+
+/// The room that a buffer takes.
+fn rounded(length: u64) -> u64 {
+    length.div_ceil(8) * 8
 }
 
 /// The order of the octets of a word, in which a window access counts the addresses.
@@ -79,7 +100,7 @@ pub enum Call {
     },
 }
 
-/// The longest memory that a file may ask for; Start refuses everything above 4,096 anyway.
+/// The longest memory that a file may ask for; Start refuses everything above 16,384 anyway.
 const LONGEST_MEMORY: usize = 1 << 20;
 
 impl fmt::Display for Call {
@@ -134,13 +155,16 @@ fn write_start(f: &mut fmt::Formatter<'_>, values: &StartValues) -> fmt::Result 
         values.configuration,
         values.diagnosis
     )?;
-    if values.get_cfg.is_empty() {
+    write_slice(f, &values.get_cfg)?;
+    write!(f, " ")?;
+    write_slice(f, &values.channels)
+}
+
+fn write_slice(f: &mut fmt::Formatter<'_>, octets: &[u8]) -> fmt::Result {
+    if octets.is_empty() {
         return write!(f, "-");
     }
-    values
-        .get_cfg
-        .iter()
-        .try_for_each(|octet| write!(f, "{octet:02X}"))
+    octets.iter().try_for_each(|octet| write!(f, "{octet:02X}"))
 }
 
 /// The call of a line, None for a line that is skipped, or what is wrong with the line.
@@ -219,7 +243,8 @@ fn parse_start(words: &mut Words) -> Result<StartValues, String> {
         parameters: words.number("the length of parameters", largest)? as u32,
         configuration: words.number("the length of configuration", largest)? as u32,
         diagnosis: words.number("the length of diagnosis", largest)? as u32,
-        get_cfg: words.slice()?,
+        get_cfg: words.slice("the Get_Cfg slice")?,
+        channels: words.slice("the slice of the channels' lengths")?,
     })
 }
 
@@ -272,13 +297,13 @@ impl<'a> Words<'a> {
         }
     }
 
-    fn slice(&mut self) -> Result<Vec<u8>, String> {
-        let word = self.next("the Get_Cfg slice")?;
+    fn slice(&mut self, what: &str) -> Result<Vec<u8>, String> {
+        let word = self.next(what)?;
         if word == "-" {
             return Ok(Vec::new());
         }
         hexadecimal(word).ok_or(format!(
-            "the Get_Cfg slice is '{word}', neither pairs of hexadecimal digits nor -"
+            "{what} is '{word}', neither pairs of hexadecimal digits nor -"
         ))
     }
 }
@@ -304,8 +329,10 @@ mod tests {
     #[test]
     fn every_line_reads_back_as_its_call() {
         let lines = [
-            "start 1536 5 32947 1 1 7 1 6 20",
-            "start 0 4294967295 0 0 0 0 0 0 -",
+            "start 1536 5 32947 1 1 7 1 6 20 04F0",
+            "start 0 4294967295 0 0 0 0 0 0 - -",
+            "start 1536 5 32947 1 1 7 1 6 - 00000405",
+            "start 1536 5 32947 1 1 7 1 6 2021 -",
             "octet 68",
             "bad 0A",
             "gap",
@@ -332,23 +359,45 @@ mod tests {
         }
     }
 
-    /// The ends of document 01, each longer by an output buffer and by 64: document 02, Req 01.
+    fn with_all_lengths(length: u32, channels: &[u8]) -> StartValues {
+        StartValues {
+            memory: 16_384,
+            address: 5,
+            ident: 0,
+            outputs: length,
+            inputs: length,
+            parameters: length,
+            configuration: length,
+            diagnosis: length,
+            get_cfg: vec![0; length as usize],
+            channels: channels.to_vec(),
+        }
+    }
+
+    /// The ends of document 01, each longer by an output buffer, and by 448: document 02, Req 01 and Req 08.
     #[test]
     fn buffers_end_where_the_documents_say() {
-        for (length, end) in [(88, 1536), (96, 1664), (97, 1792), (244, 4096)] {
-            let values = StartValues {
-                memory: 4096,
-                address: 5,
-                ident: 0,
-                outputs: length,
-                inputs: length,
-                parameters: length,
-                configuration: length,
-                diagnosis: length,
-                get_cfg: vec![0; length as usize],
-            };
+        for (length, end) in [(64, 1536), (96, 2048), (97, 2176), (244, 4480)] {
+            let values = with_all_lengths(length, &NO_CHANNELS);
             assert_eq!(values.end_of_buffers(), end, "all lengths {length}");
+            assert_eq!(values.end_without_channels(), end, "all lengths {length}");
         }
+    }
+
+    /// Each length is rounded up by itself: two of 4 take 16 octets and two of 9 take 32.
+    #[test]
+    fn the_channels_buffers_lie_behind_the_others() {
+        for (length, end) in [(4, 4736), (8, 4736), (9, 4992), (240, 12_160)] {
+            let values = with_all_lengths(244, &[length; 2 * CHANNELS]);
+            assert_eq!(values.end_of_buffers(), end, "channels of {length}");
+            assert_eq!(values.end_without_channels(), 4480);
+        }
+        let mut one = NO_CHANNELS;
+        one[30..].copy_from_slice(&[9, 240]);
+        assert_eq!(
+            with_all_lengths(244, &one).end_of_buffers(),
+            4480 + 16 + 240
+        );
     }
 
     #[test]
@@ -365,9 +414,13 @@ mod tests {
             "gap gap",
             "ack 65536",
             "start 1536",
-            "start 1536 5 65536 1 1 7 1 6 20",
-            "start 1536 5 1 1 1 7 1 6 2",
-            "start 99999999999 5 1 1 1 7 1 6 20",
+            "start 1536 5 65536 1 1 7 1 6 20 00",
+            "start 1536 5 1 1 1 7 1 6 2 00",
+            "start 99999999999 5 1 1 1 7 1 6 20 00",
+            "start 1536 5 1 1 1 7 1 6 20",
+            "start 1536 5 1 1 1 7 1 6 20 0",
+            "start 1536 5 1 1 1 7 1 6 20 0x",
+            "start 1536 5 1 1 1 7 1 6 20 00 00",
             "winread",
             "winread 0",
             "winread i",

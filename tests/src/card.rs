@@ -1,6 +1,7 @@
 //! The C library under test, and the memory that is lent to it, with guard octets on both sides.
 
-use crate::call::{Call, Order, StartValues};
+use crate::call::{Call, Order, StartValues, STATE};
+use crate::image;
 use crate::random::Random;
 
 mod library {
@@ -18,6 +19,8 @@ mod library {
             diagnosis_len: u32,
             get_cfg: *const u8,
             get_cfg_len: u64,
+            channels: *const u8,
+            channels_len: u64,
         ) -> i64;
         pub fn dp_octet(memory: *mut u8, len: u64, octet: u8, bad: u8) -> i64;
         pub fn dp_gap(memory: *mut u8, len: u64) -> i64;
@@ -44,9 +47,6 @@ mod library {
         ) -> i64;
     }
 }
-
-/// The octets before the buffers: document 02, Req 01, "the state part 128 octets".
-pub const STATE: usize = 128;
 
 const GUARD: usize = 128;
 
@@ -183,6 +183,8 @@ unsafe fn start(at: *mut u8, len: u64, values: &StartValues) -> i64 {
         values.diagnosis,
         values.get_cfg.as_ptr(),
         values.get_cfg.len() as u64,
+        values.channels.as_ptr(),
+        values.channels.len() as u64,
     )
 }
 
@@ -297,6 +299,12 @@ impl Card {
                 first_change(before, now)
             ));
         }
+        if !matches!(call, Call::Start(_)) && image::free(now) != image::free(before) {
+            return Err(format!(
+                "changed octets of the state part that belong to no field{}",
+                first_change(before, now)
+            ));
+        }
         if now[self.buffers_end..] != before[self.buffers_end..] {
             return Err(format!(
                 "changed the memory behind the buffers{}",
@@ -309,6 +317,14 @@ impl Card {
     /// Puts the memory somewhere else: between calls the library may keep nothing, not even where the memory was.
     pub fn move_elsewhere(&mut self, random: &mut Random) {
         self.memory = Memory::new(self.memory.contents(), random.below(8));
+    }
+
+    /// Any octets where none belongs to a field: no call but Start may read or change them.
+    pub fn fill_free(&mut self, random: &mut Random) {
+        for octets in image::FREE {
+            let fill = random.octets(octets.len());
+            self.memory.contents_mut()[octets].copy_from_slice(&fill);
+        }
     }
 
     pub fn state(&self) -> &[u8] {

@@ -1,7 +1,7 @@
 //! Both implementations side by side: every call goes to both, every answer is compared.
 
-use crate::call::{Call, StartValues};
-use crate::card::{Card, Memory, STATE};
+use crate::call::{Call, StartValues, STATE};
+use crate::card::{Card, Memory};
 use crate::image::{self, chain_octets, CHAIN};
 use crate::ledger::{Ledger, Station};
 use crate::outcome::{Outcome, Tally};
@@ -81,7 +81,8 @@ impl Pair {
     }
 
     /// What shows in answers only later shows in the memory at once: the chain of retries when a request follows, the
-    /// watchdog when it expires, the ident number when parameters or a Slave_Diag come.
+    /// watchdog when it expires, the ident number when parameters or a Slave_Diag come. The channels' lengths show nowhere
+    /// else yet.
     fn check_state(&self, call: &Call, expected: i64) -> Result<(), Box<Difference>> {
         let Some(ledger) = &self.station.ledger else {
             return Ok(());
@@ -89,7 +90,8 @@ impl Pair {
         let state = self.card.state();
         let misdeed = wrong_chain(state, ledger)
             .or_else(|| wrong_watchdog(state, ledger))
-            .or_else(|| wrong_ident(state, ledger));
+            .or_else(|| wrong_ident(state, ledger))
+            .or_else(|| wrong_channels(state, ledger));
         match misdeed {
             Some(misdeed) => Err(self.difference(call, expected, misdeed)),
             None => Ok(()),
@@ -119,8 +121,8 @@ impl Pair {
         self.recent.push_back((self.calls, call.clone(), answer));
     }
 
-    /// There is one image for each state, so Start's does not depend on the octets that were there before; the buffers
-    /// are zeros but for the Get_Cfg slice.
+    /// Start's image does not depend on the octets that were there before. Those that belong to no field are zeros, and so
+    /// are the buffers but for the Get_Cfg slice.
     fn check_started(
         &mut self,
         call: &Call,
@@ -134,13 +136,8 @@ impl Pair {
             let misdeed = "leaves another memory than on zeros".to_string();
             return Err(self.difference(call, 0, misdeed));
         }
-        let buffers = &fresh.contents()[STATE..end];
-        let slice_at = buffers.len() - values.get_cfg.len().div_ceil(8) * 8;
-        let slice_end = slice_at + values.get_cfg.len();
-        let rest_is_zero = buffers[..slice_at].iter().all(|octet| *octet == 0)
-            && buffers[slice_end..].iter().all(|octet| *octet == 0);
-        if !rest_is_zero || buffers[slice_at..slice_end] != values.get_cfg {
-            let misdeed = "leaves buffers that are not zeros and the Get_Cfg slice".to_string();
+        if !is_fresh(fresh.contents(), values) {
+            let misdeed = "leaves more than zeros and the Get_Cfg slice".to_string();
             return Err(self.difference(call, 0, misdeed));
         }
         self.tally.add(Outcome::StartSameImage);
@@ -150,7 +147,16 @@ impl Pair {
         if end < values.memory {
             self.tally.add(Outcome::StartKeepsRest);
         }
+        self.maybe_fill_free();
         Ok(())
+    }
+
+    /// Half of the stations live on with any octets where none belongs to a field.
+    fn maybe_fill_free(&mut self) {
+        if self.random.chance(50) {
+            self.card.fill_free(&mut self.random);
+            self.tally.add(Outcome::FreeFilled);
+        }
     }
 
     fn difference(
@@ -172,6 +178,18 @@ impl Pair {
     pub fn found(&self, call: &Call, misdeed: String) -> Box<Difference> {
         self.difference(call, None, misdeed)
     }
+}
+
+/// Zeros where no field is and in the buffers, and the Get_Cfg slice in its place ahead of the channels' buffers.
+fn is_fresh(memory: &[u8], values: &StartValues) -> bool {
+    let end = values.end_of_buffers() as usize;
+    let room_of_slice = values.get_cfg.len().div_ceil(8) * 8;
+    let slice_at = values.end_without_channels() as usize - room_of_slice;
+    let (before, from_slice) = memory[STATE..end].split_at(slice_at - STATE);
+    let (slice, behind) = from_slice.split_at(values.get_cfg.len());
+    let [ahead_of_rows, behind_rows] = image::free(memory);
+    let zeros = [ahead_of_rows, behind_rows, before, behind];
+    zeros.concat().iter().all(|octet| *octet == 0) && slice == values.get_cfg
 }
 
 fn wrong_chain(state: &[u8], ledger: &Ledger) -> Option<String> {
@@ -196,6 +214,14 @@ fn wrong_ident(state: &[u8], ledger: &Ledger) -> Option<String> {
     let (ident, right) = (image::ident(state), ledger.values.ident);
     (ident != right)
         .then(|| format!("has the ident number {ident:04X} in its memory and not {right:04X}"))
+}
+
+/// The lengths are Start's; no telegram fills a channel yet, so none of their octets is in use.
+fn wrong_channels(state: &[u8], ledger: &Ledger) -> Option<String> {
+    let right = &ledger.values.channels;
+    let rows = &state[image::ALL_ROWS];
+    (!image::are_free_channels(state, right))
+        .then(|| format!("has the channels {rows:02X?} in its memory, by Start {right:02X?}"))
 }
 
 /// An answer with a word on what it means if it is a refusal.

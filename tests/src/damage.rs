@@ -4,11 +4,11 @@
 //! a state's is said by docs/memory.md (image.rs), and every image here is held to it. In all cases no octet outside
 //! the lent memory is touched, every answer is one that the call can have, and Pending fits Events.
 
-use crate::call::{Call, Order, StartValues};
-use crate::card::{call_library, first_change, is_possible, only_looks, Card, Memory, STATE};
+use crate::call::{Call, Order, StartValues, CHANNELS, STATE};
+use crate::card::{call_library, first_change, is_possible, only_looks, Card, Memory};
 use crate::draft::{self, Draft};
-use crate::image::{is_state, sides, CHAIN, FURTHER, LENGTHS};
-use crate::ledger::smallest_event;
+use crate::image::{self, is_state, sides, ALL_ROWS, CHAIN, FIELDS, FREE, LENGTHS, ROWS, UNUSED};
+use crate::ledger::{smallest_event, LONGEST_MEMORY};
 use crate::outcome::{Outcome, Tally};
 use crate::random::Random;
 use crate::telegram::{self, Form, Telegram};
@@ -22,7 +22,10 @@ const WALK: usize = 40;
 const WALK_EVERY: usize = 8;
 
 /// Lengths are tried from 0 to here, beyond the longest memory.
-const LONGEST_LENGTH: usize = 4112;
+const LONGEST_LENGTH: usize = LONGEST_MEMORY + 16;
+
+/// What lies behind a state in a memory that is made longer.
+const FILLER: u8 = 0xC3;
 
 /// Octets of the state part that are tried at their limits: docs/memory.md. Phase, count and how many are done, of the
 /// telegram that is read and of the reply; the counts that are shown and that wait, of parameters and of configuration;
@@ -58,19 +61,16 @@ const EVENTS: Range<usize> = 4..6;
 /// Where Diag_Flag stands, and its bit.
 const DIAG_FLAG: (usize, u8) = (3, 0x40);
 
-/// How far apart two octets are that stand at the same place in neighbouring words of eight octets.
-const WORD: usize = 8;
-
-/// Lengths at their limits, at the longest that fits every memory if all are (88) and beside them.
+/// Lengths at their limits, at the longest that fits every memory if all are (64) and beside them.
 const LENGTHS_TRIED: [u8; 18] = [
-    0, 1, 5, 6, 7, 32, 87, 88, 89, 95, 96, 97, 128, 200, 243, 244, 245, 255,
+    0, 1, 5, 6, 7, 32, 63, 64, 65, 95, 96, 97, 128, 200, 243, 244, 245, 255,
 ];
 const LENGTHS_TRIALS: usize = 400;
 
 /// Lengths of outputs and inputs that are tried together: none, few, at the limits and beside them, and on both sides of
 /// what a check that takes several lengths at once may take for short.
 const SIDES_TRIED: [u8; 20] = [
-    0, 1, 2, 7, 8, 9, 31, 32, 33, 63, 64, 87, 88, 127, 128, 129, 243, 244, 245, 255,
+    0, 1, 2, 7, 8, 9, 31, 32, 33, 63, 64, 65, 88, 127, 128, 129, 243, 244, 245, 255,
 ];
 
 /// The lengths beside them, from the parameters to the Get_Cfg slice: the least ones, short, longer and the longest; and
@@ -84,6 +84,29 @@ const BESIDE_SIDES: [[u8; 4]; 7] = [
     [7, 1, 6, 0],
     [7, 245, 6, 1],
 ];
+
+/// Lengths of a channel's buffers that are tried together: none, at the limits and beside them, and some between.
+const CHANNELS_TRIED: [u8; 10] = [0, 1, 3, 4, 5, 127, 128, 240, 241, 255];
+
+/// Lengths with which it is tried how many octets are in use.
+const CHANNELS_IN_USE: [[u8; 2]; 4] = [[0, 0], [4, 5], [240, 9], [128, 240]];
+
+/// What one channel's buffers take at most.
+const ROOM_OF_CHANNEL: usize = 480;
+
+/// The six lengths of stations whose channels are tried in memories of every length that may matter: short, just too long
+/// to be short, without one of the sides, and the longest.
+const LENGTHS_BESIDE_CHANNELS: [[u8; 6]; 7] = [
+    [1, 1, 7, 1, 6, 1],
+    [64, 64, 64, 64, 64, 64],
+    [65, 64, 64, 64, 64, 64],
+    [0, 64, 64, 64, 64, 64],
+    [0, 65, 7, 1, 6, 1],
+    [64, 0, 64, 64, 64, 64],
+    [244, 244, 244, 244, 244, 244],
+];
+const ROOM_TRIALS: usize = 60;
+const ROWS_TRIALS: usize = 300;
 
 /// Every pair of these values.
 fn pairs(values: &[u8]) -> Vec<(u8, u8)> {
@@ -200,10 +223,10 @@ pub struct Trial<'a> {
 }
 
 impl Trial<'_> {
-    /// Each of the 128 state octets in turn, changed to each of its 255 other values or to several of them.
+    /// Each octet of a field in turn, changed to each of its 255 other values or to several of them.
     pub fn change_every_octet(&mut self, all_values: bool) -> Result<(), String> {
         let mut memory = self.card.memory.clone();
-        for at in 0..STATE {
+        for at in FIELDS.chain(ALL_ROWS) {
             let good = memory.contents()[at];
             for value in self.other_values(good, all_values) {
                 memory.contents_mut()[at] = value;
@@ -236,8 +259,8 @@ impl Trial<'_> {
         values
     }
 
-    /// Images of chance, and the two that memories have after power comes. Half of those of chance have zeros where no
-    /// octet is used, or they would be refused for these alone.
+    /// Images of chance, and the two that memories have after power comes. Half of those of chance have no channels, or they
+    /// would be refused for these alone.
     pub fn random_images(&mut self, count: usize) -> Result<(), String> {
         for number in 0..count {
             let mut image = match number {
@@ -246,7 +269,7 @@ impl Trial<'_> {
                 _ => self.random.octets(STATE),
             };
             if number % 2 == 0 {
-                image[FURTHER].fill(0);
+                image[ALL_ROWS].fill(0);
             }
             let refused = self.judge_image(&image, "random image")?;
             if refused {
@@ -362,9 +385,8 @@ impl Trial<'_> {
         let [(counted, _), (master, _)] = CHAIN;
         let mut memory = self.card.memory.clone();
         let chain = [(counted, code), (master, CHAINED_MASTER)];
-        for (at, octet) in chain.iter().chain(changes) {
-            memory.contents_mut()[*at] = *octet;
-        }
+        put_octets(memory.contents_mut(), &chain);
+        put_octets(memory.contents_mut(), changes);
         for (bit, drawn) in [(code & 1, again), (!code & 1, new)] {
             let control = function | draft::FCV | bit << 5;
             let (reply, image) = self.drawn_by(memory.clone(), control)?;
@@ -397,14 +419,145 @@ impl Trial<'_> {
         Ok((reply, image))
     }
 
-    /// Two of the octets that are not used, at the same place in two words: neither their sum nor their difference
-    /// may hide them from a check that takes several at once.
+    /// The two octets that are not used, together.
     pub fn try_unused(&mut self) -> Result<(), String> {
-        for at in FURTHER.start..FURTHER.end - WORD {
-            for value in [0x01, 0x80, 0xFF] {
-                self.try_octets(&[(at, value), (at + WORD, value)])?;
-                self.try_octets(&[(at, value), (at + WORD, 0u8.wrapping_sub(value))])?;
+        let [first, second] = UNUSED;
+        for (one, other) in pairs(&[0x00, 0x01, 0x7F, 0x80, 0xFF]) {
+            self.try_octets(&[(first, one), (second, other)])?;
+        }
+        Ok(())
+    }
+
+    /// The octets that belong to no field: each changed by itself, and all of them together.
+    pub fn try_free(&mut self) -> Result<(), String> {
+        for at in FREE.into_iter().flatten() {
+            let value = self.card.state()[at] ^ self.random.pick(&[0x01, 0x80, 0xFF]);
+            self.goes_on_as_before(&[(at, value)])
+                .map_err(|misdeed| format!("with octet {at} changed to {value:02X} {misdeed}"))?;
+        }
+        for value in [0x00, 0x01, 0x80, 0xFF] {
+            let all: Vec<(usize, u8)> = FREE.into_iter().flatten().map(|at| (at, value)).collect();
+            self.goes_on_as_before(&all)
+                .map_err(|misdeed| format!("with {value:02X} wherever no field is {misdeed}"))?;
+        }
+        Ok(())
+    }
+
+    /// With these octets, which belong to no field, every call does as it does without them.
+    fn goes_on_as_before(&mut self, octets: &[(usize, u8)]) -> Result<(), String> {
+        let usual = &self.card.memory;
+        let mut changed = usual.clone();
+        put_octets(changed.contents_mut(), octets);
+        for call in every_call() {
+            alike(&mut usual.clone(), &mut changed.clone(), &call)?;
+        }
+        if self.random.below(WALK_EVERY) == 0 {
+            let mut usual = usual.clone();
+            for call in self.wild_calls() {
+                alike(&mut usual, &mut changed, &call)?;
             }
+        }
+        self.tally.add(Outcome::FreeLeft);
+        Ok(())
+    }
+
+    /// Each channel with lengths at their limits and beside them, in every two, and with none, some or all of its octets in
+    /// use or one more; beside the state's other channels, in a memory that has room for it.
+    pub fn try_channels(&mut self) -> Result<(), String> {
+        for number in 0..CHANNELS {
+            for (indication, response) in pairs(&CHANNELS_TRIED) {
+                self.try_channel(number, [indication, response, 0, 0])?;
+            }
+            for [indication, response] in CHANNELS_IN_USE {
+                for asked in counts_about(indication) {
+                    for given in counts_about(response) {
+                        self.try_channel(number, [indication, response, asked, given])?;
+                    }
+                }
+            }
+        }
+        Ok(())
+    }
+
+    fn try_channel(&mut self, number: usize, octets: [u8; 4]) -> Result<(), String> {
+        let mut image = self.card.state().to_vec();
+        put_channel(&mut image, number, octets);
+        let length = self.values.end_of_buffers() as usize + ROOM_OF_CHANNEL;
+        self.try_rows(&image, length.max(1536))
+    }
+
+    /// Channels of chance that keep the rules, with some of their octets in use, and with one octet of them changed.
+    pub fn try_rows_of_chance(&mut self) -> Result<(), String> {
+        for _ in 0..ROWS_TRIALS {
+            let mut image = self.card.state().to_vec();
+            self.put_channels(&mut image);
+            self.try_rows(&image, LONGEST_MEMORY)?;
+            let at = ALL_ROWS.start + self.random.below(ALL_ROWS.len());
+            image[at] = self.random.octet();
+            self.try_rows(&image, LONGEST_MEMORY)?;
+        }
+        Ok(())
+    }
+
+    /// Some channels set up, of each some octets in use.
+    fn put_channels(&mut self, image: &mut [u8]) {
+        let set_up = self.random.pick(&[5, 30, 70, 100]);
+        let longest = self.random.pick(&[9, 64, 240]);
+        for number in 0..CHANNELS {
+            let octets = match self.random.chance(set_up) {
+                true => self.channel_of_chance(longest),
+                false => [0; 4],
+            };
+            put_channel(image, number, octets);
+        }
+    }
+
+    fn channel_of_chance(&mut self, longest: usize) -> [u8; 4] {
+        let [indication, response] = [(); 2].map(|()| self.random.between(4, longest));
+        let [asked, given] = [indication, response].map(|length| self.random.below(length + 1));
+        [indication, response, asked, given].map(|octet| octet as u8)
+    }
+
+    fn try_rows(&mut self, image: &[u8], length: usize) -> Result<(), String> {
+        let refused = self.judge_in(image, length, "image with other channels")?;
+        self.tally.add(match refused {
+            true => Outcome::ChannelsRefused,
+            false => Outcome::ChannelsTaken,
+        });
+        Ok(())
+    }
+
+    /// Channels of chance beside several lengths, in memories that end with the last buffer or 8 octets from it, and in
+    /// those at whose lengths a check need no longer add all buffers up.
+    pub fn try_room_of_channels(&mut self) -> Result<(), String> {
+        for _ in 0..ROOM_TRIALS {
+            let mut image = self.card.state().to_vec();
+            self.put_channels(&mut image);
+            if self.random.chance(80) {
+                let lengths = self.random.pick(&LENGTHS_BESIDE_CHANNELS);
+                image[LENGTHS..LENGTHS + 6].copy_from_slice(&lengths);
+                put_octets(&mut image, &FRESH_COUNTS);
+            }
+            let (own, end) = (end_without_channels(&image), image::end_of_buffers(&image));
+            for limit in [end, 1536 + end - own, 4480 + end - own] {
+                for length in [limit - 8, limit, limit + 8] {
+                    self.try_room(&image, length)?;
+                }
+            }
+        }
+        Ok(())
+    }
+
+    fn try_room(&mut self, image: &[u8], length: usize) -> Result<(), String> {
+        if !(1536..=LONGEST_MEMORY).contains(&length) {
+            return Ok(());
+        }
+        let refused = self.judge_in(image, length, "image with other channels")?;
+        let (own, end) = (end_without_channels(image), image::end_of_buffers(image));
+        match refused {
+            true if own <= length => self.tally.add(Outcome::ChannelsRoomRefused),
+            false if own < end && end == length => self.tally.add(Outcome::ChannelsRoomTaken),
+            _ => {}
         }
         Ok(())
     }
@@ -440,9 +593,7 @@ impl Trial<'_> {
     /// The image with these octets.
     fn try_octets(&mut self, octets: &[(usize, u8)]) -> Result<(), String> {
         let mut image = self.card.state().to_vec();
-        for (at, octet) in octets {
-            image[*at] = *octet;
-        }
+        put_octets(&mut image, octets);
         let refused = self.judge_image(&image, "image with other counts or lengths")?;
         self.tally.add(match refused {
             true => Outcome::CountsRefused,
@@ -458,10 +609,18 @@ impl Trial<'_> {
     }
 
     fn judge_image(&mut self, image: &[u8], what: &str) -> Result<bool, String> {
-        let mut memory = self.card.memory.clone();
-        memory.contents_mut()[..STATE].copy_from_slice(image);
-        self.judge(&mut memory)
-            .map_err(|misdeed| format!("with the {what} {image:02X?} {misdeed}"))
+        self.judge_in(image, self.card.memory.length(), what)
+    }
+
+    /// The image in a memory of this length.
+    fn judge_in(&mut self, image: &[u8], length: usize, what: &str) -> Result<bool, String> {
+        let mut octets = self.card.memory.contents().to_vec();
+        octets.resize(length, FILLER);
+        octets[..STATE].copy_from_slice(image);
+        let mut memory = Memory::new(&octets, self.random.below(8));
+        self.judge(&mut memory).map_err(|misdeed| {
+            format!("with the {what} {image:02X?} in a memory of {length} {misdeed}")
+        })
     }
 
     /// True if the image is refused. The memory is as before when this is over.
@@ -495,12 +654,7 @@ impl Trial<'_> {
 
     /// Goes on from an image that passed for a state; every reply must end.
     fn walk(&mut self, mut memory: Memory) -> Result<(), String> {
-        for _ in 0..WALK {
-            let call = self.wild_call();
-            checked_on_state(&mut memory, &call)?;
-        }
-        let telegram = self.wild_telegram();
-        for call in telegram {
+        for call in self.wild_calls() {
             checked_on_state(&mut memory, &call)?;
         }
         for _ in 0..LONGEST_REPLY {
@@ -512,6 +666,12 @@ impl Trial<'_> {
                 "answers {answer} to send after {LONGEST_REPLY} octets, the longest reply"
             )),
         }
+    }
+
+    /// Calls of chance, and a telegram.
+    fn wild_calls(&mut self) -> Vec<Call> {
+        let calls: Vec<Call> = (0..WALK).map(|_| self.wild_call()).collect();
+        [calls, self.wild_telegram()].concat()
     }
 
     fn wild_call(&mut self) -> Call {
@@ -583,14 +743,14 @@ impl Trial<'_> {
         std::iter::once(Call::Gap).chain(octets).collect()
     }
 
-    /// Every length from 0 to beyond 4,096, with the state as it is. A length is refused exactly if it is out of its
+    /// Every length from 0 to beyond 16,384, with the state as it is. A length is refused exactly if it is out of its
     /// range, no multiple of 8, or below the end of the buffers; with any other the answer is the usual one.
     pub fn try_every_length(&mut self) -> Result<(), String> {
         let mut room: Vec<u8> = self.card.memory.contents().to_vec();
-        room.resize(LONGEST_LENGTH, 0xC3);
+        room.resize(LONGEST_LENGTH, FILLER);
         for length in 0..=LONGEST_LENGTH {
             let fits = length >= self.values.end_of_buffers() as usize;
-            let allowed = (1536..=4096).contains(&length) && length % 8 == 0;
+            let allowed = (1536..=LONGEST_MEMORY).contains(&length) && length % 8 == 0;
             match (allowed, fits) {
                 (true, true) => self.other_length(&room, length),
                 (true, false) => self.refused_length(&mut room, length, Outcome::LengthTooShort),
@@ -651,6 +811,46 @@ impl Trial<'_> {
         self.tally.add(Outcome::LengthOther);
         Ok(())
     }
+}
+
+/// Counts of octets in use, for a buffer of this length: none, at the limit and beside it.
+fn counts_about(length: u8) -> [u8; 5] {
+    [0, length.saturating_sub(1), length, length + 1, 255]
+}
+
+fn end_without_channels(image: &[u8]) -> usize {
+    let mut own = image.to_vec();
+    own[ALL_ROWS].fill(0);
+    image::end_of_buffers(&own)
+}
+
+fn put_octets(image: &mut [u8], octets: &[(usize, u8)]) {
+    for (at, octet) in octets {
+        image[*at] = *octet;
+    }
+}
+
+/// The lengths of a channel's indication and response, and how many octets of each are in use.
+fn put_channel(image: &mut [u8], number: usize, octets: [u8; 4]) {
+    for (row, octet) in ROWS.into_iter().zip(octets) {
+        image[row + number] = octet;
+    }
+}
+
+/// One call on two memories that differ in octets of no field alone: the same answer, the same done to all others, and
+/// these stay.
+fn alike(usual: &mut Memory, other: &mut Memory, call: &Call) -> Result<(), String> {
+    let before = other.contents().to_vec();
+    let (expected, answer) = (usual.call(call), other.call(call));
+    if answer != expected {
+        return Err(format!("answers {answer} to {call} instead of {expected}"));
+    }
+    let mut right = usual.contents().to_vec();
+    for octets in FREE {
+        right[octets.clone()].copy_from_slice(&before[octets]);
+    }
+    unchanged(&right, other.contents()).map_err(|misdeed| format!("by {call} {misdeed}"))?;
+    guards(other)
 }
 
 /// Whether a reply is of the service that a code of octet 18 stands for, with the counts of the image in which it was

@@ -2,9 +2,11 @@
 //! telegrams make sense in the phase the station is in, and the scenarios walk straight to the places that chance
 //! alone would hardly find. The rest of the list is disorder on purpose.
 
-use crate::call::{Call, Order, StartValues};
+use crate::call::{Call, Order, StartValues, CHANNELS, NO_CHANNELS};
 use crate::draft::{self, Draft};
-use crate::ledger::{smallest_event, Drawn, Ledger, Phase, Station, DIAGNOSIS_HEAD};
+use crate::ledger::{
+    smallest_event, Drawn, Ledger, Phase, Station, DIAGNOSIS_HEAD, LONGEST_MEMORY,
+};
 use crate::random::Random;
 use crate::telegram::{self, Form, EXTENSION};
 
@@ -98,6 +100,33 @@ const SPOILS: [Spoil; 13] = [
 /// of 16 bits would expire by then.
 const ABOVE_16_BITS: [(u8, u8); 5] = [(58, 113), (107, 245), (58, 226), (87, 226), (214, 245)];
 
+/// Lengths of memories that Start refuses.
+const BAD_MEMORIES: [usize; 16] = [
+    0, 8, 64, 512, 1528, 1535, 1537, 2001, 4095, 4097, 16_380, 16_383, 16_385, 16_392, 20_480,
+    65_536,
+];
+
+/// Lengths of slices for channels that Start refuses. Of the last two the lowest octet is that of a good one.
+const BAD_CHANNELS_SLICES: [usize; 10] = [0, 1, 16, 30, 31, 33, 34, 64, 288, 65_568];
+
+/// Lengths of a channel that Start refuses.
+const BAD_CHANNELS: [[u8; 2]; 14] = [
+    [0, 4],
+    [4, 0],
+    [0, 240],
+    [240, 0],
+    [3, 4],
+    [4, 3],
+    [1, 240],
+    [240, 1],
+    [241, 240],
+    [240, 241],
+    [255, 4],
+    [4, 255],
+    [3, 0],
+    [0, 241],
+];
+
 struct Generator {
     random: Random,
     habits: Habits,
@@ -179,7 +208,7 @@ impl Generator {
             self.calls_before_start();
         }
         let values = self.good_start();
-        if self.random.chance(40) {
+        for _ in 0..self.random.pick(&[0, 0, 1, 2, 3]) {
             self.refused_start(&values);
         }
         self.length = self.length.max(self.calls.len() + 1);
@@ -232,8 +261,10 @@ impl Generator {
         calls.into_iter().for_each(|call| self.call(call));
     }
 
+    /// Half of the memories, of stations with channels and without, are the shortest that will do.
     fn good_start(&mut self) -> StartValues {
-        let [outputs, inputs, parameters, configuration, diagnosis, slice] = self.good_lengths();
+        let lengths = self.good_lengths();
+        let [outputs, inputs, parameters, configuration, diagnosis, slice] = lengths;
         let mut values = StartValues {
             memory: 0,
             address: self.random.pick(&[5, 5, 0, 1, 2, 60, 125, 126]),
@@ -244,14 +275,52 @@ impl Generator {
             configuration,
             diagnosis,
             get_cfg: self.random.octets(slice as usize),
+            channels: self.good_channels(lengths),
         };
         let least = (values.end_of_buffers() as usize).max(1536);
-        values.memory = match self.random.below(4) {
-            0 | 1 => least,
-            2 => (least + 8 * self.random.below(20)).min(4096),
-            _ => 4096,
+        values.memory = match self.random.below(8) {
+            0..=3 => least,
+            4 | 5 => (least + 8 * self.random.below(20)).min(LONGEST_MEMORY),
+            6 => self.random.pick(&[4096, 4104, 8192]).max(least),
+            _ => LONGEST_MEMORY,
         };
         values
+    }
+
+    /// Channels are set up in one station of three. Where all other lengths are the longest, now and then these are too.
+    fn good_channels(&mut self, others: [u32; 6]) -> Vec<u8> {
+        if others == [244; 6] && self.random.chance(30) {
+            return vec![240; 2 * CHANNELS];
+        }
+        if self.random.below(3) != 0 {
+            return NO_CHANNELS.to_vec();
+        }
+        let alone = self.some_channel();
+        let of_100 = self.random.pick(&[0, 0, 20, 60, 100]);
+        let longest = self.random.pick(&[4, 9, 9, 40, 240]);
+        let mut channels = NO_CHANNELS.to_vec();
+        for (number, lengths) in channels.chunks_mut(2).enumerate() {
+            if number == alone || self.random.chance(of_100) {
+                lengths.fill_with(|| self.length_of_a_channel(longest));
+            }
+        }
+        channels
+    }
+
+    /// Often the first or the last.
+    fn some_channel(&mut self) -> usize {
+        match self.random.below(3) {
+            0 => 0,
+            1 => CHANNELS - 1,
+            _ => self.random.below(CHANNELS),
+        }
+    }
+
+    fn length_of_a_channel(&mut self, longest: usize) -> u8 {
+        match self.random.below(4) {
+            0 => longest as u8,
+            _ => self.random.between(4, longest) as u8,
+        }
     }
 
     /// Outputs, inputs, parameters, configuration, diagnosis, Get_Cfg slice. One station in four has no outputs or no
@@ -278,7 +347,7 @@ impl Generator {
     /// Short ones let a list go far, long ones reach the limits; 8 outputs are what an SD3 carries.
     fn two_sided_lengths(&mut self) -> [u32; 6] {
         let random = &mut self.random;
-        match random.weighted(&[30, 35, 12, 14, 5, 8, 4]) {
+        match random.weighted(&[28, 33, 12, 18, 6, 8, 4]) {
             0 => [1, 1, random.pick(&[7, 8, 8]), 1, 6, 1],
             1 => [
                 random.between(1, 9) as u32,
@@ -289,7 +358,7 @@ impl Generator {
                 random.between(1, 9) as u32,
             ],
             2 => [8, 3, 10, 7, 9, 2],
-            3 => [random.pick(&[88, 88, 96, 96, 97]); 6],
+            3 => [random.pick(&[64, 64, 96, 96, 97]); 6],
             4 => [244; 6],
             5 => [
                 random.between(1, 244) as u32,
@@ -332,25 +401,48 @@ impl Generator {
                 too_long
             }
         };
-        match random.below(10) {
-            0 => {
-                values.memory =
-                    random.pick(&[0, 8, 64, 128, 1528, 1535, 1537, 2001, 4095, 4097, 4104])
-            }
-            1 => values.address = random.pick(&[127, 128, 255, 256, 261, u32::MAX]),
-            2 => values.outputs = too_long,
-            3 => values.inputs = too_long,
-            4 => values.parameters = bad(7),
-            5 => values.configuration = bad(1),
-            6 => values.diagnosis = bad(6),
-            7 => values.get_cfg = vec![7; random.pick(&[0, 245, 256, 300])],
-            8 => (values.outputs, values.inputs) = (0, 0),
-            _ => {
-                let sides = [(244, 244), (0, 244), (244, 0)];
-                (values.outputs, values.inputs) = random.pick(&sides);
-                (values.parameters, values.configuration) = (244, 244);
-                values.memory = (values.end_of_buffers() as usize - 8).min(4096);
-            }
+        match random.below(15) {
+            0 | 1 => values.memory = random.pick(&BAD_MEMORIES),
+            2 => values.address = random.pick(&[127, 128, 255, 256, 261, u32::MAX]),
+            3 => values.outputs = too_long,
+            4 => values.inputs = too_long,
+            5 => values.parameters = bad(7),
+            6 => values.configuration = bad(1),
+            7 => values.diagnosis = bad(6),
+            8 => values.get_cfg = vec![7; random.pick(&[0, 245, 256, 300])],
+            9 => (values.outputs, values.inputs) = (0, 0),
+            10 => values.channels.resize(random.pick(&BAD_CHANNELS_SLICES), 0),
+            11 | 12 => self.spoil_channel(values),
+            13 => self.without_room_for_channels(values),
+            _ => self.without_room(values),
+        }
+    }
+
+    fn without_room(&mut self, values: &mut StartValues) {
+        let sides = [(244, 244), (0, 244), (244, 0)];
+        (values.outputs, values.inputs) = self.random.pick(&sides);
+        (values.parameters, values.configuration) = (244, 244);
+        let beyond = values.end_without_channels() as usize - 8;
+        values.memory = beyond.min(LONGEST_MEMORY);
+    }
+
+    /// All other buffers end in the memory.
+    fn without_room_for_channels(&mut self, values: &mut StartValues) {
+        if values.channels == NO_CHANNELS || values.end_of_buffers() <= 1536 {
+            let length = self.random.pick(&[40, 64, 240]);
+            values.channels = vec![length; 2 * CHANNELS];
+        }
+        let beyond = values.end_of_buffers() as usize - 8;
+        values.memory = beyond.min(LONGEST_MEMORY);
+    }
+
+    /// One channel's lengths, one of them or both out of their range, or one without the other. The slice may be one of a
+    /// wrong length already.
+    fn spoil_channel(&mut self, values: &mut StartValues) {
+        let number = self.some_channel();
+        let spoilt = self.random.pick(&BAD_CHANNELS);
+        if let Some(lengths) = values.channels.chunks_exact_mut(2).nth(number) {
+            lengths.copy_from_slice(&spoilt);
         }
     }
 
@@ -389,6 +481,9 @@ impl Generator {
     fn scenario(&mut self) {
         if self.is_one_sided() && self.random.chance(40) {
             return self.one_sided();
+        }
+        if self.has_channels() && self.random.chance(5) {
+            return self.ask_a_channel();
         }
         match self.random.weighted(&[
             10, 14, 22, 10, 10, 8, 10, 10, 6, 1, 6, 12, 10, 10, 8, 10, 60, 4, 10, 8, 6, 6,
@@ -954,7 +1049,7 @@ impl Generator {
     fn make_odd(&mut self, draft: &mut Draft) {
         let random = &mut self.random;
         let points = [0, 55, 56, 57, 58, 59, 60, 61, 62, 63, 0xBD, 255];
-        match random.below(11) {
+        match random.below(12) {
             0 => draft.destination = random.pick(&[127, 0, 4, 126]),
             1 => draft.source = random.pick(&[127, 126, draft.destination & 0x7F]),
             2 => draft.control ^= random.pick(&[0x80, 0x40, 0xC0]),
@@ -965,6 +1060,7 @@ impl Generator {
             7 => draft.points = draft.points.map(|(dsap, _)| (dsap, random.pick(&points))),
             8 => draft.form = random.pick(&[Form::Sd1, Form::Sd3, Form::Sd4]),
             9 => draft.data.push(random.octet()),
+            10 => draft.points = Some((random.below(CHANNELS) as u8, random.below(53) as u8)),
             _ => {
                 let count = random.pick(&[0, 1, 2, 7, 8, 9, 241, 243, 244]);
                 draft.data = random.octets(count);
@@ -2366,6 +2462,36 @@ impl Generator {
             self.put_quietly(&status);
             self.hear_reply();
         }
+    }
+}
+
+/// Stations with channels.
+impl Generator {
+    fn has_channels(&self) -> bool {
+        self.ledger().values.channels != NO_CHANNELS
+    }
+
+    /// A request, or a poll, which has no data; mostly to a channel that is set up.
+    fn ask_a_channel(&mut self) {
+        self.be_in_exchange();
+        let lengths = self.ledger().values.channels.clone();
+        let set_up = (0..CHANNELS).filter(|number| lengths[2 * number] != 0);
+        let set_up: Vec<usize> = set_up.collect();
+        let number = match self.random.chance(80) {
+            true => self.random.pick(&set_up),
+            false => self.random.below(CHANNELS),
+        };
+        let length = usize::from(lengths[2 * number]);
+        let count = self.random.pick(&[0, 0, 1, 4, length, length + 1]);
+        let data = self.random.octets(count);
+        let master = self.likely_master();
+        let ssap = self.random.pick(&[0, 51, 52, draft::MASTER_POINT]);
+        let draft = Draft {
+            points: Some((number as u8, ssap)),
+            ..Draft::to_point(self.address(), master, number as u8, data)
+        };
+        self.put_quietly(&draft);
+        self.hear_reply();
     }
 }
 

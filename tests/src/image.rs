@@ -1,7 +1,7 @@
 //! Which octets are the state part of a memory that is not damaged: docs/memory.md, octet by octet. The library has to refuse every
 //! other image with 5, and no image that is one.
 
-use crate::card::STATE;
+use crate::call::{CHANNELS, STATE};
 use crate::ledger::Drawn;
 use crate::retries::Chain;
 use std::ops::Range;
@@ -31,9 +31,20 @@ const IDENT: Range<usize> = 42..44;
 const TICKS_LEFT: Range<usize> = 44..48;
 const TICKS_REFILLED: Range<usize> = 64..68;
 
-/// Octets that are not used: behind the counts, and all that follow.
-const UNUSED: [usize; 2] = [62, 63];
-pub const FURTHER: Range<usize> = 68..STATE;
+/// Octets that are not used, behind the counts: they are 0.
+pub const UNUSED: [usize; 2] = [62, 63];
+
+/// All that is said above.
+pub const FIELDS: Range<usize> = 0..68;
+
+/// Where the rows begin that have an octet for each channel: the lengths of the indications and of the responses, and how
+/// many octets of each are in use.
+pub const ROWS: [usize; 4] = [128, 144, 160, 176];
+pub const ALL_ROWS: Range<usize> = 128..192;
+
+/// The octets that belong to no field, ahead of the rows and behind them: any value is a state's, and no call but Start
+/// changes them.
+pub const FREE: [Range<usize>; 2] = [68..128, 192..STATE];
 
 /// Whether the image is a state's whose roles, lengths and counts keep the rules, with buffers that end in the memory.
 pub fn is_state(image: &[u8], memory_length: usize) -> bool {
@@ -48,7 +59,40 @@ pub fn is_state(image: &[u8], memory_length: usize) -> bool {
         && set_counts(7, image[58], image[59], image[50])
         && set_counts(1, image[60], image[61], image[51])
         && CHAIN.into_iter().all(|(at, most)| image[at] <= most)
-        && UNUSED.into_iter().chain(FURTHER).all(|at| image[at] == 0)
+        && UNUSED.into_iter().all(|at| image[at] == 0)
+        && (0..CHANNELS).all(|number| is_channel(channel(image, number)))
+}
+
+/// The four octets of a channel: the lengths of its indication and of its response, and how many octets of each are in
+/// use.
+fn channel(image: &[u8], number: usize) -> [u8; 4] {
+    let [indication, response, asked, given] = ROWS;
+    [
+        image[indication + number],
+        image[response + number],
+        image[asked + number],
+        image[given + number],
+    ]
+}
+
+/// Not set up, or both lengths are 4 to 240; and no more octets are in use than there are.
+fn is_channel([indication, response, asked, given]: [u8; 4]) -> bool {
+    let set_up = [indication, response]
+        .iter()
+        .all(|length| (4..=240).contains(length));
+    ([indication, response] == [0, 0] || set_up) && asked <= indication && given <= response
+}
+
+/// Whether the channels have these lengths, as Start takes them, and are all free.
+pub fn are_free_channels(image: &[u8], lengths: &[u8]) -> bool {
+    let mut each = lengths.chunks_exact(2).enumerate();
+    each.all(|(number, given)| channel(image, number) == [given[0], given[1], 0, 0])
+}
+
+/// The octets that belong to no field.
+pub fn free(image: &[u8]) -> [&[u8]; 2] {
+    let [ahead_of_rows, behind_rows] = FREE;
+    [&image[ahead_of_rows], &image[behind_rows]]
 }
 
 /// What the chain's octets are.
@@ -99,12 +143,13 @@ pub fn sides(image: &[u8]) -> [u8; 2] {
     [image[LENGTHS], image[LENGTHS + 1]]
 }
 
-fn end_of_buffers(image: &[u8]) -> usize {
+/// Where the last buffer ends, a channel's if one is set up.
+pub fn end_of_buffers(image: &[u8]) -> usize {
+    let rounded = |length: u8| usize::from(length).div_ceil(8) * 8;
     let each = image[LENGTHS..].iter().zip(BUFFERS);
-    STATE
-        + each
-            .map(|(length, count)| usize::from(*length).div_ceil(8) * 8 * count)
-            .sum::<usize>()
+    let buffers: usize = each.map(|(length, count)| rounded(*length) * count).sum();
+    let of_channels = ROWS[0]..ROWS[2];
+    STATE + buffers + of_channels.map(|at| rounded(image[at])).sum::<usize>()
 }
 
 /// Of the telegram that is read or of the reply: no data octet is done before the data, and never more than there are.
@@ -139,11 +184,15 @@ mod tests {
     }
 
     fn is_state_with(octets: &[(usize, u8)]) -> bool {
+        is_state_in(1536, octets)
+    }
+
+    fn is_state_in(memory_length: usize, octets: &[(usize, u8)]) -> bool {
         let mut image = fresh();
         for (at, octet) in octets {
             image[*at] = *octet;
         }
-        is_state(&image, 1536)
+        is_state(&image, memory_length)
     }
 
     #[test]
@@ -167,9 +216,98 @@ mod tests {
 
     #[test]
     fn octets_that_are_not_used_are_zero() {
-        for at in UNUSED.into_iter().chain(FURTHER) {
+        for at in UNUSED {
             assert!(!is_state_with(&[(at, 1)]), "octet {at}");
             assert!(!is_state_with(&[(at, 0x80)]), "octet {at}");
+        }
+    }
+
+    #[test]
+    fn octets_that_belong_to_no_field_are_any() {
+        for at in FREE.into_iter().flatten() {
+            for octet in [0x01, 0x80, 0xFF] {
+                assert!(is_state_with(&[(at, octet)]), "octet {at}");
+            }
+        }
+    }
+
+    #[test]
+    fn every_octet_of_the_state_part_is_of_one_kind() {
+        let kinds = [FIELDS, FREE[0].clone(), ALL_ROWS, FREE[1].clone()];
+        let octets: Vec<usize> = kinds.into_iter().flatten().collect();
+        assert!(octets.into_iter().eq(0..STATE));
+    }
+
+    /// The octets of a channel with their places.
+    fn channel_of(number: usize, octets: [u8; 4]) -> Vec<(usize, u8)> {
+        let places = ROWS.into_iter().map(|row| row + number);
+        places.zip(octets).collect()
+    }
+
+    #[test]
+    fn a_channels_lengths_are_0_and_0_or_both_4_to_240() {
+        for number in 0..CHANNELS {
+            for lengths in [[0, 0], [4, 4], [4, 240], [240, 4], [240, 240], [5, 77]] {
+                let [indication, response] = lengths;
+                let octets = channel_of(number, [indication, response, 0, 0]);
+                assert!(is_state_with(&octets), "{lengths:?}");
+            }
+            for bad in [1, 3, 241, 255] {
+                for lengths in [[bad, 4], [4, bad], [bad, bad], [bad, 0], [0, bad]] {
+                    let [indication, response] = lengths;
+                    let octets = channel_of(number, [indication, response, 0, 0]);
+                    assert!(!is_state_with(&octets), "{lengths:?}");
+                }
+            }
+            assert!(!is_state_with(&channel_of(number, [4, 0, 0, 0])));
+            assert!(!is_state_with(&channel_of(number, [0, 4, 0, 0])));
+        }
+    }
+
+    #[test]
+    fn no_more_of_a_channels_octets_are_in_use_than_there_are() {
+        for number in 0..CHANNELS {
+            for octets in [
+                [4, 5, 4, 5],
+                [4, 5, 0, 5],
+                [4, 5, 4, 0],
+                [240, 240, 240, 240],
+            ] {
+                assert!(is_state_with(&channel_of(number, octets)), "{octets:?}");
+            }
+            for octets in [[4, 5, 5, 5], [4, 5, 4, 6], [0, 0, 1, 0], [0, 0, 0, 1]] {
+                assert!(!is_state_with(&channel_of(number, octets)), "{octets:?}");
+            }
+        }
+    }
+
+    /// In the shortest memory the fresh station's own buffers end at 616, so that 920 octets are there for channels.
+    #[test]
+    fn the_channels_buffers_end_in_the_memory() {
+        let with_last = |lengths: [u8; 2]| {
+            let one = channel_of(0, [240, 240, 0, 0]);
+            [one, channel_of(15, [lengths[0], lengths[1], 0, 0])].concat()
+        };
+        assert_eq!(end_of_buffers(&fresh()), 616);
+        assert!(is_state_with(&with_last([240, 200])));
+        assert!(is_state_with(&with_last([193, 240])));
+        assert!(!is_state_with(&with_last([240, 201])));
+        assert!(!is_state_with(&with_last([201, 240])));
+    }
+
+    #[test]
+    fn free_channels_have_their_lengths_and_nothing_in_use() {
+        let lengths: Vec<u8> = (1..=32).collect();
+        let mut image = fresh();
+        for number in 0..CHANNELS {
+            image[ROWS[0] + number] = lengths[2 * number];
+            image[ROWS[1] + number] = lengths[2 * number + 1];
+        }
+        assert!(are_free_channels(&image, &lengths));
+        for at in ALL_ROWS {
+            image[at] ^= 0x40;
+            assert!(!are_free_channels(&image, &lengths), "octet {at}");
+            image[at] ^= 0x40;
         }
     }
 
@@ -197,32 +335,32 @@ mod tests {
     fn outputs_or_inputs_may_have_no_octet_but_not_both() {
         let sides = |outputs, inputs| [(LENGTHS, outputs), (LENGTHS + 1, inputs)];
         for (outputs, inputs) in [(0, 1), (1, 0), (0, 244), (244, 0)] {
-            assert!(is_state_with(&sides(outputs, inputs)));
+            assert!(is_state_in(1576, &sides(outputs, inputs)));
         }
         for (outputs, inputs) in [(0, 0), (0, 245), (245, 0), (0, 255), (255, 0)] {
-            assert!(!is_state_with(&sides(outputs, inputs)));
+            assert!(!is_state_in(16_384, &sides(outputs, inputs)));
         }
     }
 
-    /// In the shortest memory 1,408 octets are there for buffers, 9 times the others' length and what a side takes.
+    /// In the shortest memory 1,024 octets are there for buffers, 9 times the others' length and what a side takes.
     #[test]
     fn a_side_without_octets_takes_no_room() {
         let with = |sides: [u8; 2], others: u8| -> Vec<(usize, u8)> {
             let lengths = [sides[0], sides[1], others, others, others, others];
             (LENGTHS..).zip(lengths).collect()
         };
-        assert!(is_state_with(&with([0, 104], 120)));
-        assert!(!is_state_with(&with([0, 105], 120)));
-        assert!(is_state_with(&with([64, 0], 128)));
-        assert!(!is_state_with(&with([65, 0], 128)));
+        assert!(is_state_with(&with([0, 72], 88)));
+        assert!(!is_state_with(&with([0, 73], 88)));
+        assert!(is_state_with(&with([40, 0], 96)));
+        assert!(!is_state_with(&with([41, 0], 96)));
     }
 
     #[test]
-    fn all_lengths_88_fit_the_shortest_memory_and_89_do_not() {
+    fn all_lengths_64_fit_the_shortest_memory_and_65_do_not() {
         let all = |length| -> Vec<(usize, u8)> {
             (LENGTHS..LENGTHS + 6).map(|at| (at, length)).collect()
         };
-        assert!(is_state_with(&all(88)));
-        assert!(!is_state_with(&all(89)));
+        assert!(is_state_with(&all(64)));
+        assert!(!is_state_with(&all(65)));
     }
 }

@@ -1,6 +1,7 @@
 //! A second implementation of the station: the ledger of document 01 (section "The ledger") with Req 01, Req 05 and Req 06
 //! of document 02, on lists. The window of Req 02 is in window.rs, the retries of Req 04 are in retries.rs, and how many
-//! ticks a watchdog has by Req 07 is in watchdog.rs. Req 03 changes no answer.
+//! ticks a watchdog has by Req 07 is in watchdog.rs. Req 03 changes no answer. Of Req 08 Start is here, with what its
+//! refusals look at; telegrams to the channels draw RS as before, and there are no calls for channels yet.
 //!
 //! It is fed the arguments of the calls alone and has no memory, no buffers and no roles. A telegram's octets are
 //! gathered and acted on whole at the last one; a reply is fixed whole when it is drawn. Where a document can be read in
@@ -9,13 +10,16 @@
 //!
 //! `notes` tells the table of outcomes what happened. No rule looks at it.
 
-use crate::call::{Call, StartValues};
+use crate::call::{Call, StartValues, CHANNELS};
 use crate::outcome::Outcome;
 use crate::retries::{Chain, Traces};
 use crate::telegram::{self, Extended, Form, Place, Telegram};
 use crate::watchdog::{self, Watchdog};
 use std::collections::VecDeque;
 use std::mem::swap;
+
+/// Document 02, Req 08: "The memory may be up to 16,384 octets".
+pub const LONGEST_MEMORY: usize = 16_384;
 
 /// Document 01, "Diagnosis": the octets that the station makes itself; the user's begin behind them.
 pub const DIAGNOSIS_HEAD: u32 = 6;
@@ -236,17 +240,55 @@ fn accepted_start(values: &StartValues) -> Vec<Outcome> {
     if values.end_of_buffers() == values.memory as u64 {
         reached.push(Outcome::StartExactFit);
     }
-    if all_lengths_are(values, 88) && values.memory == 1536 {
-        reached.push(Outcome::StartAll88);
+    if all_lengths_are(values, 64) && values.memory == 1536 {
+        reached.push(Outcome::StartAll64);
     }
-    if all_lengths_are(values, 96) && values.memory == 1664 {
+    if all_lengths_are(values, 96) && values.memory == 2048 {
         reached.push(Outcome::StartAll96);
     }
     if all_lengths_are(values, 244) {
         reached.push(Outcome::StartAll244);
     }
+    if values.memory > 4096 {
+        reached.push(Outcome::StartAbove4096);
+    }
+    if values.memory == LONGEST_MEMORY {
+        reached.push(Outcome::StartLongest);
+    }
     reached.extend(one_sided_start(values));
+    reached.extend(start_with_channels(values));
     reached
+}
+
+/// What a Start that answers 0 is by its channels, if there are any.
+fn start_with_channels(values: &StartValues) -> Vec<Outcome> {
+    let lengths = &values.channels;
+    let set_up = lengths.iter().filter(|length| **length != 0).count() / 2;
+    if set_up == 0 {
+        return Vec::new();
+    }
+    let both = |length| lengths.chunks(2).any(|channel| channel == [length; 2]);
+    let kinds = [
+        (set_up == 1, Outcome::StartOneChannel),
+        (set_up == CHANNELS, Outcome::StartAllChannels),
+        (lengths[0] != 0, Outcome::StartFirstChannel),
+        (lengths[31] != 0, Outcome::StartLastChannel),
+        (both(4), Outcome::StartLeastChannel),
+        (both(240), Outcome::StartMostChannel),
+        (
+            lengths[..] == [240; 2 * CHANNELS] && all_lengths_are(values, 244),
+            Outcome::StartMostRoom,
+        ),
+        (
+            values.end_of_buffers() == values.memory as u64,
+            Outcome::StartChannelsExactFit,
+        ),
+    ];
+    let reached = kinds.into_iter().filter(|(reached, _)| *reached);
+    let reached = reached.map(|(_, outcome)| outcome);
+    std::iter::once(Outcome::StartChannels)
+        .chain(reached)
+        .collect()
 }
 
 fn one_sided_start(values: &StartValues) -> Option<Outcome> {
@@ -280,16 +322,18 @@ fn start_refusal(values: &StartValues) -> Option<Refusal> {
     memory_refusal(values.memory)
         .or((values.address > 126).then_some((2, Outcome::Refuse2)))
         .or_else(|| length_refusal(values))
+        .or_else(|| channels_refusal(&values.channels))
         .or_else(|| room_refusal(values))
 }
 
 fn memory_refusal(length: usize) -> Option<Refusal> {
-    match length {
-        0..=1535 => Some((1, Outcome::Refuse1Short)),
-        4097.. => Some((1, Outcome::Refuse1Long)),
-        _ if length % 8 != 0 => Some((1, Outcome::Refuse1Eight)),
-        _ => None,
+    if length < 1536 {
+        return Some((1, Outcome::Refuse1Short));
     }
+    if length > LONGEST_MEMORY {
+        return Some((1, Outcome::Refuse1Long));
+    }
+    (length % 8 != 0).then_some((1, Outcome::Refuse1Eight))
 }
 
 /// Outputs and inputs may have no octet, but not both: document 02, Req 05.
@@ -311,13 +355,41 @@ fn length_refusal(values: &StartValues) -> Option<Refusal> {
         .or(neither.then_some((3, Outcome::Refuse3Neither)))
 }
 
+/// Document 02, Req 08: "Start takes both lengths of each, 0 and 0 for one not set up", else 4 to 240. A slice that does
+/// not have two octets for each of sixteen channels is refused as a Get_Cfg slice of a wrong length is.
+fn channels_refusal(lengths: &[u8]) -> Option<Refusal> {
+    let cause = match lengths.len() {
+        0..=31 => Some(Outcome::Refuse3ChannelsShort),
+        32 => lengths
+            .chunks(2)
+            .find_map(|channel| channel_fault(channel[0], channel[1])),
+        _ => Some(Outcome::Refuse3ChannelsLong),
+    };
+    cause.map(|cause| (3, cause))
+}
+
+fn channel_fault(indication: u8, response: u8) -> Option<Outcome> {
+    match (indication, response) {
+        (0, 0) | (4..=240, 4..=240) => None,
+        (4..=240, 0) => Some(Outcome::Refuse3IndicationAlone),
+        (0, 4..=240) => Some(Outcome::Refuse3ResponseAlone),
+        (1..=3, _) => Some(Outcome::Refuse3IndicationShort),
+        (241.., _) => Some(Outcome::Refuse3IndicationLong),
+        (_, 1..=3) => Some(Outcome::Refuse3ResponseShort),
+        (_, 241..) => Some(Outcome::Refuse3ResponseLong),
+    }
+}
+
 fn room_refusal(values: &StartValues) -> Option<Refusal> {
+    let memory = values.memory as u64;
+    let by_channels = values.end_without_channels() <= memory;
     let cause = match (values.outputs, values.inputs) {
+        _ if by_channels => Outcome::Refuse4Channels,
         (0, _) => Outcome::Refuse4NoOutputs,
         (_, 0) => Outcome::Refuse4NoInputs,
         _ => Outcome::Refuse4,
     };
-    (values.end_of_buffers() > values.memory as u64).then_some((4, cause))
+    (values.end_of_buffers() > memory).then_some((4, cause))
 }
 
 /// Start, and the calls by their names.
@@ -757,6 +829,10 @@ impl Ledger {
         let Some(extended) = telegram.extended() else {
             return self.data_exchange(telegram);
         };
+        self.note_if(
+            self.is_for_a_channel(telegram, &extended),
+            Outcome::PointOfChannel,
+        );
         if extended.ssap != SSAP_OF_MASTERS {
             self.note(Outcome::PointSsap);
             return self.reply_rs(telegram);
@@ -771,6 +847,14 @@ impl Ledger {
             // 58 too: Global_Control comes by functions 4 and 6 alone.
             _ => self.reply_rs(telegram),
         }
+    }
+
+    /// The owner asks a channel that is set up, in DATA_EXCH: no service yet, so it draws RS as any point that is not there.
+    fn is_for_a_channel(&self, telegram: &Telegram, extended: &Extended) -> bool {
+        let mut set_up = self.values.channels.chunks(2).zip(0..);
+        let set_up = set_up.any(|(lengths, dsap)| dsap == extended.dsap && lengths[0] != 0);
+        let exchanging = self.phase == Phase::DataExch && self.is_owner(telegram);
+        exchanging && set_up && extended.ssap <= 51
     }
 
     fn serve_without_data(&mut self, telegram: &Telegram, extended: &Extended) {

@@ -29,7 +29,7 @@ impl Line {
     pub fn with_lengths(outputs: u32, inputs: u32) -> Line {
         let mut line = Line::without_start();
         let start = format!("start 1536 5 32947 {outputs} {inputs} 10 1 9 20");
-        assert_eq!(line.call(&start), 0);
+        assert_eq!(line.call(&without_channels(&start)), 0);
         line
     }
 
@@ -133,6 +133,11 @@ impl Line {
         let reply = self.request(draft::SLAVE_DIAG, Vec::new());
         (reply[9], reply[10])
     }
+}
+
+/// The line of a Start behind which nothing is said of channels yet.
+pub fn without_channels(start: &str) -> String {
+    format!("{start} {}", "00".repeat(32))
 }
 
 pub fn to_point(point: u8, data: Vec<u8>) -> Draft {

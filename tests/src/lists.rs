@@ -12,7 +12,8 @@ use std::sync::Mutex;
 const DAMAGED_STATES: usize = 3;
 /// One list in this many has a state in which every octet takes every value.
 const ALL_VALUES_EVERY: u64 = 10;
-/// One list in this many has a state in which every length of the memory is tried, and codes, counts and lengths at their limits.
+/// One list in this many has a state in which every length of the memory is tried, codes, counts and lengths at their limits,
+/// channels, and octets that belong to no field.
 const LENGTHS_EVERY: u64 = 20;
 
 #[derive(Clone, Copy)]
@@ -65,7 +66,7 @@ fn run_list(plan: Plan, number: u64) -> Result<Tally, String> {
     let damaged_at: Vec<usize> = (0..DAMAGED_STATES)
         .map(|_| random.below(calls.len()))
         .collect();
-    let mut state_before = vec![0; crate::card::STATE];
+    let mut state_before = vec![0; crate::call::STATE];
     for (at, call) in calls.iter().enumerate() {
         pair.step(call)
             .map_err(|difference| report(plan, number, &difference.to_string()))?;
@@ -108,6 +109,10 @@ fn damage(
         trial.try_unused()?;
         trial.try_lengths()?;
         trial.try_sides()?;
+        trial.try_free()?;
+        trial.try_channels()?;
+        trial.try_rows_of_chance()?;
+        trial.try_room_of_channels()?;
     }
     Ok(())
 }

@@ -1,5 +1,5 @@
-//! Compares the C library of the station with a second implementation of document 01 and of Req 01 to 07 of document 02.
-//! See tests/README.md.
+//! Compares the C library of the station with a second implementation of document 01 and of document 02, its Req 01 to 07
+//! and of Req 08 the memory and Start. See tests/README.md.
 
 #[cfg(test)]
 mod base;
@@ -9,6 +9,8 @@ mod call;
 mod card;
 #[cfg(test)]
 mod cells;
+#[cfg(test)]
+mod channels;
 mod compare;
 mod damage;
 mod draft;

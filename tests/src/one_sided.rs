@@ -37,27 +37,27 @@ fn with_data(count: usize) -> Draft {
 fn outputs_and_inputs_may_have_no_octet_but_not_both() {
     let start = |memory: u32, address: u32, outputs: u32, inputs: u32| {
         let mut line = Line::without_start();
-        line.call(&format!(
-            "start {memory} {address} 1 {outputs} {inputs} 7 1 6 20"
-        ))
+        let start = format!("start {memory} {address} 1 {outputs} {inputs} 7 1 6 20");
+        line.call(&line::without_channels(&start))
     };
     for (outputs, inputs) in [(0, 1), (1, 0), (0, 244), (244, 0)] {
-        assert_eq!(start(1536, 5, outputs, inputs), 0);
+        assert_eq!(start(1576, 5, outputs, inputs), 0);
     }
     for (outputs, inputs) in [(0, 0), (0, 245), (245, 0), (0, 256), (256, 0)] {
-        assert_eq!(start(1536, 5, outputs, inputs), -3);
+        assert_eq!(start(1576, 5, outputs, inputs), -3);
     }
     assert_eq!(start(1528, 127, 0, 0), -1);
     assert_eq!(start(1536, 127, 0, 0), -2);
 }
 
-/// All lengths 244 end at 4,096; four output buffers or three input buffers of 248 octets are not there.
+/// All lengths 244 end at 4,480; four output buffers or three input buffers of 248 octets are not there.
 #[test]
 fn a_length_of_0_takes_no_room() {
     let slice = "20".repeat(244);
-    for (outputs, inputs, end) in [(0, 244, 3104), (244, 0, 3352)] {
+    for (outputs, inputs, end) in [(0, 244, 3488), (244, 0, 3736)] {
         for (memory, answer) in [(end - 8, -4), (end, 0)] {
             let start = format!("start {memory} 5 1 {outputs} {inputs} 244 244 244 {slice}");
+            let start = line::without_channels(&start);
             assert_eq!(Line::without_start().call(&start), answer);
         }
     }

@@ -86,7 +86,8 @@ fn start_has_no_chain() {
     for bit in [false, true] {
         let mut line = Line::fresh();
         line.put(&status().counted(bit));
-        assert_eq!(line.call("start 1536 5 32947 1 1 7 1 9 20"), 0);
+        let start = line::without_channels("start 1536 5 32947 1 1 7 1 9 20");
+        assert_eq!(line.call(&start), 0);
         let set_prm = line::set_prm(draft::ALLOW_NONE).counted(bit);
         assert!(is_served(&mut line, &set_prm));
     }

@@ -6,7 +6,7 @@
 //! a telegram shows its own rule. Some of the states are those of stations without outputs or without inputs. Where nothing
 //! else is said octet 7 makes the base 1 ms, and watchdogs have as many ticks as the product of their factors.
 
-use crate::call::{Call, Order, StartValues};
+use crate::call::{Call, Order, StartValues, NO_CHANNELS};
 use crate::compare::{Difference, Pair};
 use crate::damage::try_every_event_word;
 use crate::draft::{self, Draft};
@@ -165,16 +165,26 @@ fn start() -> Call {
 
 fn start_with(outputs: u32, inputs: u32) -> Call {
     Call::Start(StartValues {
+        outputs,
+        inputs,
+        ..start_values()
+    })
+}
+
+/// Two outputs, three inputs, no channels. The buffers end at 680.
+fn start_values() -> StartValues {
+    StartValues {
         memory: 1536,
         address: STATION.into(),
         ident: IDENT,
-        outputs,
-        inputs,
+        outputs: 2,
+        inputs: 3,
         parameters: 9,
         configuration: 4,
         diagnosis: 9,
         get_cfg: vec![0x21, 0x12],
-    })
+        channels: NO_CHANNELS.to_vec(),
+    }
 }
 
 fn request(point: u8, data: &[u8]) -> Vec<u8> {
@@ -363,7 +373,21 @@ fn ways() -> Vec<(&'static str, Vec<Call>)> {
         ),
         ("frozen with new inputs", way_to_freeze()),
         ("a repeat may follow", way_to_a_chain()),
+        (
+            "sixteen channels, no octet left in the memory",
+            way_to_channels(),
+        ),
     ]
+}
+
+/// In the exchange. Eleven buffers of 25 octets and 21 of 17 take the 856 octets that the others leave.
+fn way_to_channels() -> Vec<Call> {
+    let start = Call::Start(StartValues {
+        channels: [vec![25; 11], vec![17; 21]].concat(),
+        ..start_values()
+    });
+    let parameters = good_parameters(Some((1, 2)));
+    [vec![start], exchange_entered(&parameters)].concat()
 }
 
 fn way_to_waiting_parameters() -> Vec<Call> {
@@ -1286,12 +1310,9 @@ fn every_count_from_7(walker: &mut Walker, length: usize) -> Compared {
 }
 
 fn start_with_parameters(parameters: u32) -> Call {
-    let Call::Start(values) = start() else {
-        unreachable!("a Start")
-    };
     Call::Start(StartValues {
         parameters,
-        ..values
+        ..start_values()
     })
 }
 
@@ -1413,6 +1434,14 @@ mod tests {
             let chain = chain.expect("nothing ended it");
             assert_eq!((chain.master, chain.frame_count), (MASTER, true));
         }
+    }
+
+    #[test]
+    fn the_channels_take_all_that_is_left_of_the_memory() {
+        let ledger = reached(&way_to_channels()).ledger;
+        let values = ledger.expect("the way begins with Start").values;
+        assert_eq!(values.end_of_buffers(), values.memory as u64);
+        assert!(values.channels.iter().all(|length| *length != 0));
     }
 
     /// What the library is asked from these states is a rule of one side only if they are what their names say.
