@@ -9,8 +9,8 @@
 #   make clean    removes what this file made; the libraries of x86-64 stay
 # LIB=path takes another library than the repository's for run, check and bench. LENT=path takes another one for the bench
 # loop on the lent state; with LENT= its column stays empty. BEFORE=folder is another tree of this repository with its
-# libraries built and the same calls in the header: make bench then has a column with their instructions. LISTS=folder
-# takes the lists of calls from another folder.
+# libraries built and the same calls in the header, but for last arguments that it does not have yet: make bench then
+# has a column with their instructions. LISTS=folder takes the lists of calls from another folder.
 
 PROVED_LIB := target/staticlib/libcard.a
 LIB ?= $(PROVED_LIB)
@@ -19,8 +19,8 @@ BEFORE :=
 LISTS ?= tests/vectors
 OUT := target/c
 
-# The base, document 01, is 1.0; with request n of document 02 it becomes 1.n.
-VERSION := 1.7
+# The base, document 01, is 1.0; with request n of document 02 it becomes 1.n. What stands of a request before the whole adds .1.
+VERSION := 1.7.1
 PREFIX ?= /usr/local
 
 CC := gcc
@@ -82,7 +82,7 @@ $(OUT)/bench: bench/bench.c $(WORKLOAD) $(LIB) $(OUT)/library | $(OUT)
 require_before = [ -f $(1) ] || { echo "BEFORE: $(1) is not there; in $(BEFORE), $(2) builds it" >&2; exit 1; }
 
 # Another version is counted with the same telegrams, but what it makes of a repeat is its own, and a station that it refuses for a length
-# of 0 is left out.
+# of 0, or for a memory that its channels need, is left out.
 $(OUT)/before: bench/bench.c $(WORKLOAD) FORCE | $(OUT)
 	@$(call require_before,$(BEFORE)/$(PROVED_LIB),rt staticlib card)
 	$(CC) $(CPPFLAGS) $(CFLAGS) -DOTHER_VERSION $< bench/workload.c $(BEFORE)/$(PROVED_LIB) -Wl,-z,now -o $@

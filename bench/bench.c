@@ -5,6 +5,7 @@
  */
 #include "workload.h"
 
+#include <stdbool.h>
 #include <time.h>
 
 /* ---- The rare calls, and other telegrams than Data_Exchange ---- */
@@ -456,16 +457,32 @@ static void repeats(void)
    figures can be compared with those of the workload. */
 enum { TURNS = 3 };
 
-/* Another station is started, and cycles are made. A library of another version may know no length 0: a station with
-   one is then left out. */
-static void cycles_at(const struct station *other, void (*cycle)(void))
+/* Whether another station is started. A library of another version may know no length 0, and no memory above 4,096
+   octets: a station that needs one is then left out, and one without channels has a memory of 4,096. */
+static bool is_started(const struct station *other)
 {
     int64_t answer = start_other(other);
 #ifdef OTHER_VERSION
+    static struct station shorter;
     if (answer == -DP_REFUSED_LENGTH && (other->outputs == 0 || other->inputs == 0))
-        return;
+        return false;
+    if (answer == -DP_REFUSED_MEMORY_LENGTH && other->channels > 0)
+        return false;
+    if (answer == -DP_REFUSED_MEMORY_LENGTH) {
+        shorter = *other;
+        shorter.memory_len = 4096;
+        answer = start_other(&shorter);
+    }
 #endif
     granted("dp_start", answer);
+    return true;
+}
+
+/* Another station is started, and cycles are made. */
+static void cycles_at(const struct station *other, void (*cycle)(void))
+{
+    if (!is_started(other))
+        return;
     enter_exchange();
     for (int turn = 0; turn < TURNS; turn++)
         cycle();
@@ -524,7 +541,7 @@ static void polled_cycle(void)
     vat_takes_empty_list();
 }
 
-/* Lengths above 88, which the check tests one by one. */
+/* Lengths above 64, which the check tests one by one. */
 enum { LONG = 100 };
 
 static void long_cycle(void)
@@ -540,17 +557,83 @@ static void long_cycle(void)
     expect("the last output", CALL(dp_read(MEMORY, DP_KIND_OUTPUTS, LONG - 1)), LAST_OUTPUT);
 }
 
+static uint8_t longest_memory[DP_MEMORY_MAX];
+
 /* In the longest memory the check makes no sum of the long lengths. */
 static void other_stations(void)
 {
-    static uint8_t longest_memory[DP_MEMORY_MAX];
-    static const struct station without_inputs = {memory, sizeof memory, OUTPUTS, 0};
-    static const struct station without_outputs = {memory, sizeof memory, 0, INPUTS};
-    static const struct station with_long_lengths = {longest_memory, sizeof longest_memory, LONG, LONG};
+    static const struct station without_inputs = {memory, sizeof memory, OUTPUTS, 0, 0, 0};
+    static const struct station without_outputs = {memory, sizeof memory, 0, INPUTS, 0, 0};
+    static const struct station with_long_lengths = {longest_memory, sizeof longest_memory, LONG, LONG, 0, 0};
     cycles_at(&without_inputs, acknowledged_cycle);
     cycles_at(&without_inputs, flagged_cycle);
     cycles_at(&without_outputs, polled_cycle);
     cycles_at(&with_long_lengths, long_cycle);
+}
+
+/* ---- Scenes at stations with channels ---- */
+
+/* The places of such a station's calls. */
+struct places {
+    void (*data_octet)(uint8_t octet);
+    void (*tick)(void);
+    void (*take)(void);
+    void (*read)(uint32_t index, uint8_t expected);
+};
+
+/* A Data_Exchange as in the workload, and what the vat program and the timer do behind it. */
+static void cycle_by_places(const struct places *at)
+{
+    uint8_t t[TELEGRAM];
+    fill_request(t, 1);
+    put_request_by_places(t, sizeof t, at->data_octet, octet_of_other_telegram);
+    expect("the first octet of the reply", CALL(dp_send(MEMORY)), 0x68);
+    fetch_reply();
+    at->take();
+    for (uint32_t i = 0; i < OUTPUTS; i++)
+        at->read(i, t[HEADER + i]);
+    at->tick();
+}
+
+/* A cycle at a station of that name. */
+#define CYCLE_WITH(name) \
+    PLACE void data_octet_with_##name(uint8_t octet) \
+    { \
+        CALL(dp_octet(MEMORY, octet, 0)); \
+    } \
+    PLACE void tick_with_##name(void) \
+    { \
+        CALL(dp_tick(MEMORY)); \
+    } \
+    PLACE void take_with_##name(void) \
+    { \
+        expect("the outputs taken", CALL(dp_take_outputs(MEMORY)), 1); \
+    } \
+    PLACE void read_with_##name(uint32_t index, uint8_t expected) \
+    { \
+        expect("an output", CALL(dp_read(MEMORY, DP_KIND_OUTPUTS, index)), expected); \
+    } \
+    static void cycle_with_##name(void) \
+    { \
+        static const struct places at = {data_octet_with_##name, tick_with_##name, take_with_##name, \
+                                         read_with_##name}; \
+        cycle_by_places(&at); \
+    }
+
+CYCLE_WITH(two_channels)
+CYCLE_WITH(two_channels_in_little_room)
+CYCLE_WITH(sixteen_channels)
+
+/* Beside short lengths the check makes no sum where the memory has room for the channels behind 1,536 octets. */
+static void stations_with_channels(void)
+{
+    enum { SHORT_CHANNEL = 64, ROOM = DP_MEMORY_MIN + 2 * 2 * DP_ROOM(SHORT_CHANNEL) };
+    static const struct station two = {longest_memory, ROOM, OUTPUTS, INPUTS, 2, SHORT_CHANNEL};
+    static const struct station two_in_little_room = {longest_memory, DP_MEMORY_MIN, OUTPUTS, INPUTS, 2, SHORT_CHANNEL};
+    static const struct station sixteen = {longest_memory, DP_MEMORY_MAX, OUTPUTS, INPUTS, DP_CHANNELS, DP_CHANNEL_MAX};
+    cycles_at(&two, cycle_with_two_channels);
+    cycles_at(&two_in_little_room, cycle_with_two_channels_in_little_room);
+    cycles_at(&sixteen, cycle_with_sixteen_channels);
 }
 
 /* ---- All scenes ---- */
@@ -572,6 +655,7 @@ static void rare_calls(void)
         by_window();
         repeats();
         other_stations();
+        stations_with_channels();
     }
 }
 

@@ -86,6 +86,14 @@ function all_row(call, without, with) {
     key_row(call, call SUBSEP "all", "all of the workload", without, with)
 }
 
+# The rows of a station with channels.
+function channel_rows(name, text) {
+    place_row("dp_octet", "data_octet_with_" name, text ": data")
+    place_row("dp_tick", "tick_with_" name, text)
+    place_row("dp_take_outputs", "take_with_" name, text)
+    place_row("dp_read", "read_with_" name, text)
+}
+
 # The row of a service point: at how many entries of the table its lookup looks, and the last octet of a telegram to it.
 function point_row(dsap, place,    key) {
     key = "dp_octet" SUBSEP place
@@ -209,6 +217,9 @@ END {
     place_row("dp_send", "send_data_without_outputs", "no outputs: data")
     place_row("dp_take_outputs", "vat_takes_empty_list", "no outputs: the empty list")
     place_row("dp_octet", "data_octet_of_long_outputs", "lengths of 100: data, inner")
+    channel_rows("two_channels", "2 channels")
+    channel_rows("two_channels_in_little_room", "2 channels, little room")
+    channel_rows("sixteen_channels", "16 channels")
     # What the lent state costs once, however many octets follow.
     runs = calls["lent_exchange", "lent no_octets"]
     once = mean(cost["lent_exchange", "lent no_octets"], runs)

@@ -7,7 +7,7 @@ enum { FC_REQUEST = 0x5D, FRAME_COUNT_BIT = 0x20 };
 
 uint8_t memory[DP_MEMORY_MIN];
 
-static const struct station of_workload = {memory, sizeof memory, OUTPUTS, INPUTS};
+static const struct station of_workload = {memory, sizeof memory, OUTPUTS, INPUTS, 0, 0};
 const struct station *station = &of_workload;
 
 int64_t granted(const char *call, int64_t answer)
@@ -198,9 +198,11 @@ void whole_cycle(unsigned cycle)
 static inline __attribute__((always_inline)) int64_t start_station(void)
 {
     static const uint8_t get_cfg[] = {0x1F, 0x1F, 0x2F, 0x2F};
+    uint8_t channels[DP_CHANNEL_LENGTHS] = {0};
+    memset(channels, station->channel_len, 2 * station->channels);
     fc_of_next_request = FC_REQUEST;
     return dp_start(MEMORY, ADDRESS, IDENT, station->outputs, station->inputs, PARAMETER_LEN, CONFIGURATION_LEN,
-                    DIAGNOSIS_LEN, get_cfg, sizeof get_cfg);
+                    DIAGNOSIS_LEN, get_cfg, sizeof get_cfg, channels, sizeof channels);
 }
 
 PLACE void station_starts(void)

@@ -23,12 +23,15 @@ enum { SD1 = 0x10, HEADER = 7, END = 2, TELEGRAM = HEADER + OUTPUTS + END, REPLY
 /* The memory that the station of the workload lives in. */
 extern uint8_t memory[DP_MEMORY_MIN];
 
-/* A station: the memory that it lives in, and how many outputs and inputs it has. */
+/* A station: the memory that it lives in, how many outputs and inputs it has, and how many channels are set up, from
+   channel 0 on, with both buffers of so many octets. A library from before Req 08 does not look at the channels. */
 struct station {
     uint8_t *memory;
     uint64_t memory_len;
     uint32_t outputs;
     uint32_t inputs;
+    uint32_t channels;
+    uint8_t channel_len;
 };
 
 /* The station that all calls go to. */
@@ -48,8 +51,8 @@ unsigned cycles_asked_for(int argc, char **argv, unsigned otherwise);
 /* From any memory into the exchange, at the station of the workload. */
 void start_up(void);
 
-/* From any memory of another station to where that waits for Set_Prm: its outputs, its inputs, all else as in the
-   workload. The answer of dp_start, which may be a refusal. */
+/* From any memory of another station to where that waits for Set_Prm: its outputs, its inputs, its channels, all else
+   as in the workload. The answer of dp_start, which may be a refusal. */
 int64_t start_other(const struct station *other);
 
 /* Set_Prm with the watchdog on. Its ticks are ten times the product of the two, since it has no octet 7 and so a base of

@@ -5,9 +5,9 @@
  *   lists NAMES      NAMES is a file with the name of one NAME.in on each line; NAME.out lies beside it
  *
  * Every call gets the memory at another place than the call before, on each alignment in turn, with a pattern all around
- * it, and so does Start its slice. A call that is refused, or that only looks, has to leave the memory as it was, and no
- * call may change the slice or an octet of a pattern. It needs no more of a C library than files, so that it runs on a
- * bare processor too.
+ * it, and so does Start its two slices. A call that is refused, or that only looks, has to leave the memory as it was,
+ * and no call may change a slice or an octet of a pattern. It needs no more of a C library than files, so that it runs
+ * on a bare processor too.
  *
  * Exit 0: no difference; 1: a difference; 2: input that cannot be used.
  */
@@ -22,11 +22,14 @@
 /* Start refuses all that is longer than DP_MEMORY_MAX; some lists lend it more. */
 enum { LONGEST = 2 * DP_MEMORY_MAX, GUARD = 512, ALIGNMENTS = 8 };
 
-/* The most numbers that a call takes in a list, and the most octets of its slice. */
+/* The most numbers that a call takes in a list, and the most octets of a slice. */
 enum { NUMBERS = 8, SLICE = 2 * DP_LENGTH_MAX };
 
-/* A line holds the longest slice, two digits to an octet, and what stands before it. */
-enum { LINE = 2 * SLICE + 128 };
+/* The slices of Start, in the order of its line: what Get_Cfg sends, and the channels' lengths. */
+enum { GET_CFG, CHANNELS, SLICES };
+
+/* A line holds the longest slices, two digits to an octet, and what stands before them. */
+enum { LINE = 2 * SLICES * SLICE + 128 };
 
 enum exit_status { SAME = 0, DIFFERENT = 1, UNUSABLE = 2 };
 
@@ -41,21 +44,33 @@ struct lending {
 static uint8_t around_memory[GUARD + ALIGNMENTS + LONGEST + GUARD];
 static struct lending memory = {around_memory, sizeof around_memory, 0, 0};
 
-static uint8_t around_slice[GUARD + ALIGNMENTS + SLICE + GUARD];
-static struct lending slice = {around_slice, sizeof around_slice, 0, 0};
+static uint8_t around_slices[SLICES][GUARD + ALIGNMENTS + SLICE + GUARD];
+static struct lending slices[SLICES] = {{around_slices[GET_CFG], sizeof around_slices[GET_CFG], 0, 0},
+                                        {around_slices[CHANNELS], sizeof around_slices[CHANNELS], 0, 0}};
 
 /* Octets that no stray zero, copy or shift repeats by chance. */
-static uint8_t pattern(size_t place)
+static uint8_t pattern[sizeof around_memory];
+
+static void make_pattern(void)
 {
-    uint8_t octet = (uint8_t)((place * 151 >> 3) ^ 0x5A);
-    return octet != 0 ? octet : 0xA5;
+    for (size_t place = 0; place < sizeof pattern; place++) {
+        uint8_t octet = (uint8_t)((place * 151 >> 3) ^ 0x5A);
+        pattern[place] = octet != 0 ? octet : 0xA5;
+    }
+}
+
+/* Nothing is lent, and the pattern is everywhere. */
+static void begin_lending(void)
+{
+    memcpy(around_memory, pattern, sizeof around_memory);
+    for (size_t i = 0; i < SLICES; i++)
+        memcpy(around_slices[i], pattern, sizeof around_slices[i]);
 }
 
 /* Lends octets on the next alignment, all of them the pattern; whatever was lent before is gone. Answers where. */
 static uint8_t *lend(struct lending *l, size_t length)
 {
-    for (size_t i = 0; i < l->size; i++)
-        l->octets[i] = pattern(i);
+    memcpy(l->octets + l->at, pattern + l->at, l->length);
     l->at = GUARD + (l->at + 1) % ALIGNMENTS;
     l->length = length;
     return l->octets + l->at;
@@ -64,20 +79,21 @@ static uint8_t *lend(struct lending *l, size_t length)
 /* Whether the pattern around is whole. */
 static bool is_kept_to(const struct lending *l)
 {
-    for (size_t i = 0; i < l->size; i++) {
-        bool is_lent = i >= l->at && i < l->at + l->length;
-        if (!is_lent && l->octets[i] != pattern(i))
-            return false;
-    }
-    return true;
+    size_t end = l->at + l->length;
+    return memcmp(l->octets, pattern, l->at) == 0 && memcmp(l->octets + end, pattern + end, l->size - end) == 0;
 }
 
 /* ---- The calls ---- */
 
+/* Octets that a slice is to have. */
+struct octets {
+    uint8_t octet[SLICE];
+    size_t count;
+};
+
 struct arguments {
     uint32_t number[NUMBERS];
-    uint8_t slice[SLICE];
-    size_t slice_len;
+    struct octets slice[SLICES];
 };
 
 typedef int64_t run(uint8_t *lent, uint64_t lent_len, const struct arguments *a);
@@ -85,8 +101,9 @@ typedef int64_t run(uint8_t *lent, uint64_t lent_len, const struct arguments *a)
 static int64_t run_start(uint8_t *lent, uint64_t lent_len, const struct arguments *a)
 {
     const uint32_t *n = a->number;
-    return dp_start(lent, lent_len, n[1], (uint16_t)n[2], n[3], n[4], n[5], n[6], n[7], slice.octets + slice.at,
-                    slice.length);
+    const struct lending *get_cfg = &slices[GET_CFG], *channels = &slices[CHANNELS];
+    return dp_start(lent, lent_len, n[1], (uint16_t)n[2], n[3], n[4], n[5], n[6], n[7], get_cfg->octets + get_cfg->at,
+                    get_cfg->length, channels->octets + channels->at, channels->length);
 }
 
 static int64_t run_octet(uint8_t *lent, uint64_t lent_len, const struct arguments *a)
@@ -168,8 +185,8 @@ static bool winwrite_looks(const struct arguments *a)
 }
 
 /* form: what stands behind the name, one letter for each: n a number, w one of 16 bits, l a memory's length, o the order
-   of a window access, x an octet and s a slice in hexadecimal digits. A call with no arguments has `alone` instead of
-   `run`. */
+   of a window access, x an octet, s and c the octets for Get_Cfg and for the channels in hexadecimal digits. A call
+   with no arguments has `alone` instead of `run`. */
 struct call {
     const char *name, *form;
     run *run;
@@ -178,7 +195,7 @@ struct call {
 };
 
 static const struct call calls[] = {
-    {"start", "lnwnnnnns", run_start, NULL, never},
+    {"start", "lnwnnnnnsc", run_start, NULL, never},
     {"octet", "x", run_octet, NULL, never},
     {"bad", "x", run_bad, NULL, never},
     {"gap", "", NULL, dp_gap, never},
@@ -271,19 +288,28 @@ static uint32_t number(const struct source *from, const char *word, uint32_t mos
     return (uint32_t)value;
 }
 
-/* The octets of a word of hexadecimal digits; `-` for none. Answers how many. */
-static size_t octets(const struct source *from, const char *word, uint8_t *into, size_t most)
+/* The octets of a word of hexadecimal digits; `-` for none. */
+static void read_octets(const struct source *from, const char *word, struct octets *into)
 {
     size_t digits = strspn(word, "0123456789ABCDEFabcdef");
+    into->count = 0;
     if (strcmp(word, "-") == 0)
-        return 0;
-    if (word[digits] != '\0' || digits % 2 != 0 || digits / 2 > most)
+        return;
+    if (word[digits] != '\0' || digits % 2 != 0 || digits / 2 > SLICE)
         stop(from, "not two hexadecimal digits for each octet, or too many: ", word);
-    for (size_t i = 0; i < digits / 2; i++) {
-        const char pair[] = {word[2 * i], word[2 * i + 1], '\0'};
-        into[i] = (uint8_t)strtoul(pair, NULL, 16);
+    for (; into->count < digits / 2; into->count++) {
+        const char pair[] = {word[2 * into->count], word[2 * into->count + 1], '\0'};
+        into->octet[into->count] = (uint8_t)strtoul(pair, NULL, 16);
     }
-    return digits / 2;
+}
+
+static uint8_t one_octet(const struct source *from, const char *word)
+{
+    struct octets octets;
+    read_octets(from, word, &octets);
+    if (octets.count != 1)
+        stop(from, "not one octet: ", word);
+    return octets.octet[0];
 }
 
 /* The order of a window access: 0 for Intel, and for Motorola other values in turn, which all have to act alike. */
@@ -300,18 +326,14 @@ static uint32_t order(const struct source *from, const char *word)
 
 static void argument(const struct source *from, char kind, const char *word, uint32_t *value, struct arguments *a)
 {
-    uint8_t octet;
-    if (kind == 's') {
-        a->slice_len = octets(from, word, a->slice, SLICE);
-    } else if (kind == 'o') {
+    if (kind == 's' || kind == 'c')
+        read_octets(from, word, &a->slice[kind == 's' ? GET_CFG : CHANNELS]);
+    else if (kind == 'o')
         *value = order(from, word);
-    } else if (kind == 'x') {
-        if (octets(from, word, &octet, 1) != 1)
-            stop(from, "not one octet: ", word);
-        *value = octet;
-    } else {
+    else if (kind == 'x')
+        *value = one_octet(from, word);
+    else
         *value = number(from, word, kind == 'n' ? UINT32_MAX : kind == 'w' ? UINT16_MAX : LONGEST);
-    }
 }
 
 static const struct call *call_named(const struct source *from, const char *word)
@@ -358,13 +380,26 @@ static int64_t next_answer(struct source *from)
 static uint8_t kept[LONGEST];
 static size_t kept_len;
 
+static void lend_slices(const struct arguments *a)
+{
+    for (size_t i = 0; i < SLICES; i++)
+        memcpy(lend(&slices[i], a->slice[i].count), a->slice[i].octet, a->slice[i].count);
+}
+
+static bool has_changed(const struct lending *l, const struct octets *octets)
+{
+    return memcmp(l->octets + l->at, octets->octet, octets->count) != 0;
+}
+
 /* What a call did that it must not do, or NULL. was: how the memory was. */
 static const char *misdeed(const struct call *call, const struct arguments *a, int64_t answer, const uint8_t *was)
 {
-    if (!is_kept_to(&memory) || !is_kept_to(&slice))
+    if (!is_kept_to(&memory) || !is_kept_to(&slices[GET_CFG]) || !is_kept_to(&slices[CHANNELS]))
         return "changed an octet outside the memory";
-    if (memcmp(slice.octets + slice.at, a->slice, a->slice_len) != 0)
-        return "changed the slice";
+    if (has_changed(&slices[GET_CFG], &a->slice[GET_CFG]))
+        return "changed the octets for Get_Cfg";
+    if (has_changed(&slices[CHANNELS], &a->slice[CHANNELS]))
+        return "changed the channels' lengths";
     if ((answer < 0 || call->looks(a)) && memcmp(memory.octets + memory.at, was, memory.length) != 0)
         return "changed the memory, which it has to leave as it was";
     return NULL;
@@ -380,7 +415,7 @@ static int64_t answered(const struct call *call, const struct arguments *a, cons
     uint8_t *lent = lend(&memory, length);
     if (!elsewhere)
         memcpy(lent, kept, length);
-    memcpy(lend(&slice, a->slice_len), a->slice, a->slice_len);
+    lend_slices(a);
     memcpy(was, lent, length);
     int64_t answer = call->run != NULL ? call->run(lent, length, a) : call->alone(lent, length);
     *wrong = misdeed(call, a, answer, was);
@@ -394,7 +429,7 @@ static int64_t answered(const struct call *call, const struct arguments *a, cons
 /* Whether one call is answered as it has to be. */
 static bool holds(const struct source *from, char *line, int64_t expected)
 {
-    struct arguments a = {{0}, {0}, 0};
+    struct arguments a = {{0}, {{{0}, 0}}};
     char text[LINE];
     const char *wrong;
     strcpy(text, line);
@@ -420,6 +455,7 @@ static bool list_holds(const char *name, unsigned *answers)
     struct source out = opened(partner);
     kept_len = DP_MEMORY_MIN;
     memset(kept, 0, sizeof kept);
+    begin_lending();
     while (same && next_call(&from, line)) {
         same = holds(&from, line, next_answer(&out));
         *answers += same;
@@ -433,18 +469,27 @@ static bool list_holds(const char *name, unsigned *answers)
     return same;
 }
 
+/* Start without channels, by these lengths of the memory and of both slices. */
+static int64_t started_by(uint8_t *m, uint64_t memory_len, uint64_t get_cfg_len, uint64_t channels_len)
+{
+    uint8_t *get_cfg = lend(&slices[GET_CFG], 1), *channels = lend(&slices[CHANNELS], DP_CHANNEL_LENGTHS);
+    memset(channels, 0, DP_CHANNEL_LENGTHS);
+    return dp_start(m, memory_len, 5, 1, 1, 1, 7, 1, 6, get_cfg, get_cfg_len, channels, channels_len);
+}
+
 /* A length has 64 bits: with more than 32 of them in use it is too long, whatever the lower ones say. */
 static bool lengths_are_whole(void)
 {
     const uint64_t beyond = UINT64_C(1) << 32;
-    uint8_t *m = lend(&memory, DP_MEMORY_MIN), *get_cfg = lend(&slice, 1);
-    bool start = dp_start(m, beyond + DP_MEMORY_MIN, 5, 1, 1, 1, 7, 1, 6, get_cfg, 1) == -DP_REFUSED_MEMORY_LENGTH;
-    bool long_slice = dp_start(m, DP_MEMORY_MIN, 5, 1, 1, 1, 7, 1, 6, get_cfg, beyond + 1) == -DP_REFUSED_LENGTH;
-    bool started = dp_start(m, DP_MEMORY_MIN, 5, 1, 1, 1, 7, 1, 6, get_cfg, 1) == 0;
-    bool gap = dp_gap(m, beyond + DP_MEMORY_MIN) == -DP_REFUSED_DAMAGED;
-    if (!start || !long_slice || !started || !gap)
+    uint8_t *m = lend(&memory, DP_MEMORY_MIN);
+    bool whole = started_by(m, beyond + DP_MEMORY_MIN, 1, DP_CHANNEL_LENGTHS) == -DP_REFUSED_MEMORY_LENGTH;
+    whole = whole && started_by(m, DP_MEMORY_MIN, beyond + 1, DP_CHANNEL_LENGTHS) == -DP_REFUSED_LENGTH;
+    whole = whole && started_by(m, DP_MEMORY_MIN, 1, beyond + DP_CHANNEL_LENGTHS) == -DP_REFUSED_LENGTH;
+    whole = whole && started_by(m, DP_MEMORY_MIN, 1, DP_CHANNEL_LENGTHS) == 0;
+    whole = whole && dp_gap(m, beyond + DP_MEMORY_MIN) == -DP_REFUSED_DAMAGED;
+    if (!whole)
         fprintf(stderr, "a length of more than 32 bits is not taken for what it is\n");
-    return start && long_slice && started && gap;
+    return whole;
 }
 
 int main(int argc, char **argv)
@@ -456,6 +501,7 @@ int main(int argc, char **argv)
         return UNUSABLE;
     }
     struct source names = opened(argv[1]);
+    make_pattern();
     while (next_line(&names, name)) {
         if (name[0] == '\0')
             stop(&names, "an empty line, and no name", "");

@@ -17,7 +17,8 @@ typedef int64_t window_write_call(uint8_t *memory, uint64_t memory_len, uint32_t
                                   uint8_t octet);
 typedef int64_t start_call(uint8_t *memory, uint64_t memory_len, uint32_t address, uint16_t ident, uint32_t output_len,
                            uint32_t input_len, uint32_t parameter_len, uint32_t configuration_len,
-                           uint32_t diagnosis_len, uint8_t *get_cfg, uint64_t get_cfg_len);
+                           uint32_t diagnosis_len, uint8_t *get_cfg, uint64_t get_cfg_len, uint8_t *channels,
+                           uint64_t channels_len);
 read_call __real_dp_read, __wrap_dp_read;
 write_call __real_dp_write, __wrap_dp_write;
 alone_call __real_dp_gap, __wrap_dp_gap;
@@ -38,7 +39,7 @@ static int is(const char *mistake)
 
 enum { OWNER = 0, FLAGS = 3, EVENTS = 4, REPLY_CONTROL = 12, SENDING = 17, DRAWN = 18, ADDRESS = 20, PHASE = 21 };
 enum { PARAMETER_ROLES = 24, OUTPUT_SET = 29, READING = 31, DESTINATION = 34, SOURCE = 35, CONTROL = 36, POINT = 37 };
-enum { OUTPUT_LEN = 48, INPUT_LEN = 49, PARAMETER_LEN = 50, COUNTED = 54, COUNTED_MASTER = 55, BUFFERS = 128 };
+enum { OUTPUT_LEN = 48, INPUT_LEN = 49, PARAMETER_LEN = 50, COUNTED = 54, COUNTED_MASTER = 55, BUFFERS = 512 };
 enum { READING_END = 10, READING_COMPLETE = 11, SENDING_E5 = 9, WAIT_PRM = 0, WAIT_CFG = 1 };
 enum { DRAWN_E5 = 1, DRAWN_EXCHANGE = 4, DRAWN_SLAVE_DIAG = 8 };
 enum { FLAG_NOTED = 0x04, FLAG_STAT_DIAG = 0x10, FLAG_DIAG = 0x40, HELD_BACK = 0x04 };
@@ -268,6 +269,71 @@ static bool waits(const uint8_t *memory)
     return watchdog.gone % (watchdog.wrong / watchdog.right) != 0;
 }
 
+/* ---- Start ---- */
+
+/* What it is given. */
+struct start {
+    uint8_t *memory;
+    uint64_t memory_len;
+    uint32_t address;
+    uint16_t ident;
+    uint32_t output_len, input_len, parameter_len, configuration_len, diagnosis_len;
+    uint8_t *get_cfg;
+    uint64_t get_cfg_len;
+    uint8_t *channels;
+    uint64_t channels_len;
+};
+
+static int64_t started(const struct start *s)
+{
+    return __real_dp_start(s->memory, s->memory_len, s->address, s->ident, s->output_len, s->input_len,
+                           s->parameter_len, s->configuration_len, s->diagnosis_len, s->get_cfg, s->get_cfg_len,
+                           s->channels, s->channels_len);
+}
+
+/* A length of a channel as a wrong station takes it. other: the other one of the channel. */
+static uint8_t mistaken_length(uint8_t length, uint8_t other)
+{
+    if (is("channel-of-241") && length == DP_CHANNEL_MAX + 1)
+        return DP_CHANNEL_MAX;
+    if (is("channel-of-3") && length == DP_CHANNEL_MIN - 1)
+        return DP_CHANNEL_MIN;
+    if (is("channel-of-one-buffer") && length == 0 && other != 0)
+        return DP_CHANNEL_MIN;
+    return length;
+}
+
+/* Other channels than Start is given, for a wrong station to judge by. Too many of them are left as they are. */
+static void mistake_channels(struct start *s)
+{
+    static uint8_t lengths[DP_CHANNEL_LENGTHS];
+    if (s->channels_len > DP_CHANNEL_LENGTHS)
+        return;
+    memset(lengths, 0, sizeof lengths);
+    memcpy(lengths, s->channels, s->channels_len);
+    for (size_t i = 0; i < DP_CHANNEL_LENGTHS; i++)
+        lengths[i] = mistaken_length(lengths[i], lengths[i ^ 1]);
+    if (is("channels-of-31") && s->channels_len == DP_CHANNEL_LENGTHS - 1)
+        s->channels_len = DP_CHANNEL_LENGTHS;
+    s->channels = lengths;
+}
+
+/* The same where the right station refuses: what the wrong one does not look at becomes 0. */
+static void mistake_refused(struct start *s, int64_t answer)
+{
+    const bool no_room = answer == -DP_REFUSED_ROOM;
+    if (s->channels_len != DP_CHANNEL_LENGTHS)
+        return;
+    for (size_t i = 0; no_room && i < DP_CHANNEL_LENGTHS; i++) {
+        if (is("channels-take-no-room"))
+            s->channels[i] = 0;
+        if (is("channels-rounded-down") && s->channels[i] >= 8)
+            s->channels[i] &= 0xF8;
+    }
+    if (answer == -DP_REFUSED_LENGTH && is("last-channel-not-looked-at"))
+        memset(s->channels + DP_CHANNEL_LENGTHS - 2, 0, 2);
+}
+
 /* ---- The calls ---- */
 
 int64_t __wrap_dp_read(uint8_t *memory, uint64_t memory_len, uint32_t kind, uint32_t index)
@@ -359,11 +425,20 @@ int64_t __wrap_dp_pending(uint8_t *memory, uint64_t memory_len)
 
 int64_t __wrap_dp_start(uint8_t *memory, uint64_t memory_len, uint32_t address, uint16_t ident, uint32_t output_len,
                         uint32_t input_len, uint32_t parameter_len, uint32_t configuration_len, uint32_t diagnosis_len,
-                        uint8_t *get_cfg, uint64_t get_cfg_len)
+                        uint8_t *get_cfg, uint64_t get_cfg_len, uint8_t *channels, uint64_t channels_len)
 {
-    mistake_lengths(&output_len, &input_len);
-    int64_t answer = __real_dp_start(memory, memory_len, address, ident, output_len, input_len, parameter_len,
-                                     configuration_len, diagnosis_len, get_cfg, get_cfg_len);
+    struct start s = {memory,        memory_len,        address,       ident,   output_len,  input_len,
+                      parameter_len, configuration_len, diagnosis_len, get_cfg, get_cfg_len, channels,
+                      channels_len};
+    if (is("memory-of-4096") && memory_len > 4096)
+        return -DP_REFUSED_MEMORY_LENGTH;
+    mistake_lengths(&s.output_len, &s.input_len);
+    mistake_channels(&s);
+    int64_t answer = started(&s);
+    if (answer < 0) {
+        mistake_refused(&s, answer);
+        answer = started(&s);
+    }
     if (answer == 0) {
         ended_by_another = no_chain;
         memset(&watchdog, 0, sizeof watchdog);
@@ -373,6 +448,10 @@ int64_t __wrap_dp_start(uint8_t *memory, uint64_t memory_len, uint32_t address, 
         get_cfg[0] ^= 1;
     if (is("behind-slice") && get_cfg_len <= DP_LENGTH_MAX)
         get_cfg[get_cfg_len] ^= 1;
+    if (is("channels-change") && channels_len > 0)
+        channels[0] ^= 1;
+    if (is("behind-channels") && channels_len <= DP_CHANNEL_LENGTHS)
+        channels[channels_len] ^= 1;
     return answer;
 }
 

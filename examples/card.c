@@ -12,6 +12,7 @@ static const uint8_t configuration[] = {CARD_MODULES};
 /* ---- Calls are kept apart ---- */
 
 uint8_t memory[DP_MEMORY_MIN];
+const uint8_t no_channels[DP_CHANNEL_LENGTHS] = {0};
 
 /* How many critical sections are open, one inside the other. */
 static unsigned masked;
@@ -52,7 +53,7 @@ int64_t finished(const char *call, int64_t answer, int64_t foreseen)
 void card_power_up(void)
 {
     CALL(dp_start(MEMORY, CARD_ADDRESS, CARD_IDENT, CARD_OUTPUTS, CARD_INPUTS, CARD_PARAMETERS, CARD_CONFIGURATION,
-                  CARD_DIAGNOSIS, configuration, sizeof configuration));
+                  CARD_DIAGNOSIS, configuration, sizeof configuration, NO_CHANNELS));
 }
 
 void card_power_up_older(void)

@@ -17,6 +17,10 @@
 extern uint8_t memory[DP_MEMORY_MIN];
 #define MEMORY memory, sizeof memory
 
+/* None of the cards sets a channel up: both lengths of each are 0. */
+extern const uint8_t no_channels[DP_CHANNEL_LENGTHS];
+#define NO_CHANNELS no_channels, sizeof no_channels
+
 /* A critical section, in which no interrupt calls the station; one may lie inside another. */
 void lock(void);
 void unlock(void);

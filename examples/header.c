@@ -1,7 +1,7 @@
 /*
  * The header in C99 and in C++17: every call has its type and is in the library, so that this links, the constants are
- * the numbers that the station answers, of several events the smallest is told, and a watchdog has as many ticks as the
- * header says.
+ * the numbers that the station answers, a memory has to be as long as the header says, of several events the smallest
+ * is told, and a watchdog has as many ticks as the header says.
  */
 #include "dp.h"
 #include "dp.h" /* a second time: the guard holds */
@@ -14,7 +14,7 @@ typedef int64_t (*on_octet)(uint8_t *, uint64_t, uint8_t, uint8_t);
 typedef int64_t (*on_mask)(uint8_t *, uint64_t, uint16_t);
 typedef int64_t (*on_write)(uint8_t *, uint64_t, uint32_t, uint32_t, uint8_t);
 typedef int64_t (*on_start)(uint8_t *, uint64_t, uint32_t, uint16_t, uint32_t, uint32_t, uint32_t, uint32_t, uint32_t,
-                            const uint8_t *, uint64_t);
+                            const uint8_t *, uint64_t, const uint8_t *, uint64_t);
 
 static const on_start start = dp_start;
 static const on_octet octet = dp_octet;
@@ -28,10 +28,19 @@ static const on_memory memory_alone[] = {dp_gap,    dp_send,    dp_tick,        
 #define COUNT(list) (sizeof(list) / sizeof(list)[0])
 
 /* The greatest length that all six can have in the shortest memory. */
-enum { SHORT = 88 };
+enum { SHORT = 64 };
 
-static uint8_t memory[DP_MEMORY_MAX];
+/* The shortest memory for six lengths of which all are the same. channels: what the channels' buffers take. */
+#define MEMORY_FOR(len, channels) DP_MEMORY_FOR(len, len, len, len, len, len, channels)
+
+/* What the buffers of all channels take, with the greatest lengths. */
+enum { ALL_CHANNELS = DP_CHANNELS * 2 * DP_ROOM(DP_CHANNEL_MAX) };
+
+static uint8_t memory[DP_MEMORY_MAX + DP_MEMORY_STEP];
 static const uint8_t get_cfg[DP_LENGTH_MAX] = {0x10};
+
+/* One octet more than there are lengths: so there can be one too many. */
+static uint8_t channels[DP_CHANNEL_LENGTHS + 1];
 
 static void expect(const char *what, int64_t answer, int64_t expected)
 {
@@ -44,7 +53,8 @@ static void expect(const char *what, int64_t answer, int64_t expected)
 /* len: that of parameters, configuration, diagnosis and Get_Cfg. */
 static int64_t started_with(size_t memory_len, uint32_t address, uint32_t outputs, uint32_t inputs, uint32_t len)
 {
-    return start(memory, memory_len, address, 0x80B3, outputs, inputs, len, len, len, get_cfg, len);
+    return start(memory, memory_len, address, 0x80B3, outputs, inputs, len, len, len, get_cfg, len, channels,
+                 DP_CHANNEL_LENGTHS);
 }
 
 static int64_t started(size_t memory_len, uint32_t address, uint32_t len)
@@ -57,15 +67,15 @@ static int64_t started(size_t memory_len, uint32_t address, uint32_t len)
 static void expect_damaged(void)
 {
     for (size_t i = 0; i < COUNT(memory_alone); i++)
-        expect("a call without a station", memory_alone[i](memory, sizeof memory), -DP_REFUSED_DAMAGED);
+        expect("a call without a station", memory_alone[i](memory, DP_MEMORY_MAX), -DP_REFUSED_DAMAGED);
     for (size_t i = 0; i < COUNT(two_numbers); i++)
-        expect("two numbers without a station", two_numbers[i](memory, sizeof memory, 1, 99), -DP_REFUSED_DAMAGED);
+        expect("two numbers without a station", two_numbers[i](memory, DP_MEMORY_MAX, 1, 99), -DP_REFUSED_DAMAGED);
     for (size_t i = 0; i < COUNT(judgements); i++)
-        expect("judging without a station", judgements[i](memory, sizeof memory, DP_GOOD), -DP_REFUSED_DAMAGED);
+        expect("judging without a station", judgements[i](memory, DP_MEMORY_MAX, DP_GOOD), -DP_REFUSED_DAMAGED);
     for (size_t i = 0; i < COUNT(writes); i++)
-        expect("a write without a station", writes[i](memory, sizeof memory, 4, 99, 0), -DP_REFUSED_DAMAGED);
-    expect("dp_octet without a station", octet(memory, sizeof memory, 0, 0), -DP_REFUSED_DAMAGED);
-    expect("dp_acknowledge without a station", acknowledge(memory, sizeof memory, 0), -DP_REFUSED_DAMAGED);
+        expect("a write without a station", writes[i](memory, DP_MEMORY_MAX, 4, 99, 0), -DP_REFUSED_DAMAGED);
+    expect("dp_octet without a station", octet(memory, DP_MEMORY_MAX, 0, 0), -DP_REFUSED_DAMAGED);
+    expect("dp_acknowledge without a station", acknowledge(memory, DP_MEMORY_MAX, 0), -DP_REFUSED_DAMAGED);
 }
 
 static void expect_start(void)
@@ -75,9 +85,64 @@ static void expect_start(void)
     expect("dp_start, address", started(DP_MEMORY_MIN, DP_ADDRESS_MAX + 1, SHORT), -DP_REFUSED_ADDRESS);
     expect("dp_start, length", started(DP_MEMORY_MAX, 5, DP_LENGTH_MAX + 1), -DP_REFUSED_LENGTH);
     expect("dp_start, room", started(DP_MEMORY_MIN, 5, SHORT + 1), -DP_REFUSED_ROOM);
-    expect("dp_start, room", started(DP_MEMORY_MAX - DP_MEMORY_STEP, 5, DP_LENGTH_MAX), -DP_REFUSED_ROOM);
-    expect("dp_start, all lengths 244", started(DP_MEMORY_MAX, DP_ADDRESS_MAX, DP_LENGTH_MAX), 0);
-    expect("dp_start, all lengths 88", started(DP_MEMORY_MIN, 5, SHORT), 0);
+    expect("dp_start, memory too long", started(DP_MEMORY_MAX + DP_MEMORY_STEP, 5, SHORT), -DP_REFUSED_MEMORY_LENGTH);
+    expect("dp_start, the longest memory", started(DP_MEMORY_MAX, DP_ADDRESS_MAX, DP_LENGTH_MAX), 0);
+    expect("dp_start, all lengths 64", started(DP_MEMORY_MIN, 5, SHORT), 0);
+}
+
+/* The length that the header says is enough, and nothing below it; expected: that length. */
+static void expect_shortest(uint32_t len, uint32_t channels_room, uint32_t expected)
+{
+    uint32_t shortest = MEMORY_FOR(len, channels_room);
+    expect("DP_MEMORY_FOR", shortest, expected);
+    expect("dp_start, the shortest memory", started(shortest, 5, len), 0);
+    if (shortest > DP_MEMORY_MIN)
+        expect("dp_start, one below", started(shortest - DP_MEMORY_STEP, 5, len), -DP_REFUSED_ROOM);
+}
+
+/* Lengths of the channels from the first on, as long as there are any; all others are 0. */
+static void set_channels(uint32_t count, uint8_t indication, uint8_t response)
+{
+    memset(channels, 0, sizeof channels);
+    for (uint32_t n = 0; n < count; n++) {
+        channels[2 * n] = indication;
+        channels[2 * n + 1] = response;
+    }
+}
+
+/* Sixteen channels with lengths that are allowed or are not. */
+static void expect_lengths(uint8_t indication, uint8_t response, int64_t expected)
+{
+    set_channels(DP_CHANNELS, indication, response);
+    expect("dp_start, the channels' lengths", started(DP_MEMORY_MAX, 5, DP_LENGTH_MAX), expected);
+}
+
+static void expect_memories(void)
+{
+    expect_shortest(SHORT / 2, 0, DP_MEMORY_MIN);
+    expect_shortest(SHORT, 0, DP_MEMORY_MIN);
+    expect_shortest(96, 0, 2048);
+    expect_shortest(97, 0, 2176);
+    expect_shortest(DP_LENGTH_MAX, 0, 4480);
+    set_channels(1, DP_CHANNEL_MIN, DP_CHANNEL_MIN + 5);
+    expect_shortest(SHORT, DP_ROOM(DP_CHANNEL_MIN) + DP_ROOM(DP_CHANNEL_MIN + 5), DP_MEMORY_MIN + 24);
+    set_channels(DP_CHANNELS, DP_CHANNEL_MAX, DP_CHANNEL_MAX);
+    expect_shortest(DP_LENGTH_MAX, ALL_CHANNELS, 12160);
+}
+
+static void expect_channels(void)
+{
+    expect_memories();
+    expect_lengths(DP_CHANNEL_MIN, DP_CHANNEL_MAX, 0);
+    expect_lengths(DP_CHANNEL_MIN - 1, DP_CHANNEL_MIN, -DP_REFUSED_LENGTH);
+    expect_lengths(DP_CHANNEL_MAX, DP_CHANNEL_MAX + 1, -DP_REFUSED_LENGTH);
+    expect_lengths(DP_CHANNEL_MIN, 0, -DP_REFUSED_LENGTH);
+    expect_lengths(0, DP_CHANNEL_MIN, -DP_REFUSED_LENGTH);
+    set_channels(0, 0, 0);
+    for (uint64_t len = DP_CHANNEL_LENGTHS - 1; len <= DP_CHANNEL_LENGTHS + 1; len++)
+        expect("dp_start, how many lengths",
+               start(memory, DP_MEMORY_MIN, 5, 0x80B3, 1, 1, 7, 1, 6, get_cfg, 1, channels, len),
+               len == DP_CHANNEL_LENGTHS ? 0 : -DP_REFUSED_LENGTH);
 }
 
 /* kind: that of the length 0. It has no octet, and the calls that could move one answer as ever. */
@@ -273,6 +338,7 @@ int main(void)
 {
     expect_damaged();
     expect_lengths_0();
+    expect_channels();
     expect_start();
     expect_fresh();
     expect_smallest();

@@ -16,7 +16,7 @@ static uint8_t reported;
 void panel_power_up(void)
 {
     CALL(dp_start(MEMORY, PANEL_ADDRESS, PANEL_IDENT, PANEL_OUTPUTS, 0, PANEL_PARAMETERS, CARD_CONFIGURATION,
-                  CARD_DIAGNOSIS, modules, sizeof modules));
+                  CARD_DIAGNOSIS, modules, sizeof modules, NO_CHANNELS));
 }
 
 /* What cannot be said now is said in the next round. */

@@ -12,13 +12,14 @@ static inline const char *refusal_in_words(int64_t answer)
 {
     switch (-answer) {
     case DP_REFUSED_MEMORY_LENGTH:
-        return "the memory is not 1,536 to 4,096 octets long or its length is no multiple of 8";
+        return "the memory is not 1,536 to 16,384 octets long or its length is no multiple of 8";
     case DP_REFUSED_ADDRESS:
         return "the station address is above 126";
     case DP_REFUSED_LENGTH:
-        return "a length or the Get_Cfg slice is outside its range, or outputs and inputs are both 0";
+        return "a length, the Get_Cfg slice or a channel's length is outside its range, the channels are not 32 "
+               "octets, or outputs and inputs are both 0";
     case DP_REFUSED_ROOM:
-        return "the buffers would end beyond the memory";
+        return "the buffers, those of the channels among them, would end beyond the memory";
     case DP_REFUSED_DAMAGED:
         return "the memory is damaged or was never started";
     case DP_REFUSED_JUDGING:

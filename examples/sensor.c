@@ -28,7 +28,7 @@ static void measure(void)
 void sensor_power_up(void)
 {
     CALL(dp_start(MEMORY, SENSOR_ADDRESS, SENSOR_IDENT, 0, SENSOR_INPUTS, SENSOR_PARAMETERS, CARD_CONFIGURATION,
-                  CARD_DIAGNOSIS, modules, sizeof modules));
+                  CARD_DIAGNOSIS, modules, sizeof modules, NO_CHANNELS));
     measure();
 }
 

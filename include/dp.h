@@ -5,7 +5,8 @@
  * Memory. Every call gets the one memory that the station lives in, as pointer and length: DP_MEMORY_MIN to
  * DP_MEMORY_MAX octets, a multiple of DP_MEMORY_STEP, of any alignment. The station keeps nothing anywhere else: no
  * heap, no static data that changes. Two memories are two stations. Pointers must be valid for their length and not
- * null; the slice for Get_Cfg must not lie in the memory. Nobody but these calls may write to the memory.
+ * null; what dp_start is given for Get_Cfg and for the channels must not lie in the memory. Nobody but these calls may
+ * write to the memory. DP_MEMORY_FOR says how long it has to be.
  *
  * Lengths. They have 64 bits on every processor, since that is how wide the library takes them. Where size_t has 32, a
  * prototype with size_t would link without a word and every call would get a wrong length; so no length here is a
@@ -46,6 +47,12 @@
  * comes without data, and one with data is a Cfg_Fault. It publishes an empty list, which is new outputs like any:
  * event 13 and dp_take_outputs tell the vat program that the master has polled, and sync holds it back.
  *
+ * Channels. A station can have up to 16 acyclic channels, numbered from 0 on, each with a buffer for an indication and
+ * one for the response; dp_start is told the lengths of both, 0 and 0 for a channel that is not set up. In this version
+ * a channel is set up but carries nothing yet: all that it does is take its room in the memory. A request to one of the
+ * service points 0 to 15 draws RS, whether the channel is set up or not, and there is no call for a channel. A station
+ * that has no use for them is started with 32 octets 0.
+ *
  * The window. A vat program that was written for the chip (SPC3) reads and writes registers by their addresses.
  * dp_window_read and dp_window_write give it those from 000H to 015H, in the order of an Intel or of a Motorola
  * processor. Behind a cell that does something stands one of the other calls (enum dp_cell), and a program may use
@@ -79,24 +86,47 @@ extern "C" {
 
 /* Limits. */
 enum {
-    DP_MEMORY_MIN = 1536,  /* least length of the memory, enough where all six lengths are at most 88 */
-    DP_MEMORY_MAX = 4096,  /* greatest length of the memory, enough for all six lengths up to 244 */
+    DP_MEMORY_MIN = 1536,  /* least length of the memory, enough for six lengths of at most 64 and no channel */
+    DP_MEMORY_MAX = 16384, /* greatest length of the memory, enough for all lengths and channels: they end at 12,160 */
     DP_MEMORY_STEP = 8,    /* its length is a multiple of this */
+    DP_STATE_PART = 512,   /* how many octets of it the station needs beside its buffers */
     DP_ADDRESS_MAX = 126,  /* station addresses are 0 to this */
     DP_LENGTH_MAX = 244,   /* greatest length of outputs, inputs, parameters, configuration, diagnosis, Get_Cfg */
     DP_PARAMETERS_MIN = 7, /* least length of parameters; of configuration, Get_Cfg it is 1, of outputs and inputs 0 */
     DP_DIAGNOSIS_MIN = 6,  /* least length and count of diagnosis; its first index to read and write */
+    DP_CHANNELS = 16,      /* how many channels there are */
+    DP_CHANNEL_MIN = 4,    /* least length of a channel's indication and response, where it is set up */
+    DP_CHANNEL_MAX = 240,  /* greatest length of them */
     DP_NO_OCTET = 256,     /* dp_send: no octet is left */
     DP_NO_EVENT = 16       /* dp_pending: no event is set */
 };
+
+/* How many octets dp_start is given for the channels: of each, from channel 0 on, the indication's length and then the
+   response's. */
+#define DP_CHANNEL_LENGTHS (2 * DP_CHANNELS)
+
+/* How much of the memory a buffer of a length takes: as many octets, rounded up to a multiple of 8. */
+#define DP_ROOM(length) (((length) + 7) / 8 * 8)
+
+/* The same of both buffers of a channel. */
+#define DP_CHANNEL_ROOM(indication, response) (DP_ROOM(indication) + DP_ROOM(response))
+
+/* The shortest memory for the six lengths that dp_start takes, in its order. channels: what the channels' buffers take,
+   so DP_CHANNEL_ROOM of each that is set up, all of it added up, or 0. With constants it is one, and can stand
+   in the declaration of the memory: uint8_t memory[DP_MEMORY_FOR(2, 2, 9, 8, 8, 2, 0)]. */
+#define DP_MEMORY_FOR(outputs, inputs, parameters, configuration, diagnosis, get_cfg, channels) \
+    DP_MEMORY_AT_LEAST(DP_STATE_PART + 4 * DP_ROOM(outputs) + 3 * DP_ROOM(inputs) + 3 * DP_ROOM(parameters) + \
+                       3 * DP_ROOM(configuration) + 2 * DP_ROOM(diagnosis) + DP_ROOM(get_cfg) + (channels))
+#define DP_MEMORY_AT_LEAST(length) ((length) < DP_MEMORY_MIN ? (int)DP_MEMORY_MIN : (length))
 
 /* Refusals, by who causes them. A call that is refused answers the number negated: -DP_REFUSED_DAMAGED is -5. */
 enum dp_refusal {
     /* the starter */
     DP_REFUSED_MEMORY_LENGTH = 1, /* the memory is too short or too long, or its length is no multiple of 8 */
     DP_REFUSED_ADDRESS = 2,       /* the address is above 126 */
-    DP_REFUSED_LENGTH = 3,        /* one of the six lengths is outside its range, or outputs and inputs are both 0 */
-    DP_REFUSED_ROOM = 4,          /* the buffers would end beyond the memory */
+    DP_REFUSED_LENGTH = 3,        /* one of the six lengths, a channel's or how many of these there are is outside its
+                                     range, outputs and inputs are both 0, or one length of a channel is 0 alone */
+    DP_REFUSED_ROOM = 4,          /* the buffers, those of the channels among them, would end beyond the memory */
     /* whoever damaged the memory */
     DP_REFUSED_DAMAGED = 5, /* the memory holds no station: never started, overwritten, or its length is wrong */
     /* the vat program */
@@ -172,15 +202,19 @@ enum dp_cell {
  * Data_Exchange brings output_len octets and is answered with input_len (0 to 244 each, not both 0). A parameter set
  * has at most parameter_len octets (7 to 244; with 7 there is no octet 7, and the watchdog's base is always 10 ms), a
  * configuration set configuration_len (1 to 244), a diagnosis diagnosis_len (6 to 244). get_cfg are the get_cfg_len
- * octets (1 to 244) that Get_Cfg sends; they are copied. The station needs 128 octets of the memory and, with each
- * length rounded up to a multiple of 8 (0 stays 0), four times the outputs, three times the inputs, parameters and
- * configuration, twice the diagnosis and once Get_Cfg's octets. So DP_MEMORY_MIN is room enough where all six lengths
- * are at most 88, and DP_MEMORY_MAX always is.
+ * octets (1 to 244) that Get_Cfg sends; they are copied. channels are DP_CHANNEL_LENGTHS octets, neither more nor
+ * fewer: for channel 0 to 15 the length of its indication, then that of its response, both 4 to 240, or both 0 where it
+ * is not set up. In this version nothing comes to a channel that is set up, and nothing goes out from it.
+ * The station needs 512 octets of the memory and, with each length rounded up to a multiple of 8 (0 stays 0), four
+ * times the outputs, three times the inputs, parameters and configuration, twice the diagnosis and once Get_Cfg's
+ * octets, and behind these once each length of each channel; DP_MEMORY_FOR adds them up. So DP_MEMORY_MIN is room
+ * enough where all six lengths are at most 64 and no channel is set up. All six 244 take 4,480 octets, and sixteen
+ * channels of 240 and 240 take 7,680 more, so that DP_MEMORY_MAX always is room enough.
  * Answers 0. Refused by 1, 2, 3, 4.
  */
 int64_t dp_start(uint8_t *memory, uint64_t memory_len, uint32_t address, uint16_t ident, uint32_t output_len,
                  uint32_t input_len, uint32_t parameter_len, uint32_t configuration_len, uint32_t diagnosis_len,
-                 const uint8_t *get_cfg, uint64_t get_cfg_len);
+                 const uint8_t *get_cfg, uint64_t get_cfg_len, const uint8_t *channels, uint64_t channels_len);
 
 /*
  * An octet came from the line. bad: 0 if it was well received, anything else if the receiver flags it (parity,
