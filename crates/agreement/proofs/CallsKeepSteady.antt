@@ -7,11 +7,11 @@ use mathlib.Core.List.{List, [], ◌∷◌, ◌++◌}
 use mathlib.Core.Logic.{inl, inr}
 use lib.Dec.{eqb, leb}
 use borrow.Author.Tests.{eqb-false, not-true, not-false}
-use Rattle.buffers.specs.Events.{watchdogEvent}
+use Rattle.buffers.specs.Events.{watchdog_event}
 use Rattle.telegram.specs.declared.reader.Status.{Status}
 use Rattle.telegram.specs.declared.reader.Status.TheVariants.{Fresh, Inside, Complete, Broken}
-use Rattle.telegram.specs.Telegram.{Telegram, payloadOf}
-use Rattle.telegram.specs.Reading.{run, readerAfter, status}
+use Rattle.telegram.specs.Telegram.{Telegram, payload_of}
+use Rattle.telegram.specs.Reading.{run, reader_after, status}
 use Rattle.telegram.proofs.Run.{no_true}
 use Rattle.state.specs.declared.setup.Setup.{Setup}
 use Rattle.state.specs.declared.control.Control.{Control}
@@ -19,26 +19,26 @@ use Rattle.state.specs.declared.state.Drawn.TheVariants.{Nothing}
 use Rattle.state.specs.declared.answer.Refusal.TheVariants.{Range, Delayed}
 use Rattle.rules.specs.declared.outcome.Outcome.{Outcome}
 use Rattle.state.specs.Well.{within}
-use Rattle.rules.specs.Control.{withNoted, raise}
-use Rattle.rules.specs.Phases.{drawing, waitPrm, enteringWaitPrm, dataExch}
-use Rattle.rules.specs.Diagnosis.{delayed, diagnosed, delaying, caughtUp}
-use Rattle.rules.specs.Line.{clearing, clearOn, clearNoted, counts, withRemaining, ticked}
-use Rattle.rules.specs.User.{judgedParameters, judgedConfiguration}
-use Rattle.ledger.proofs.Some.{nothing-in, something-in}
-use Rattle.ledger.specs.Lists.{some, Buffers, takenOutputs, handedOver, withOutputs, withInputs}
-use Rattle.ledger.specs.Ledger.{Line, Ledger, withControl, withBuffers, withLine, begun, busy, diagnosisLeaves, parametersOpen, configurationOpen, fresh}
-use Rattle.ledger.specs.Outcome.{carried, diagnosisChanged, afterReply, settle}
-use Rattle.ledger.specs.Bus.{telegramOn, answered, completed, brokenOff, lengthened, beginning, sendLeft, silenced, heardAs, heard, paused, afterSend, elapsed}
-use Rattle.ledger.specs.User.{Told, told, refusing, writtenOctet, handOver, newDiagnosis, acknowledgeEvents, leaveMaster}
-use Rattle.rules.specs.Call.{Call, octet, gap, send, tick, take, read, write, hand-over, new-diagnosis, judge-parameters, judge-configuration, events, acknowledge, pending, leave}
-use Rattle.state.proofs.Tests.{none_or_some, within-and}
+use Rattle.rules.specs.Control.{with_noted, raise}
+use Rattle.rules.specs.Phases.{drawing, wait_prm, entering_wait_prm, data_exch}
+use Rattle.rules.specs.Diagnosis.{delayed, diagnosed, delaying, caught_up}
+use Rattle.rules.specs.Line.{clearing, clear_on, clear_noted, counts, with_remaining, ticked}
+use Rattle.rules.specs.User.{judged_parameters, judged_configuration}
+use Rattle.ledger.proofs.Some.{nothing_in, something_in}
+use Rattle.ledger.specs.Lists.{some, Buffers, taken_outputs, handed_over, with_outputs, with_inputs}
+use Rattle.ledger.specs.Ledger.{Line, Ledger, with_control, with_buffers, with_line, begun, busy, diagnosis_leaves, parameters_open, configuration_open, fresh}
+use Rattle.ledger.specs.Outcome.{carried, diagnosis_changed, after_reply, settle}
+use Rattle.ledger.specs.Bus.{telegram_on, answered, completed, broken_off, lengthened, beginning, send_left, silenced, heard_as, heard, paused, after_send, elapsed}
+use Rattle.ledger.specs.User.{Told, told, refusing, written_octet, hand_over, new_diagnosis, acknowledge_events, leave_master}
+use Rattle.rules.specs.Call.{Call, octet, gap, send, tick, take, read, write, hand_over_lem, new_diagnosis_lem, judge_parameters_lem, judge_configuration_lem, events, acknowledge, pending, leave}
+use Rattle.state.proofs.Tests.{none_or_some, within_and}
 use Rattle.ledger.specs.Calls.{step, after}
 use Rattle.agreement.proofs.Steady.{CountIn, InOrder, Steady}
-use Rattle.state.proofs.Choice.{by-test, and_left, and_right}
+use Rattle.state.proofs.Choice.{by_test, and_left, and_right}
 use Rattle.rules.proofs.Alike.{Alike, alike}
-use Rattle.ledger.proofs.ByCases.{take_cases, read-cases, write-cases, parameters-cases, configuration-cases}
-use Rattle.ledger.proofs.Fit.{outcome-served}
-use Rattle.agreement.proofs.OutcomesKeepOrder.{Orders, none-fit, kept, entered, served-order}
+use Rattle.ledger.proofs.ByCases.{take_cases, read_cases, write_cases, parameters_cases, configuration_cases}
+use Rattle.ledger.proofs.Fit.{outcome_served}
+use Rattle.agreement.proofs.OutcomesKeepOrder.{Orders, none_fit, kept, entered, served_order}
 
 -- the part of it that has nothing to do with the line
 abbrev Order : Ledger → Type 0
@@ -51,8 +51,8 @@ pub record OutcomeKeeps (l : Ledger) (o : Outcome) : Type 0 where
   pub noted : o.control.noted ≡ true → busy l ≡ true
   pub diagnosis : o.control.diagnosis ≡ l.control.diagnosis
 
-carried-steady : {l : Ledger} → Steady l → (o : Outcome) → OutcomeKeeps l o → Steady (carried l o [])
-carried-steady {l} s o h =
+carried_steady : {l : Ledger} → Steady l → (o : Outcome) → OutcomeKeeps l o → Steady (carried l o [])
+carried_steady {l} s o h =
     record {
       order = h.order;
       quiet = s.quiet;
@@ -66,112 +66,112 @@ module _ {l : Ledger} (s : Steady l) where
   same e = kept e s.order
 
   -- WAIT_PRM entered
-  enters-keeps : (d : Control) → d.diagnosis ≡ l.control.diagnosis → (d.noted ≡ true → busy l ≡ true) → OutcomeKeeps l (enteringWaitPrm d Nothing)
-  unfolding waitPrm
-  enters-keeps d e f = record { order = entered d e s.order; noted = f; diagnosis = e }
+  enters_keeps : (d : Control) → d.diagnosis ≡ l.control.diagnosis → (d.noted ≡ true → busy l ≡ true) → OutcomeKeeps l (entering_wait_prm d Nothing)
+  unfolding wait_prm
+  enters_keeps d e f = record { order = entered d e s.order; noted = f; diagnosis = e }
 
-  clear-keeps : (c : Control) → Alike l.control c → OutcomeKeeps l (clearOn (busy l) c)
-  clear-keeps c e =
-      by-test (OutcomeKeeps l) (busy l) _ (clearing c)
-      (λ f. record { order = same (alike e.phase-same e.good-same e.diagnosis-same e.chain_same); noted = λ _. f; diagnosis = e.diagnosis-same })
-      (λ _. enters-keeps _ e.diagnosis-same (λ f. no_true f))
+  clear_keeps : (c : Control) → Alike l.control c → OutcomeKeeps l (clear_on (busy l) c)
+  clear_keeps c e =
+      by_test (OutcomeKeeps l) (busy l) _ (clearing c)
+      (λ f. record { order = same (alike e.phase_same e.good_same e.diagnosis_same e.chain_same); noted = λ _. f; diagnosis = e.diagnosis_same })
+      (λ _. enters_keeps _ e.diagnosis_same (λ f. no_true f))
 
-  ticked-keeps : OutcomeKeeps l (ticked (busy l) l.control)
+  ticked_keeps : OutcomeKeeps l (ticked (busy l) l.control)
   unfolding ticked
-  ticked-keeps =
-      by-test (OutcomeKeeps l) (not (counts l.control)) _ _
+  ticked_keeps =
+      by_test (OutcomeKeeps l) (not (counts l.control)) _ _
       (λ _. record { order = s.order; noted = s.noted; diagnosis = refl })
-      (λ _. by-test (OutcomeKeeps l) (leb l.control.watchdog.remaining 1) _ _
-      (λ _. clear-keeps (raise (withRemaining l.control 0) watchdogEvent) (alike refl refl refl refl))
+      (λ _. by_test (OutcomeKeeps l) (leb l.control.watchdog.remaining 1) _ _
+      (λ _. clear_keeps (raise (with_remaining l.control 0) watchdog_event) (alike refl refl refl refl))
       (λ _. record { order = same (alike refl refl refl refl); noted = s.noted; diagnosis = refl }))
 
-  parameters-keeps : (waits good : Bool) → parametersOpen l ≡ true → OutcomeKeeps l (judgedParameters l.control waits good)
-  unfolding judgedParameters
-  parameters-keeps waits good e =
-      by-test (OutcomeKeeps l) waits _ _
+  parameters_keeps : (waits good : Bool) → parameters_open l ≡ true → OutcomeKeeps l (judged_parameters l.control waits good)
+  unfolding judged_parameters
+  parameters_keeps waits good e =
+      by_test (OutcomeKeeps l) waits _ _
       (λ _. record {
         order = record {
-          parameters-closed = λ f. absurd (something-in e (s.order.parameters-closed f));
-          configuration-closed = s.order.configuration-closed;
+          parameters_closed = λ f. absurd (something_in e (s.order.parameters_closed f));
+          configuration_closed = s.order.configuration_closed;
           unjudged = λ _. s.order.unjudged e;
-          parameters-fit = record { shown = s.order.parameters-fit.waiting; waiting = omega arith };
-          configuration-fit = s.order.configuration-fit;
+          parameters_fit = record { shown = s.order.parameters_fit.waiting; waiting = omega arith };
+          configuration_fit = s.order.configuration_fit;
           count = s.order.count;
-          delayed-count = s.order.delayed-count;
+          delayed_count = s.order.delayed_count;
         };
         noted = s.noted;
         diagnosis = refl;
       })
-      (λ _. by-test (OutcomeKeeps l) good _ _
+      (λ _. by_test (OutcomeKeeps l) good _ _
       (λ _. record {
         order = record {
-          parameters-closed = λ _. refl;
-          configuration-closed = s.order.configuration-closed;
+          parameters_closed = λ _. refl;
+          configuration_closed = s.order.configuration_closed;
           unjudged = λ f. no_true f;
-          parameters-fit = none-fit l.setup.parameter_len;
-          configuration-fit = s.order.configuration-fit;
+          parameters_fit = none_fit l.setup.parameter_len;
+          configuration_fit = s.order.configuration_fit;
           count = s.order.count;
-          delayed-count = s.order.delayed-count;
+          delayed_count = s.order.delayed_count;
         };
         noted = s.noted;
         diagnosis = refl;
       })
-      (λ _. enters-keeps _ refl s.noted))
+      (λ _. enters_keeps _ refl s.noted))
 
-  configuration-keeps : (waits good : Bool) → configurationOpen l && l.control.flags.parameters_good ≡ true
-      → OutcomeKeeps l (judgedConfiguration l.control waits good)
-  unfolding judgedConfiguration dataExch
-  configuration-keeps waits good e =
-      let opened = and_left (configurationOpen l) l.control.flags.parameters_good e in
-      by-test (OutcomeKeeps l) waits _ _
+  configuration_keeps : (waits good : Bool) → configuration_open l && l.control.flags.parameters_good ≡ true
+      → OutcomeKeeps l (judged_configuration l.control waits good)
+  unfolding judged_configuration data_exch
+  configuration_keeps waits good e =
+      let opened = and_left (configuration_open l) l.control.flags.parameters_good e in
+      by_test (OutcomeKeeps l) waits _ _
       (λ _. record {
         order = record {
-          parameters-closed = s.order.parameters-closed;
-          configuration-closed = λ f. absurd (something-in opened (s.order.configuration-closed f));
+          parameters_closed = s.order.parameters_closed;
+          configuration_closed = λ f. absurd (something_in opened (s.order.configuration_closed f));
           unjudged = s.order.unjudged;
-          parameters-fit = s.order.parameters-fit;
-          configuration-fit = record { shown = s.order.configuration-fit.waiting; waiting = omega arith };
+          parameters_fit = s.order.parameters_fit;
+          configuration_fit = record { shown = s.order.configuration_fit.waiting; waiting = omega arith };
           count = s.order.count;
-          delayed-count = s.order.delayed-count;
+          delayed_count = s.order.delayed_count;
         };
         noted = s.noted;
         diagnosis = refl;
       })
-      (λ _. by-test (OutcomeKeeps l) good _ _
+      (λ _. by_test (OutcomeKeeps l) good _ _
       (λ _. record {
         order = record {
-          parameters-closed = λ _. closed (parametersOpen l) refl;
-          configuration-closed = λ _. refl;
+          parameters_closed = λ _. closed (parameters_open l) refl;
+          configuration_closed = λ _. refl;
           unjudged = s.order.unjudged;
-          parameters-fit = s.order.parameters-fit;
-          configuration-fit = none-fit l.setup.configuration_len;
+          parameters_fit = s.order.parameters_fit;
+          configuration_fit = none_fit l.setup.configuration_len;
           count = s.order.count;
-          delayed-count = s.order.delayed-count;
+          delayed_count = s.order.delayed_count;
         };
         noted = s.noted;
         diagnosis = refl;
       })
-      (λ _. enters-keeps _ refl s.noted))
+      (λ _. enters_keeps _ refl s.noted))
     where
       -- good parameters are judged, so that none is open
-      closed : (t : Bool) → parametersOpen l ≡ t → l.buffers.parameters.shown ≡ []
-      closed true f = no_true (sym (s.order.unjudged f) ∙ and_right (configurationOpen l) l.control.flags.parameters_good e)
-      closed false f = nothing-in l.buffers.parameters.shown f
+      closed : (t : Bool) → parameters_open l ≡ t → l.buffers.parameters.shown ≡ []
+      closed true f = no_true (sym (s.order.unjudged f) ∙ and_right (configuration_open l) l.control.flags.parameters_good e)
+      closed false f = nothing_in l.buffers.parameters.shown f
 
 -- ---- settling
 
 -- a diagnosis that takes effect
-diagnosed-order : (l : Ledger) (count flags : ℕ) → CountIn l.setup count → Order l
+diagnosed_order : (l : Ledger) (count flags : ℕ) → CountIn l.setup count → Order l
     → InOrder l.setup (diagnosed l.control count flags) l.buffers.parameters l.buffers.configuration
 unfolding diagnosed
-diagnosed-order l count flags w h = record {
-  parameters-closed = h.parameters-closed;
-  configuration-closed = h.configuration-closed;
+diagnosed_order l count flags w h = record {
+  parameters_closed = h.parameters_closed;
+  configuration_closed = h.configuration_closed;
   unjudged = h.unjudged;
-  parameters-fit = h.parameters-fit;
-  configuration-fit = h.configuration-fit;
+  parameters_fit = h.parameters_fit;
+  configuration_fit = h.configuration_fit;
   count = w;
-  delayed-count = inl refl;
+  delayed_count = inl refl;
 }
 
 -- where not both, and the one, then the other
@@ -183,29 +183,29 @@ remains false q e f = no_true e
 record Half (l m : Ledger) : Type 0 where
   order : Order m
   line : m.line ≡ l.line
-  delaying : delayed m.control ≡ true → diagnosisLeaves m ≡ true
+  delaying : delayed m.control ≡ true → diagnosis_leaves m ≡ true
 
-after-half : (l : Ledger) → Order l → Half l (afterReply l)
-unfolding afterReply diagnosed
-after-half l h =
-    by-test (Half l) (delayed l.control && not (diagnosisLeaves l)) (diagnosisChanged l (caughtUp l.control)) l
+after_half : (l : Ledger) → Order l → Half l (after_reply l)
+unfolding after_reply diagnosed
+after_half l h =
+    by_test (Half l) (delayed l.control && not (diagnosis_leaves l)) (diagnosis_changed l (caught_up l.control)) l
     (λ e. record {
       order =
-          diagnosed-order l l.control.diagnosis.delayed_count l.control.diagnosis.delayed_flags
-          (none_or_some h.delayed-count (eqb-false _ _ (not-true _ (and_left (delayed l.control) (not (diagnosisLeaves l)) e)))) h;
+          diagnosed_order l l.control.diagnosis.delayed_count l.control.diagnosis.delayed_flags
+          (none_or_some h.delayed_count (eqb-false _ _ (not-true _ (and_left (delayed l.control) (not (diagnosis_leaves l)) e)))) h;
       line = refl;
       delaying = λ f. no_true f;
     })
-    (λ e. record { order = h; line = refl; delaying = λ f. remains (delayed l.control) (diagnosisLeaves l) f e })
+    (λ e. record { order = h; line = refl; delaying = λ f. remains (delayed l.control) (diagnosis_leaves l) f e })
 
-pub settle-steady : (l : Ledger) → Order l → (begun l ≡ true → l.line.reply ≡ []) → Steady (settle l)
-unfolding settle waitPrm
-settle-steady l h quiet = go (afterReply l) (after-half l h)
+pub settle_steady : (l : Ledger) → Order l → (begun l ≡ true → l.line.reply ≡ []) → Steady (settle l)
+unfolding settle wait_prm
+settle_steady l h quiet = go (after_reply l) (after_half l h)
   where
-    go : (m : Ledger) → Half l m → Steady (carried m (clearNoted (busy l) m.control) [])
+    go : (m : Ledger) → Half l m → Steady (carried m (clear_noted (busy l) m.control) [])
     go m w =
-        by-test (λ (o : Outcome). Steady (carried m o [])) (m.control.noted && not (busy l)) (clearing m.control) (drawing m.control Nothing)
-        (λ _. record { order = entered (withNoted m.control false) refl w.order; quiet = still; noted = λ e. no_true e; delaying = w.delaying })
+        by_test (λ (o : Outcome). Steady (carried m o [])) (m.control.noted && not (busy l)) (clearing m.control) (drawing m.control Nothing)
+        (λ _. record { order = entered (with_noted m.control false) refl w.order; quiet = still; noted = λ e. no_true e; delaying = w.delaying })
         (λ e. record {
           order = w.order;
           quiet = still;
@@ -220,20 +220,20 @@ settle-steady l h quiet = go (afterReply l) (after-half l h)
 
 module _ {l : Ledger} (s : Steady l) where
   -- on a line where no telegram is begun
-  idle-settles : (n : Line) → n.telegram ≡ [] → Steady (settle (withLine l n))
-  idle-settles n e = settle-steady (withLine l n) s.order (λ f. no_true (sym (ap some e) ∙ f))
+  idle_settles : (n : Line) → n.telegram ≡ [] → Steady (settle (with_line l n))
+  idle_settles n e = settle_steady (with_line l n) s.order (λ f. no_true (sym (ap some e) ∙ f))
 
-  completed-order : (t : Telegram) → Order (completed l t)
+  completed_order : (t : Telegram) → Order (completed l t)
   unfolding answered
-  completed-order t = served-order (payloadOf t) refl s.order (outcome-served l t)
+  completed_order t = served_order (payload_of t) refl s.order (outcome_served l t)
 
-  completed-steady : (t : Telegram) → Steady (settle (completed l t))
+  completed_steady : (t : Telegram) → Steady (settle (completed l t))
   unfolding answered
-  completed-steady t = settle-steady (completed l t) (completed-order t) (λ e. no_true e)
+  completed_steady t = settle_steady (completed l t) (completed_order t) (λ e. no_true e)
 
   -- an inner octet
-  lengthened-steady : (b : ℕ) → begun l ≡ true → Steady (withLine l (lengthened l.line b))
-  lengthened-steady b e =
+  lengthened_steady : (b : ℕ) → begun l ≡ true → Steady (with_line l (lengthened l.line b))
+  lengthened_steady b e =
       record {
         order = s.order;
         quiet = λ _. s.quiet e;
@@ -245,131 +245,131 @@ module _ {l : Ledger} (s : Steady l) where
       longer [] = refl
       longer (x ∷ xs) = refl
 
-  heard-steady : (b : ℕ) (t : Status) → Steady (heardAs t l b)
-  heard-steady b Fresh = s
-  heard-steady b Inside =
-      by-test Steady (begun l) (withLine l (lengthened l.line b)) (settle (withLine l (beginning b))) (lengthened-steady b)
-      (λ _. settle-steady (withLine l (beginning b)) s.order (λ _. refl))
-  heard-steady b Complete = completed-steady (telegramOn (l.line.telegram ++ b ∷ []))
-  heard-steady b Broken = idle-settles (brokenOff l.line) refl
+  heard_steady : (b : ℕ) (t : Status) → Steady (heard_as t l b)
+  heard_steady b Fresh = s
+  heard_steady b Inside =
+      by_test Steady (begun l) (with_line l (lengthened l.line b)) (settle (with_line l (beginning b))) (lengthened_steady b)
+      (λ _. settle_steady (with_line l (beginning b)) s.order (λ _. refl))
+  heard_steady b Complete = completed_steady (telegram_on (l.line.telegram ++ b ∷ []))
+  heard_steady b Broken = idle_settles (broken_off l.line) refl
 
   -- one octet of the reply is sent, which is not while a telegram is coming
-  sent-quiet : (xs : List ℕ) → l.line.reply ≡ xs → begun (withLine l (sendLeft l.line xs)) ≡ true → (sendLeft l.line xs).reply ≡ []
-  sent-quiet [] e f = e
-  sent-quiet (x ∷ xs) e f = absurd (something-in (ap some e) (s.quiet f))
+  sent_quiet : (xs : List ℕ) → l.line.reply ≡ xs → begun (with_line l (send_left l.line xs)) ≡ true → (send_left l.line xs).reply ≡ []
+  sent_quiet [] e f = e
+  sent_quiet (x ∷ xs) e f = absurd (something_in (ap some e) (s.quiet f))
 
-  pub sent-steady : Steady (afterSend l)
-  unfolding afterSend
-  sent-steady = settle-steady (withLine l (sendLeft l.line l.line.reply)) (sent-order l.line.reply) (sent-quiet l.line.reply refl)
+  pub sent_steady : Steady (after_send l)
+  unfolding after_send
+  sent_steady = settle_steady (with_line l (send_left l.line l.line.reply)) (sent_order l.line.reply) (sent_quiet l.line.reply refl)
     where
-      sent-order : (xs : List ℕ) → Order (withLine l (sendLeft l.line xs))
-      sent-order xs = s.order
+      sent_order : (xs : List ℕ) → Order (with_line l (send_left l.line xs))
+      sent_order xs = s.order
 
-  pub octet-steady : (b : ℕ) (bad : Bool) → Steady (heard l b bad)
+  pub octet_steady : (b : ℕ) (bad : Bool) → Steady (heard l b bad)
   unfolding heard
-  octet-steady b bad =
-      let t = status (readerAfter (run l.line.telegram) b bad) in
-      by-test Steady l.line.ignored l (heardAs t l b) (λ _. s) (λ _. heard-steady b t)
+  octet_steady b bad =
+      let t = status (reader_after (run l.line.telegram) b bad) in
+      by_test Steady l.line.ignored l (heard_as t l b) (λ _. s) (λ _. heard_steady b t)
 
-  pub gap-steady : Steady (paused l)
+  pub gap_steady : Steady (paused l)
   unfolding paused
-  gap-steady = idle-settles (record { ignored = false; telegram = []; reply = l.line.reply; diagnosing = l.line.diagnosing }) refl
+  gap_steady = idle_settles (record { ignored = false; telegram = []; reply = l.line.reply; diagnosing = l.line.diagnosing }) refl
 
-  pub tick-steady : Steady (elapsed l)
+  pub tick_steady : Steady (elapsed l)
   unfolding elapsed
-  tick-steady =
-      by-test Steady l.control.noted (settle (withLine l (silenced l))) (carried l (ticked (busy l) l.control) [])
-      (λ _. idle-settles (silenced l) refl) (λ _. carried-steady s (ticked (busy l) l.control) (ticked-keeps s))
+  tick_steady =
+      by_test Steady l.control.noted (settle (with_line l (silenced l))) (carried l (ticked (busy l) l.control) [])
+      (λ _. idle_settles (silenced l) refl) (λ _. carried_steady s (ticked (busy l) l.control) (ticked_keeps s))
 
   -- ---- the vat program
 
   -- nothing changes but buffers that are not looked at here
-  lists-steady : (x : Buffers) → x.parameters ≡ l.buffers.parameters → x.configuration ≡ l.buffers.configuration → Steady (withBuffers l x)
-  lists-steady x e f =
+  lists_steady : (x : Buffers) → x.parameters ≡ l.buffers.parameters → x.configuration ≡ l.buffers.configuration → Steady (with_buffers l x)
+  lists_steady x e f =
       record { order = rw (e, f) s.order; quiet = s.quiet; noted = s.noted; delaying = s.delaying }
 
-  written-sets : (kind index v : ℕ)
-      → ((writtenOctet l.buffers kind index v).parameters ≡ l.buffers.parameters) × ((writtenOctet l.buffers kind index v).configuration ≡ l.buffers.configuration)
-  written-sets kind index v =
-      by-test (λ (x : Buffers). (x.parameters ≡ l.buffers.parameters) × (x.configuration ≡ l.buffers.configuration)) (eqb kind 4) _ _ (λ _. (refl, refl)) (λ _. (refl, refl))
+  written_sets : (kind index v : ℕ)
+      → ((written_octet l.buffers kind index v).parameters ≡ l.buffers.parameters) × ((written_octet l.buffers kind index v).configuration ≡ l.buffers.configuration)
+  written_sets kind index v =
+      by_test (λ (x : Buffers). (x.parameters ≡ l.buffers.parameters) × (x.configuration ≡ l.buffers.configuration)) (eqb kind 4) _ _ (λ _. (refl, refl)) (λ _. (refl, refl))
 
   -- a diagnosis is delayed, or takes effect
-  delaying-steady : (count flags : ℕ) → CountIn l.setup count → diagnosisLeaves l ≡ true → Steady (withControl l (delaying l.control count flags))
+  delaying_steady : (count flags : ℕ) → CountIn l.setup count → diagnosis_leaves l ≡ true → Steady (with_control l (delaying l.control count flags))
   unfolding delaying
-  delaying-steady count flags w e = record {
+  delaying_steady count flags w e = record {
     order = record {
-      parameters-closed = s.order.parameters-closed;
-      configuration-closed = s.order.configuration-closed;
+      parameters_closed = s.order.parameters_closed;
+      configuration_closed = s.order.configuration_closed;
       unjudged = s.order.unjudged;
-      parameters-fit = s.order.parameters-fit;
-      configuration-fit = s.order.configuration-fit;
+      parameters_fit = s.order.parameters_fit;
+      configuration_fit = s.order.configuration_fit;
       count = s.order.count;
-      delayed-count = inr w;
+      delayed_count = inr w;
     };
     quiet = s.quiet;
     noted = s.noted;
     delaying = λ _. e;
   }
 
-  diagnosed-steady : (count flags : ℕ) → CountIn l.setup count → Steady (diagnosisChanged l (diagnosed l.control count flags))
+  diagnosed_steady : (count flags : ℕ) → CountIn l.setup count → Steady (diagnosis_changed l (diagnosed l.control count flags))
   unfolding diagnosed
-  diagnosed-steady count flags w =
-      record { order = diagnosed-order l count flags w s.order; quiet = s.quiet; noted = s.noted; delaying = λ e. no_true e }
+  diagnosed_steady count flags w =
+      record { order = diagnosed_order l count flags w s.order; quiet = s.quiet; noted = s.noted; delaying = λ e. no_true e }
 
 Keeps : Told → Type 0
 Keeps t = Steady t.ledger
 
-pub step-steady : (l : Ledger) (c : Call) → Steady l → Steady (step l c).ledger
-unfolding handOver newDiagnosis acknowledgeEvents leaveMaster Keeps
-step-steady l (octet b bad) s = octet-steady s b bad
-step-steady l gap s = gap-steady s
-step-steady l send s = sent-steady s
-step-steady l tick s = tick-steady s
-step-steady l take s =
-    take_cases Keeps l (λ _. s) (λ _. lists-steady s (withOutputs l.buffers (takenOutputs l.buffers.outputs)) refl refl)
-step-steady l (read kind index) s = read-cases Keeps l kind index (λ _. s) s
-step-steady l (write kind index x) s =
-    write-cases Keeps l kind index x (λ _. s)
-    (lists-steady s (writtenOctet l.buffers kind index x) (written-sets s kind index x).0 (written-sets s kind index x).1)
-step-steady l hand-over s = lists-steady s (withInputs l.buffers (handedOver l.buffers.inputs)) refl refl
-step-steady l (new-diagnosis count flags) s =
-    by-test Keeps (not (within 6 count l.setup.diagnosis_len && leb flags 7)) (refusing Range l) _ (λ _. s)
-    (λ e. by-test Keeps (delayed l.control) (refusing Delayed l) _ (λ _. s)
-    (λ _. by-test Keeps (diagnosisLeaves l) (told 0 (withControl l (delaying l.control count flags))) (told 0 (diagnosisChanged l (diagnosed l.control count flags)))
-    (λ f. delaying-steady s count flags (within-and 6 count _ _ (not-false _ e)) f)
-    (λ _. diagnosed-steady s count flags (within-and 6 count _ _ (not-false _ e)))))
-step-steady l (judge-parameters j) s =
-    parameters-cases Keeps l j (λ _ _. s)
-    (λ e. carried-steady s _ (parameters-keeps s (some l.buffers.parameters.waiting) (eqb j 1) (and_left (parametersOpen l) (leb j 1) e)))
-step-steady l (judge-configuration j) s =
-    configuration-cases Keeps l j (λ _ _. s)
-    (λ e. carried-steady s _
-    (configuration-keeps s (some l.buffers.configuration.waiting) (eqb j 1)
-    (and_left (configurationOpen l && l.control.flags.parameters_good) (leb j 1) e)))
-step-steady l events s = s
-step-steady l (acknowledge mask) s =
+pub step_steady : (l : Ledger) (c : Call) → Steady l → Steady (step l c).ledger
+unfolding hand_over new_diagnosis acknowledge_events leave_master Keeps
+step_steady l (octet b bad) s = octet_steady s b bad
+step_steady l gap s = gap_steady s
+step_steady l send s = sent_steady s
+step_steady l tick s = tick_steady s
+step_steady l take s =
+    take_cases Keeps l (λ _. s) (λ _. lists_steady s (with_outputs l.buffers (taken_outputs l.buffers.outputs)) refl refl)
+step_steady l (read kind index) s = read_cases Keeps l kind index (λ _. s) s
+step_steady l (write kind index x) s =
+    write_cases Keeps l kind index x (λ _. s)
+    (lists_steady s (written_octet l.buffers kind index x) (written_sets s kind index x).0 (written_sets s kind index x).1)
+step_steady l hand_over_lem s = lists_steady s (with_inputs l.buffers (handed_over l.buffers.inputs)) refl refl
+step_steady l (new_diagnosis_lem count flags) s =
+    by_test Keeps (not (within 6 count l.setup.diagnosis_len && leb flags 7)) (refusing Range l) _ (λ _. s)
+    (λ e. by_test Keeps (delayed l.control) (refusing Delayed l) _ (λ _. s)
+    (λ _. by_test Keeps (diagnosis_leaves l) (told 0 (with_control l (delaying l.control count flags))) (told 0 (diagnosis_changed l (diagnosed l.control count flags)))
+    (λ f. delaying_steady s count flags (within_and 6 count _ _ (not-false _ e)) f)
+    (λ _. diagnosed_steady s count flags (within_and 6 count _ _ (not-false _ e)))))
+step_steady l (judge_parameters_lem j) s =
+    parameters_cases Keeps l j (λ _ _. s)
+    (λ e. carried_steady s _ (parameters_keeps s (some l.buffers.parameters.waiting) (eqb j 1) (and_left (parameters_open l) (leb j 1) e)))
+step_steady l (judge_configuration_lem j) s =
+    configuration_cases Keeps l j (λ _ _. s)
+    (λ e. carried_steady s _
+    (configuration_keeps s (some l.buffers.configuration.waiting) (eqb j 1)
+    (and_left (configuration_open l && l.control.flags.parameters_good) (leb j 1) e)))
+step_steady l events s = s
+step_steady l (acknowledge mask) s =
     record { order = kept {c = l.control} (alike refl refl refl refl) s.order; quiet = s.quiet; noted = s.noted; delaying = s.delaying }
-step-steady l pending s = s
-step-steady l leave s = carried-steady s (clearOn (busy l) l.control) (clear-keeps s l.control (alike refl refl refl refl))
+step_steady l pending s = s
+step_steady l leave s = carried_steady s (clear_on (busy l) l.control) (clear_keeps s l.control (alike refl refl refl refl))
 
 -- ---- every list
 
-pub fresh-steady : (g : Setup) (slice : List ℕ) → 6 ≤ g.diagnosis_len → Steady (fresh g slice)
-fresh-steady g slice h = record {
+pub fresh_steady : (g : Setup) (slice : List ℕ) → 6 ≤ g.diagnosis_len → Steady (fresh g slice)
+fresh_steady g slice h = record {
   order = record {
-    parameters-closed = λ _. refl;
-    configuration-closed = λ _. refl;
+    parameters_closed = λ _. refl;
+    configuration_closed = λ _. refl;
     unjudged = λ e. no_true e;
-    parameters-fit = none-fit g.parameter_len;
-    configuration-fit = none-fit g.configuration_len;
+    parameters_fit = none_fit g.parameter_len;
+    configuration_fit = none_fit g.configuration_len;
     count = (omega arith, h);
-    delayed-count = inl refl;
+    delayed_count = inl refl;
   };
   quiet = λ e. no_true e;
   noted = λ e. no_true e;
   delaying = λ e. no_true e;
 }
 
-pub after-steady : (l : Ledger) (cs : List Call) → Steady l → Steady (after l cs)
-after-steady l [] s = s
-after-steady l (c ∷ cs) s = after-steady (step l c).ledger cs (step-steady l c s)
+pub after_steady : (l : Ledger) (cs : List Call) → Steady l → Steady (after l cs)
+after_steady l [] s = s
+after_steady l (c ∷ cs) s = after_steady (step l c).ledger cs (step_steady l c s)

@@ -7,11 +7,11 @@ use mathlib.Core.List.{List, [], ◌∷◌}
 use lib.Dec.{eqb, ltb}
 use lib.ListN.{length, get_or, take, length-take}
 use lib.Seq.{take_all}
-use Rattle.buffers.specs.Roles.{fillOf}
+use Rattle.buffers.specs.Roles.{fill_of}
 use Rattle.octets.specs.Part.{part}
 use Rattle.telegram.specs.Reading.{start, run, gathered, status}
 use Rattle.telegram.specs.Sending.{left}
-use Rattle.telegram.specs.ToSend.{toSend}
+use Rattle.telegram.specs.ToSend.{to_send}
 use Rattle.telegram.proofs.Run.{no_true}
 use Rattle.telegram.proofs.Sends.{none}
 use Rattle.state.specs.declared.setup.Setup.{Setup}
@@ -20,11 +20,11 @@ use Rattle.state.specs.declared.state.Drawn.TheVariants as drawn
 use Rattle.state.specs.declared.state.Incoming.{Incoming}
 use Rattle.state.specs.declared.state.Reply.{Reply}
 use Rattle.state.specs.declared.state.State.{State}
-use Rattle.state.specs.Layout.{outputsAt, inputsAt, parametersAt, configurationAt, diagnosisAt, getCfgAt}
+use Rattle.state.specs.Layout.{outputs_at, inputs_at, parameters_at, configuration_at, diagnosis_at, get_cfg_at}
 use Rattle.ledger.specs.Ledger.{Line}
-use Rattle.rules.specs.Replies.{diagnoses, isExchange}
-use Rattle.steps.specs.Replies.{ownPlace, header_at, contentAt, replyPoint, datumAt}
-use Rattle.steps.specs.Reading.{isIgnored}
+use Rattle.rules.specs.Replies.{diagnoses, is_exchange}
+use Rattle.steps.specs.Replies.{own_place, header_at, content_at, reply_point, datum_at}
+use Rattle.steps.specs.Reading.{is_ignored}
 use Rattle.agreement.proofs.Relation.{BeginsWith, Gathered, ReadingAgrees, ReplyAgrees}
 
 -- ---- the reply
@@ -32,15 +32,15 @@ use Rattle.agreement.proofs.Relation.{BeginsWith, Gathered, ReadingAgrees, Reply
 -- where the data octets of the reply in progress are read, all is as it was
 pub record SameSource (s : State) (m : List ℕ) (s' : State) (m' : List ℕ) : Type 0 where
   pub ident : s'.setup.ident ≡ s.setup.ident
-  pub inputs : part m' (inputsAt s'.setup (fillOf s'.inputs.place)) s'.setup.input_len
-      ≡ part m (inputsAt s.setup (fillOf s.inputs.place)) s.setup.input_len
+  pub inputs : part m' (inputs_at s'.setup (fill_of s'.inputs.place)) s'.setup.input_len
+      ≡ part m (inputs_at s.setup (fill_of s.inputs.place)) s.setup.input_len
   pub outputs : s.reply.drawn ≡ drawn.Outputs
-      → part m' (outputsAt s'.setup s'.reply.place) s'.setup.output_len
-      ≡ part m (outputsAt s.setup s.reply.place) s.setup.output_len
-  pub slice : part m' (getCfgAt s'.setup) s'.setup.get_cfg_len ≡ part m (getCfgAt s.setup) s.setup.get_cfg_len
+      → part m' (outputs_at s'.setup s'.reply.place) s'.setup.output_len
+      ≡ part m (outputs_at s.setup s.reply.place) s.setup.output_len
+  pub slice : part m' (get_cfg_at s'.setup) s'.setup.get_cfg_len ≡ part m (get_cfg_at s.setup) s.setup.get_cfg_len
   pub diagnosis : s.reply.drawn ≡ drawn.Diagnosis
-      → part m' (diagnosisAt s'.setup (ownPlace s'.swapped)) s'.setup.diagnosis_len
-      ≡ part m (diagnosisAt s.setup (ownPlace s.swapped)) s.setup.diagnosis_len
+      → part m' (diagnosis_at s'.setup (own_place s'.swapped)) s'.setup.diagnosis_len
+      ≡ part m (diagnosis_at s.setup (own_place s.swapped)) s.setup.diagnosis_len
 
 -- a list by its octets
 listed : (f : ℕ → ℕ) (n : ℕ) → (ds : List ℕ) × (length ds ≡ n) × ((k : ℕ) → k < n → f k ≡ get_or ds k 0)
@@ -56,32 +56,32 @@ listed f (suc n) = more (listed (λ k. f (suc k)) n)
         at (suc k) h = r.2 k (omega arith)
 
 module _ (s s' : State) (m m' : List ℕ) (same : s'.reply ≡ s.reply) where
-  content-same : (d : Drawn) (i : ℕ) → s.reply.drawn ≡ d → SameSource s m s' m' → contentAt d s' m' i ≡ contentAt d s m i
-  content-same drawn.Nothing i e h = refl
-  content-same drawn.Acknowledge i e h = refl
-  content-same drawn.Status i e h = refl
-  content-same drawn.Rejected i e h = refl
-  content-same drawn.Exchange i e h = ap (λ (l : List ℕ). get_or l i 0) h.inputs
-  content-same drawn.Inputs i e h = ap (λ (l : List ℕ). get_or l i 0) h.inputs
-  content-same drawn.Outputs i e h = ap (λ (l : List ℕ). get_or l i 0) (h.outputs e)
-  content-same drawn.Configuration i e h = ap (λ (l : List ℕ). get_or l i 0) h.slice
-  content-same drawn.Diagnosis i e h =
+  content_same : (d : Drawn) (i : ℕ) → s.reply.drawn ≡ d → SameSource s m s' m' → content_at d s' m' i ≡ content_at d s m i
+  content_same drawn.Nothing i e h = refl
+  content_same drawn.Acknowledge i e h = refl
+  content_same drawn.Status i e h = refl
+  content_same drawn.Rejected i e h = refl
+  content_same drawn.Exchange i e h = ap (λ (l : List ℕ). get_or l i 0) h.inputs
+  content_same drawn.Inputs i e h = ap (λ (l : List ℕ). get_or l i 0) h.inputs
+  content_same drawn.Outputs i e h = ap (λ (l : List ℕ). get_or l i 0) (h.outputs e)
+  content_same drawn.Configuration i e h = ap (λ (l : List ℕ). get_or l i 0) h.slice
+  content_same drawn.Diagnosis i e h =
       λ j. cond (ltb i 6) (header_at (same j).header (h.ident j) i) (get_or (h.diagnosis e j) i 0)
 
   -- each data octet is the one that it was
-  pub datum-same : (k : ℕ) → SameSource s m s' m' → datumAt s' m' k ≡ datumAt s m k
-  unfolding datumAt
-  datum-same k h =
-      λ j. cond (isExchange (same j).drawn) (get_or (h.inputs j) k 0)
-      (cond (eqb k 0) 0x3E (cond (eqb k 1) (replyPoint (same j).drawn) (content j)))
+  pub datum_same : (k : ℕ) → SameSource s m s' m' → datum_at s' m' k ≡ datum_at s m k
+  unfolding datum_at
+  datum_same k h =
+      λ j. cond (is_exchange (same j).drawn) (get_or (h.inputs j) k 0)
+      (cond (eqb k 0) 0x3E (cond (eqb k 1) (reply_point (same j).drawn) (content j)))
     where
-      content : contentAt s'.reply.drawn s' m' (k - 2) ≡ contentAt s.reply.drawn s m (k - 2)
-      content = ap (λ (r : Reply). contentAt r.drawn s' m' (k - 2)) same ∙ content-same s.reply.drawn (k - 2) refl h
+      content : content_at s'.reply.drawn s' m' (k - 2) ≡ content_at s.reply.drawn s m (k - 2)
+      content = ap (λ (r : Reply). content_at r.drawn s' m' (k - 2)) same ∙ content_same s.reply.drawn (k - 2) refl h
 
   -- an unfinished reply goes on from where it leaves; of a finished one nothing is left, whatever the buffers become
-  pub reply-stays : (n : Line) → (left s.reply.sender ≡ true → SameSource s m s' m') → (ds : List ℕ) × ReplyAgrees s m n ds
+  pub reply_stays : (n : Line) → (left s.reply.sender ≡ true → SameSource s m s' m') → (ds : List ℕ) × ReplyAgrees s m n ds
       → (ds : List ℕ) × ReplyAgrees s' m' n ds
-  reply-stays n f r = go (left s.reply.sender) refl
+  reply_stays n f r = go (left s.reply.sender) refl
     where
       h : ReplyAgrees s m n r.0
       h = r.1
@@ -94,19 +94,19 @@ module _ (s s' : State) (m m' : List ℕ) (same : s'.reply ≡ s.reply) where
         r.0,
         record {
           count = h.count ∙ sym counts;
-          octets = λ k l. datum-same k (f e) ∙ h.octets k l;
-          unsent = ap (λ (x : Reply). toSend x.sender r.0) same ∙ h.unsent;
+          octets = λ k l. datum_same k (f e) ∙ h.octets k l;
+          unsent = ap (λ (x : Reply). to_send x.sender r.0) same ∙ h.unsent;
           diagnosis = ap (λ (x : Reply). diagnoses x.drawn) same ∙ h.diagnosis;
         },
       )
       go false e =
-          let xs = listed (datumAt s' m') s.reply.sender.count in (
+          let xs = listed (datum_at s' m') s.reply.sender.count in (
             xs.0,
             record {
               count = xs.1 ∙ sym counts;
               octets = λ k l. xs.2 k (omega (arith, xs.1));
               unsent =
-                  ap (λ (x : Reply). toSend x.sender xs.0) same ∙ none s.reply.sender xs.0 e ∙ sym (none s.reply.sender r.0 e) ∙ h.unsent;
+                  ap (λ (x : Reply). to_send x.sender xs.0) same ∙ none s.reply.sender xs.0 e ∙ sym (none s.reply.sender r.0 e) ∙ h.unsent;
               diagnosis = ap (λ (x : Reply). diagnoses x.drawn) same ∙ h.diagnosis;
             },
           )
@@ -117,60 +117,60 @@ module _ (s s' : State) (m m' : List ℕ) (same : s'.reply ≡ s.reply) where
 pub record SameFills (s : State) (m : List ℕ) (s' : State) (m' : List ℕ) : Type 0 where
   pub setup : s'.setup ≡ s.setup
   pub outputs : (k : ℕ) → k ≤ s.setup.output_len
-      → part m' (outputsAt s'.setup (fillOf s'.outputs.set.place)) k ≡ part m (outputsAt s.setup (fillOf s.outputs.set.place)) k
+      → part m' (outputs_at s'.setup (fill_of s'.outputs.set.place)) k ≡ part m (outputs_at s.setup (fill_of s.outputs.set.place)) k
   pub parameters : (k : ℕ) → k ≤ s.setup.parameter_len
-      → part m' (parametersAt s'.setup (fillOf s'.parameters.set.place)) k ≡ part m (parametersAt s.setup (fillOf s.parameters.set.place)) k
+      → part m' (parameters_at s'.setup (fill_of s'.parameters.set.place)) k ≡ part m (parameters_at s.setup (fill_of s.parameters.set.place)) k
   pub configuration : (k : ℕ) → k ≤ s.setup.configuration_len
-      → part m' (configurationAt s'.setup (fillOf s'.configuration.set.place)) k
-      ≡ part m (configurationAt s.setup (fillOf s.configuration.set.place)) k
+      → part m' (configuration_at s'.setup (fill_of s'.configuration.set.place)) k
+      ≡ part m (configuration_at s.setup (fill_of s.configuration.set.place)) k
 
 -- a buffer begins as before with what was gathered
-pub begins-stays : (m m' : List ℕ) (a a' n n' : ℕ) (ds : List ℕ) → n' ≡ n → ((k : ℕ) → k ≤ n → part m' a' k ≡ part m a k)
+pub begins_stays : (m m' : List ℕ) (a a' n n' : ℕ) (ds : List ℕ) → n' ≡ n → ((k : ℕ) → k ≤ n → part m' a' k ≡ part m a k)
     → BeginsWith m a n ds → BeginsWith m' a' n' ds
-begins-stays m m' a a' n n' ds e f b = rw e (f (length (take n ds)) (rw length-take (omega arith)) ∙ b)
+begins_stays m m' a a' n n' ds e f b = rw e (f (length (take n ds)) (rw length-take (omega arith)) ∙ b)
 
 -- a buffer that is long enough begins with all that was gathered
-pub begins-whole : (m : List ℕ) (a n : ℕ) (ds : List ℕ) → length ds ≤ n → BeginsWith m a n ds → part m a (length ds) ≡ ds
-begins-whole m a n ds h b = rw (take_all n ds h) at b
+pub begins_whole : (m : List ℕ) (a n : ℕ) (ds : List ℕ) → length ds ≤ n → BeginsWith m a n ds → part m a (length ds) ≡ ds
+begins_whole m a n ds h b = rw (take_all n ds h) at b
 
 module _ (s s' : State) (m m' : List ℕ) (same : s'.incoming ≡ s.incoming) (f : SameFills s m s' m') where
-  pub gathered-stays : (ds : List ℕ) → Gathered s m ds → Gathered s' m' ds
-  gathered-stays ds r =
+  pub gathered_stays : (ds : List ℕ) → Gathered s m ds → Gathered s' m' ds
+  gathered_stays ds r =
       let da : s'.incoming.reader.da ≡ s.incoming.reader.da = ap (λ (x : Incoming). x.reader.da) same in
       let dsap : s'.incoming.reader.dsap ≡ s.incoming.reader.dsap = ap (λ (x : Incoming). x.reader.dsap) same in
-      let at : (Setup → ℕ → ℕ) → (State → List ℕ) → State → ℕ = λ base place x. base x.setup (fillOf (place x)) in
+      let at : (Setup → ℕ → ℕ) → (State → List ℕ) → State → ℕ = λ base place x. base x.setup (fill_of (place x)) in
       record {
         outputs =
-            λ h. begins-stays m m' (at outputsAt (λ x. x.outputs.set.place) s) (at outputsAt (λ x. x.outputs.set.place) s') _ _ ds
+            λ h. begins_stays m m' (at outputs_at (λ x. x.outputs.set.place) s) (at outputs_at (λ x. x.outputs.set.place) s') _ _ ds
             (ap (λ (g : Setup). g.output_len) f.setup) f.outputs (r.outputs (omega arith));
         parameters =
-            λ h e. begins-stays m m' (at parametersAt (λ x. x.parameters.set.place) s) (at parametersAt (λ x. x.parameters.set.place) s') _ _ ds
+            λ h e. begins_stays m m' (at parameters_at (λ x. x.parameters.set.place) s) (at parameters_at (λ x. x.parameters.set.place) s') _ _ ds
             (ap (λ (g : Setup). g.parameter_len) f.setup) f.parameters (r.parameters (omega arith) (omega arith));
         configuration =
-            λ h e. begins-stays m m' (at configurationAt (λ x. x.configuration.set.place) s) (at configurationAt (λ x. x.configuration.set.place) s') _ _ ds
+            λ h e. begins_stays m m' (at configuration_at (λ x. x.configuration.set.place) s) (at configuration_at (λ x. x.configuration.set.place) s') _ _ ds
             (ap (λ (g : Setup). g.configuration_len) f.setup) f.configuration (r.configuration (omega arith) (omega arith));
         first = λ h. ap (λ (x : Incoming). x.first) same ∙ r.first h;
         second = λ h. ap (λ (x : Incoming). x.second) same ∙ r.second h;
       }
 
-  pub reading-stays : (n : Line) → ReadingAgrees s m n → ReadingAgrees s' m' n
-  reading-stays n r = record {
-    ignoring = ap (λ (x : Incoming). isIgnored (status x.reader)) same ∙ r.ignoring;
+  pub reading_stays : (n : Line) → ReadingAgrees s m n → ReadingAgrees s' m' n
+  reading_stays n r = record {
+    ignoring = ap (λ (x : Incoming). is_ignored (status x.reader)) same ∙ r.ignoring;
     empty = r.empty;
     reading = λ e. ap (λ (x : Incoming). x.reader) same ∙ r.reading e;
-    stored = λ e. gathered-stays (gathered start n.telegram) (r.stored e);
+    stored = λ e. gathered_stays (gathered start n.telegram) (r.stored e);
   }
 
 -- ---- another line
 
 -- the reply agrees with a line that has the same reply
-pub reply-line : {s : State} {m : List ℕ} {n : Line} → (ds : List ℕ) × ReplyAgrees s m n ds → (k : Line) → k.reply ≡ n.reply → k.diagnosing ≡ n.diagnosing
+pub reply_line_lem : {s : State} {m : List ℕ} {n : Line} → (ds : List ℕ) × ReplyAgrees s m n ds → (k : Line) → k.reply ≡ n.reply → k.diagnosing ≡ n.diagnosing
     → (ds : List ℕ) × ReplyAgrees s m k ds
-reply-line r k e d = (r.0, record { count = r.1.count; octets = r.1.octets; unsent = r.1.unsent ∙ sym e; diagnosis = r.1.diagnosis ∙ sym d })
+reply_line_lem r k e d = (r.0, record { count = r.1.count; octets = r.1.octets; unsent = r.1.unsent ∙ sym e; diagnosis = r.1.diagnosis ∙ sym d })
 
 -- the reading with one that has the same octets
-pub reading-line : {s : State} {m : List ℕ} {n : Line} → ReadingAgrees s m n → (k : Line) → k.ignored ≡ n.ignored → k.telegram ≡ n.telegram → ReadingAgrees s m k
-reading-line {s} {m} {n} r k e t = record {
+pub reading_line : {s : State} {m : List ℕ} {n : Line} → ReadingAgrees s m n → (k : Line) → k.ignored ≡ n.ignored → k.telegram ≡ n.telegram → ReadingAgrees s m k
+reading_line {s} {m} {n} r k e t = record {
   ignoring = r.ignoring ∙ sym e;
   empty = λ h. t ∙ r.empty (sym e ∙ h);
   reading = λ h. r.reading (sym e ∙ h) ∙ ap run (sym t);
@@ -178,9 +178,9 @@ reading-line {s} {m} {n} r k e t = record {
 }
 
 -- while octets are ignored nothing is read
-pub ignored-agrees : {s : State} {m : List ℕ} {n : Line} → isIgnored (status s.incoming.reader) ≡ true → n.ignored ≡ true → n.telegram ≡ []
+pub ignored_agrees : {s : State} {m : List ℕ} {n : Line} → is_ignored (status s.incoming.reader) ≡ true → n.ignored ≡ true → n.telegram ≡ []
     → ReadingAgrees s m n
-ignored-agrees h e t = record {
+ignored_agrees h e t = record {
   ignoring = h ∙ sym e;
   empty = λ _. t;
   reading = λ z. no_true (sym z ∙ e);

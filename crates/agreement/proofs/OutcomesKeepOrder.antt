@@ -10,79 +10,79 @@ use Rattle.telegram.proofs.Run.{no_true}
 use Rattle.state.specs.declared.setup.Setup.{Setup}
 use Rattle.state.specs.declared.control.Control.{Control}
 use Rattle.state.specs.Sound.{Within}
-use Rattle.state.proofs.Choice.{by-test}
+use Rattle.state.proofs.Choice.{by_test}
 use Rattle.rules.specs.declared.request.Request.{Request}
 use Rattle.rules.specs.declared.outcome.SetDeed.{SetDeed}
 use Rattle.rules.specs.declared.outcome.SetDeed.TheVariants as set-deed
 use Rattle.rules.specs.declared.outcome.Outcome.{Outcome}
-use Rattle.rules.specs.Phases.{waitPrm}
-use Rattle.rules.proofs.Alike.{Alike, may-draw-same}
+use Rattle.rules.specs.Phases.{wait_prm}
+use Rattle.rules.proofs.Alike.{Alike, may_draw_same}
 use Rattle.rules.proofs.Headed.{To}
 use Rattle.rules.proofs.Served.{Receives, Judges, Served}
 use Rattle.ledger.specs.Lists.{some, Sets, no_sets}
-use Rattle.ledger.specs.Outcome.{onSets}
+use Rattle.ledger.specs.Outcome.{on_sets}
 use Rattle.agreement.proofs.Steady.{SetsFit, InOrder}
 
 -- what an outcome makes of the control part and the sets; ds is the data received
 abbrev pub Orders : Setup → Sets → Sets → List ℕ → Outcome → Type 0
-Orders g p q ds o = InOrder g o.control (onSets o.parameters p ds) (onSets o.configuration q ds)
+Orders g p q ds o = InOrder g o.control (on_sets o.parameters p ds) (on_sets o.configuration q ds)
 
-pub none-fit : (n : ℕ) → SetsFit n no_sets
-none-fit n = record { shown = omega arith; waiting = omega arith }
+pub none_fit : (n : ℕ) → SetsFit n no_sets
+none_fit n = record { shown = omega arith; waiting = omega arith }
 
 module _ {g : Setup} {p q : Sets} where
   -- another control part
   pub kept : {c d : Control} → Alike c d → InOrder g c p q → InOrder g d p q
   kept s h = record {
-    parameters-closed = λ e. h.parameters-closed (sym (may-draw-same s) ∙ e);
-    configuration-closed = λ e. h.configuration-closed (sym (may-draw-same s) ∙ e);
-    unjudged = λ e. s.good-same ∙ h.unjudged e;
-    parameters-fit = h.parameters-fit;
-    configuration-fit = h.configuration-fit;
-    count = rw s.diagnosis-same h.count;
-    delayed-count = rw s.diagnosis-same h.delayed-count;
+    parameters_closed = λ e. h.parameters_closed (sym (may_draw_same s) ∙ e);
+    configuration_closed = λ e. h.configuration_closed (sym (may_draw_same s) ∙ e);
+    unjudged = λ e. s.good_same ∙ h.unjudged e;
+    parameters_fit = h.parameters_fit;
+    configuration_fit = h.configuration_fit;
+    count = rw s.diagnosis_same h.count;
+    delayed_count = rw s.diagnosis_same h.delayed_count;
   }
 
   -- WAIT_PRM entered, all sets dropped
-  pub entered : {c : Control} (d : Control) → d.diagnosis ≡ c.diagnosis → InOrder g c p q → InOrder g (waitPrm d) no_sets no_sets
-  unfolding waitPrm
+  pub entered : {c : Control} (d : Control) → d.diagnosis ≡ c.diagnosis → InOrder g c p q → InOrder g (wait_prm d) no_sets no_sets
+  unfolding wait_prm
   entered d e h = record {
-    parameters-closed = λ _. refl;
-    configuration-closed = λ _. refl;
+    parameters_closed = λ _. refl;
+    configuration_closed = λ _. refl;
     unjudged = λ f. no_true f;
-    parameters-fit = none-fit g.parameter_len;
-    configuration-fit = none-fit g.configuration_len;
+    parameters_fit = none_fit g.parameter_len;
+    configuration_fit = none_fit g.configuration_len;
     count = rw e h.count;
-    delayed-count = rw e h.delayed-count;
+    delayed_count = rw e h.delayed_count;
   }
 
 -- ---- the services
 
 -- a set that is received fits
-sets-fit : (Given : Type 0) (low n : ℕ) (d : SetDeed) (x : Sets) (ds : List ℕ) → Receives (Given × Within low (length ds) n) d → SetsFit n x → SetsFit n (onSets d x ds)
-sets-fit Given low n set-deed.Keep x ds w f = f
-sets-fit Given low n set-deed.Receive x ds w f =
-    by-test (SetsFit n) (some x.shown) (record { shown = x.shown; waiting = ds }) (record { shown = ds; waiting = x.waiting })
+sets_fit : (Given : Type 0) (low n : ℕ) (d : SetDeed) (x : Sets) (ds : List ℕ) → Receives (Given × Within low (length ds) n) d → SetsFit n x → SetsFit n (on_sets d x ds)
+sets_fit Given low n set-deed.Keep x ds w f = f
+sets_fit Given low n set-deed.Receive x ds w f =
+    by_test (SetsFit n) (some x.shown) (record { shown = x.shown; waiting = ds }) (record { shown = ds; waiting = x.waiting })
     (λ _. record { shown = f.shown; waiting = w.1.1 }) (λ _. record { shown = w.1.1; waiting = f.waiting })
-sets-fit Given low n set-deed.Advance x ds w f = record { shown = f.waiting; waiting = omega arith }
-sets-fit Given low n set-deed.Drop x ds w f = none-fit n
+sets_fit Given low n set-deed.Advance x ds w f = record { shown = f.waiting; waiting = omega arith }
+sets_fit Given low n set-deed.Drop x ds w f = none_fit n
 
 -- and is not judged
-stays-unjudged : (d : SetDeed) (x : Sets) (ds : List ℕ) {before after : Bool} → Judges d before after → (some x.shown ≡ true → before ≡ false)
-    → some (onSets d x ds).shown ≡ true → after ≡ false
-stays-unjudged set-deed.Keep x ds w f e = w ∙ f e
-stays-unjudged set-deed.Receive x ds w f e = w
-stays-unjudged set-deed.Advance x ds w f e = absurd w
-stays-unjudged set-deed.Drop x ds w f e = no_true e
+stays_unjudged : (d : SetDeed) (x : Sets) (ds : List ℕ) {before after : Bool} → Judges d before after → (some x.shown ≡ true → before ≡ false)
+    → some (on_sets d x ds).shown ≡ true → after ≡ false
+stays_unjudged set-deed.Keep x ds w f e = w ∙ f e
+stays_unjudged set-deed.Receive x ds w f e = w
+stays_unjudged set-deed.Advance x ds w f e = absurd w
+stays_unjudged set-deed.Drop x ds w f e = no_true e
 
 -- what comes of a telegram
-pub served-order : {g : Setup} {c : Control} {withheld : Bool} {p q : Sets} {r : Request} {o : Outcome} (ds : List ℕ) → r.count ≡ length ds → InOrder g c p q → Served g c withheld r o → Orders g p q ds o
-served-order {g} {c} {withheld} {p} {q} {r} {o} ds counted h v = record {
-  parameters-closed = λ e. let w = v.reads_before e in ap (λ (d : SetDeed). (onSets d p ds).shown) w.1 ∙ h.parameters-closed w.0;
-  configuration-closed = λ e. let w = v.reads_before e in ap (λ (d : SetDeed). (onSets d q ds).shown) w.2 ∙ h.configuration-closed w.0;
-  unjudged = stays-unjudged o.parameters p ds v.judges h.unjudged;
-  parameters-fit = sets-fit (To r 61) 7 g.parameter_len o.parameters p ds (rw (sym counted) v.lawful.parameters-come) h.parameters-fit;
-  configuration-fit = sets-fit (To r 62) 1 g.configuration_len o.configuration q ds (rw (sym counted) v.lawful.configuration-come) h.configuration-fit;
-  count = rw v.lawful.counts-stay h.count;
-  delayed-count = rw v.lawful.counts-stay h.delayed-count;
+pub served_order : {g : Setup} {c : Control} {withheld : Bool} {p q : Sets} {r : Request} {o : Outcome} (ds : List ℕ) → r.count ≡ length ds → InOrder g c p q → Served g c withheld r o → Orders g p q ds o
+served_order {g} {c} {withheld} {p} {q} {r} {o} ds counted h v = record {
+  parameters_closed = λ e. let w = v.reads_before e in ap (λ (d : SetDeed). (on_sets d p ds).shown) w.1 ∙ h.parameters_closed w.0;
+  configuration_closed = λ e. let w = v.reads_before e in ap (λ (d : SetDeed). (on_sets d q ds).shown) w.2 ∙ h.configuration_closed w.0;
+  unjudged = stays_unjudged o.parameters p ds v.judges h.unjudged;
+  parameters_fit = sets_fit (To r 61) 7 g.parameter_len o.parameters p ds (rw (sym counted) v.lawful.parameters_come) h.parameters_fit;
+  configuration_fit = sets_fit (To r 62) 1 g.configuration_len o.configuration q ds (rw (sym counted) v.lawful.configuration_come) h.configuration_fit;
+  count = rw v.lawful.counts_stay h.count;
+  delayed_count = rw v.lawful.counts_stay h.delayed_count;
 }

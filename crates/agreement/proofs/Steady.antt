@@ -12,9 +12,9 @@ use Rattle.state.specs.declared.state.Drawn.TheVariants as drawn
 use Rattle.state.specs.declared.state.Reply.{Reply}
 use Rattle.state.specs.declared.state.State.{State}
 use Rattle.rules.specs.Diagnosis.{delayed}
-use Rattle.rules.proofs.MayDrawOutputs.{mayDrawOutputs}
+use Rattle.rules.proofs.MayDrawOutputs.{may_draw_outputs}
 use Rattle.ledger.specs.Lists.{some, Sets}
-use Rattle.ledger.specs.Ledger.{Ledger, begun, busy, diagnosisLeaves}
+use Rattle.ledger.specs.Ledger.{Ledger, begun, busy, diagnosis_leaves}
 use Rattle.agreement.proofs.Relation.{Agrees}
 
 -- no set is longer than its buffers
@@ -30,15 +30,15 @@ CountIn s n = (6 ≤ n) × (n ≤ s.diagnosis_len)
 pub record InOrder (g : Setup) (c : Control) (p q : Sets) : Type 0 where
   -- where the held outputs may be drawn, in DATA_EXCH or by a repeat, no set is open: only a request opens one, and it replaces or ends the
   -- chain
-  pub parameters-closed : mayDrawOutputs c ≡ true → p.shown ≡ []
-  pub configuration-closed : mayDrawOutputs c ≡ true → q.shown ≡ []
+  pub parameters_closed : may_draw_outputs c ≡ true → p.shown ≡ []
+  pub configuration_closed : may_draw_outputs c ≡ true → q.shown ≡ []
   -- while a parameter set is open none is judged good
   pub unjudged : some p.shown ≡ true → c.flags.parameters_good ≡ false
-  pub parameters-fit : SetsFit g.parameter_len p
-  pub configuration-fit : SetsFit g.configuration_len q
+  pub parameters_fit : SetsFit g.parameter_len p
+  pub configuration_fit : SetsFit g.configuration_len q
   -- diagnosis has 6 octets to the set length, and a delayed one too
   pub count : CountIn g c.diagnosis.count
-  pub delayed-count : (c.diagnosis.delayed_count ≡ 0) ⊎ CountIn g c.diagnosis.delayed_count
+  pub delayed_count : (c.diagnosis.delayed_count ≡ 0) ⊎ CountIn g c.diagnosis.delayed_count
 
 -- every ledger that calls lead to
 pub record Steady (l : Ledger) : Type 0 where
@@ -47,11 +47,11 @@ pub record Steady (l : Ledger) : Type 0 where
   pub quiet : begun l ≡ true → l.line.reply ≡ []
   -- a clear is noted only on a busy line, and a diagnosis delayed only while a Slave_Diag reply is unfinished
   pub noted : l.control.noted ≡ true → busy l ≡ true
-  pub delaying : delayed l.control ≡ true → diagnosisLeaves l ≡ true
+  pub delaying : delayed l.control ≡ true → diagnosis_leaves l ≡ true
 
 -- with this control part the reply may be unfinished: one of the held outputs only where they may be drawn
 abbrev pub Allows : Control → Reply → Type 0
-Allows c r = r.drawn ≡ drawn.Outputs → left r.sender ≡ true → mayDrawOutputs c ≡ true
+Allows c r = r.drawn ≡ drawn.Outputs → left r.sender ≡ true → may_draw_outputs c ≡ true
 
 abbrev pub ReplySteady : State → Type 0
 ReplySteady s = Allows s.control s.reply
@@ -60,4 +60,4 @@ ReplySteady s = Allows s.control s.reply
 pub record Related (s : State) (m : List ℕ) (l : Ledger) : Type 0 where
   pub agrees : Agrees s m l
   pub steady : Steady l
-  pub reply-steady : ReplySteady s
+  pub reply_steady : ReplySteady s

@@ -28,7 +28,7 @@ both true b h = (refl, h)
 both false b h = absurd (false≢true h)
 
 -- from each one to all
-pub passes-below : (k : ℕ) (p : ℕ → Bool) → all_below k p ≡ true → (n : ℕ) → n < k → p n ≡ true
-passes-below zero p e n h = absurd (not-suc-le-zero h)
-passes-below (suc k) p e zero h = (both (p zero) (all_below k (λ n. p (suc n))) e).0
-passes-below (suc k) p e (suc n) h = passes-below k (λ m. p (suc m)) (both (p zero) (all_below k (λ n. p (suc n))) e).1 n (le_of_suc-le-suc h)
+pub passes_below : (k : ℕ) (p : ℕ → Bool) → all_below k p ≡ true → (n : ℕ) → n < k → p n ≡ true
+passes_below zero p e n h = absurd (not-suc-le-zero h)
+passes_below (suc k) p e zero h = (both (p zero) (all_below k (λ n. p (suc n))) e).0
+passes_below (suc k) p e (suc n) h = passes_below k (λ m. p (suc m)) (both (p zero) (all_below k (λ n. p (suc n))) e).1 n (le_of_suc-le-suc h)

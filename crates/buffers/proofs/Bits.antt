@@ -14,9 +14,9 @@ module _ (op : ℕ → ℕ → ℕ) (on : Bool → Bool → Bool)
     (shifts : (a b k : ℕ) → op a b / 2 ^ k ≡ op (a / 2 ^ k) (b / 2 ^ k))
     (lows : (a b k : ℕ) → op a b % 2 ^ k ≡ op (a % 2 ^ k) (b % 2 ^ k))
     (four : Each 2 (λ x. Each 2 (λ y. eqb (op x y) 1 ≡ on (eqb x 1) (eqb y 1)))) where
-  bit-by-bit : (a b n : ℕ) → bit (op a b) n ≡ on (bit a n) (bit b n)
+  bit_by_bit : (a b n : ℕ) → bit (op a b) n ≡ on (bit a n) (bit b n)
   unfolding bit
-  bit-by-bit a b n =
+  bit_by_bit a b n =
       let x = a / 2 ^ n % 2 in
       let y = b / 2 ^ n % 2 in
       ap (λ z. eqb (z % 2) 1) (shifts a b n)
@@ -26,43 +26,43 @@ module _ (op : ℕ → ℕ → ℕ) (on : Bool → Bool → Bool)
       y (mod-lt (b / 2 ^ n) (zero-lt-suc 1))
 
 -- one of the two has the bit
-pub bit-or : (a b n : ℕ) → bit (bit_or a b) n ≡ (bit a n || bit b n)
-bit-or = bit-by-bit bit_or ◌||◌ or_shr or_mod ((refl, (refl, tt)), ((refl, (refl, tt)), tt))
+pub bit_or_lem : (a b n : ℕ) → bit (bit_or a b) n ≡ (bit a n || bit b n)
+bit_or_lem = bit_by_bit bit_or ◌||◌ or_shr or_mod ((refl, (refl, tt)), ((refl, (refl, tt)), tt))
 
 -- both have the bit
-pub bit-and : (a b n : ℕ) → bit (bit_and a b) n ≡ (bit a n && bit b n)
-bit-and = bit-by-bit bit_and ◌&&◌ and_shr and_mod ((refl, (refl, tt)), ((refl, (refl, tt)), tt))
+pub bit_and_lem : (a b n : ℕ) → bit (bit_and a b) n ≡ (bit a n && bit b n)
+bit_and_lem = bit_by_bit bit_and ◌&&◌ and_shr and_mod ((refl, (refl, tt)), ((refl, (refl, tt)), tt))
 
 -- the bits differ
 abbrev unlike : Bool → Bool → Bool
 unlike s t = cond s (not t) t
 
 -- one of the two has it, and the other not
-pub bit-xor : (a b n : ℕ) → bit (bit_xor a b) n ≡ unlike (bit a n) (bit b n)
-bit-xor = bit-by-bit bit_xor unlike xor_shr xor_mod ((refl, (refl, tt)), ((refl, (refl, tt)), tt))
+pub bit_xor_lem : (a b n : ℕ) → bit (bit_xor a b) n ≡ unlike (bit a n) (bit b n)
+bit_xor_lem = bit_by_bit bit_xor unlike xor_shr xor_mod ((refl, (refl, tt)), ((refl, (refl, tt)), tt))
 
 -- a bit that differs from itself under a mask
-unlike-and : (s t : Bool) → unlike s (s && t) ≡ (s && not t)
-unlike-and true t = refl
-unlike-and false t = refl
+unlike_and : (s t : Bool) → unlike s (s && t) ≡ (s && not t)
+unlike_and true t = refl
+unlike_and false t = refl
 
 -- a bit stays exactly if the mask has it not
-pub bit-without : (w mask n : ℕ) → bit (without w mask) n ≡ (bit w n && not (bit mask n))
-bit-without w mask n =
-    bit-xor w (bit_and w mask) n ∙ ap (unlike (bit w n)) (bit-and w mask n) ∙ unlike-and (bit w n) (bit mask n)
+pub bit_without : (w mask n : ℕ) → bit (without w mask) n ≡ (bit w n && not (bit mask n))
+bit_without w mask n =
+    bit_xor_lem w (bit_and w mask) n ∙ ap (unlike (bit w n)) (bit_and_lem w mask n) ∙ unlike_and (bit w n) (bit mask n)
 
 -- no bit of 0 is set
-pub bit-zero : (n : ℕ) → bit 0 n ≡ false
+pub bit_zero : (n : ℕ) → bit 0 n ≡ false
 unfolding bit
-bit-zero n = ap (λ x. eqb (x % 2) 1) (zero-div (2 ^ n))
+bit_zero n = ap (λ x. eqb (x % 2) 1) (zero-div (2 ^ n))
 
 -- a power of two has its own bit alone
-pub bit-power : (k n : ℕ) → bit (2 ^ k) n ≡ eqb k n
+pub bit_power : (k n : ℕ) → bit (2 ^ k) n ≡ eqb k n
 unfolding bit
-bit-power zero zero = refl
-bit-power zero (suc n) = ap (λ x. eqb (x % 2) 1) (div-eq_of_lt (pow-lt (zero-lt-suc n))) ∙ sym (eqb-zero-suc n)
-bit-power (suc k) zero =
+bit_power zero zero = refl
+bit_power zero (suc n) = ap (λ x. eqb (x % 2) 1) (div-eq_of_lt (pow-lt (zero-lt-suc n))) ∙ sym (eqb-zero-suc n)
+bit_power (suc k) zero =
     ap (λ x. eqb (x % 2) 1) (div-one (2 ^ suc k) ∙ pow-suc 2 k) ∙ ap (λ x. eqb x 1) (mul-mod_left (2 ^ k) 2) ∙ sym (eqb-suc-zero k)
-bit-power (suc k) (suc n) =
+bit_power (suc k) (suc n) =
     ap (λ x. eqb (x % 2) 1) (ap₂ (λ x y. x / y) (pow-suc 2 k) (pow-suc 2 n) ∙ mul-div-mul_right (2 ^ k) (2 ^ n) (zero-lt-suc 1))
-    ∙ bit-power k n ∙ sym (eqb-suc-suc k n)
+    ∙ bit_power k n ∙ sym (eqb-suc-suc k n)

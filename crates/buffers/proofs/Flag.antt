@@ -13,13 +13,13 @@ flag true = refl
 flag false = refl
 
 -- so 1 at most
-pub flag-le : (t : Bool) → bool_byte t ≤ 1
-flag-le true = omega arith
-flag-le false = omega arith
+pub flag_le : (t : Bool) → bool_byte t ≤ 1
+flag_le true = omega arith
+flag_le false = omega arith
 
 -- what something lies before is not 0
-pub flag-below : (x y : ℕ) → bool_byte (ltb x y) ≤ y
-flag-below x y = go (ltb x y) refl
+pub flag_below : (x y : ℕ) → bool_byte (ltb x y) ≤ y
+flag_below x y = go (ltb x y) refl
   where
     go : (t : Bool) → ltb x y ≡ t → bool_byte t ≤ y
     go true e = let h = ltb-true x y e in omega arith

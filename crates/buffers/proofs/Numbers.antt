@@ -7,14 +7,14 @@ use mathlib.Core.List.{List, [], ◌∷◌}
 use lib.ListN.{length, get_or}
 use borrow.Author.Tests.{eqb-true, ne_eqb}
 use lib.Dec.{eqb, ltb}
-use Rattle.buffers.specs.Roles.{fill, next, held, back, fillOf, next_of, held_of, backOf, Permutation}
-use Rattle.buffers.specs.Number.{before, number_of, permutations, places_of, numberOf4, permutations4, placesOf4}
-use Rattle.buffers.proofs.Below.{all_below, both, passes-below}
+use Rattle.buffers.specs.Roles.{fill, next, held, back, fill_of, next_of, held_of, back_of, Permutation}
+use Rattle.buffers.specs.Number.{before, number_of, permutations, places_of, number_of4, permutations4, places_of4}
+use Rattle.buffers.proofs.Below.{all_below, both, passes_below}
 use Rattle.buffers.proofs.Roles.{permutes, tested}
 
 -- a flag adds one at most
-pub before-le : (x y : ℕ) → before x y ≤ 1
-before-le x y = go (ltb x y)
+pub before_le : (x y : ℕ) → before x y ≤ 1
+before_le x y = go (ltb x y)
   where
     go : (t : Bool) → cond t 1 0 ≤ 1
     go true = omega arith
@@ -36,13 +36,13 @@ same_true (x ∷ xs) (y ∷ ys) h =
     λ i. eqb-true x y b.0 i ∷ same_true xs ys b.1 i
 
 -- a permutation by its tests
-abbrev isPermutation : ℕ → List ℕ → Bool
-isPermutation w l = eqb (length l) w && permutes w l
+abbrev is_permutation : ℕ → List ℕ → Bool
+is_permutation w l = eqb (length l) w && permutes w l
 
 -- each list of a table passes
-abbrev allIn : (List ℕ → Bool) → List (List ℕ) → Bool
-allIn p [] = true
-allIn p (l ∷ ls) = p l && allIn p ls
+abbrev all_in : (List ℕ → Bool) → List (List ℕ) → Bool
+all_in p [] = true
+all_in p (l ∷ ls) = p l && all_in p ls
 
 -- a test that fails leaves what stands behind it
 skip : {t b : Bool} → t ≡ false → cond t true b ≡ true → b ≡ true
@@ -53,33 +53,33 @@ differ : {n : ℕ} {l : List ℕ} → Permutation n l → (i j : ℕ) → i < j 
 differ {l = l} p i j h k = ne_eqb (get_or l i 0) (get_or l j 0) (p.apart i j (omega arith) k (λ z. omega arith))
 
 -- a table of permutations gives one for each number, where what stands for none is one
-listed : (w : ℕ) (table : List (List ℕ)) → allIn (isPermutation w) table ≡ true → (n : ℕ) (none : List ℕ) → length none ≡ w → permutes w none ≡ true
+listed : (w : ℕ) (table : List (List ℕ)) → all_in (is_permutation w) table ≡ true → (n : ℕ) (none : List ℕ) → length none ≡ w → permutes w none ≡ true
     → Permutation w (get_or table n none)
 listed w [] h n none e t = tested w none e t
 listed w (l ∷ table) h zero none e t =
-    let q = (both (isPermutation w l) (allIn (isPermutation w) table) h).0 in
+    let q = (both (is_permutation w l) (all_in (is_permutation w) table) h).0 in
     let r = both (eqb (length l) w) (permutes w l) q in
     tested w l (eqb-true (length l) w r.0) r.1
-listed w (l ∷ table) h (suc n) none e t = listed w table (both (isPermutation w l) (allIn (isPermutation w) table) h).1 n none e t
+listed w (l ∷ table) h (suc n) none e t = listed w table (both (is_permutation w l) (all_in (is_permutation w) table) h).1 n none e t
 
 -- ---- three roles
 
 -- every list has a number below 6
-pub number-below : (l : List ℕ) → number_of l < 6
-number-below l = let h = before-le (held_of l) (next_of l) in omega arith
+pub number_below : (l : List ℕ) → number_of l < 6
+number_below l = let h = before_le (held_of l) (next_of l) in omega arith
 
 -- every number below 6 is its permutation's
-pub number-places : (n : ℕ) → n < 6 → number_of (places_of n) ≡ n
+pub number_places : (n : ℕ) → n < 6 → number_of (places_of n) ≡ n
 unfolding places_of
-number-places n h = eqb-true (number_of (places_of n)) n (passes-below 6 (λ m. eqb (number_of (places_of m)) m) refl n h)
+number_places n h = eqb-true (number_of (places_of n)) n (passes_below 6 (λ m. eqb (number_of (places_of m)) m) refl n h)
 
 -- every number gives a permutation
-pub places-permutation : (n : ℕ) → Permutation 3 (places_of n)
+pub places_permutation : (n : ℕ) → Permutation 3 (places_of n)
 unfolding places_of
-places-permutation n = listed 3 permutations refl n (0 ∷ 1 ∷ 2 ∷ []) refl refl
+places_permutation n = listed 3 permutations refl n (0 ∷ 1 ∷ 2 ∷ []) refl refl
 
 -- a list of three is its three elements
-three : (l : List ℕ) → length l ≡ 3 → fillOf l ∷ next_of l ∷ held_of l ∷ [] ≡ l
+three : (l : List ℕ) → length l ≡ 3 → fill_of l ∷ next_of l ∷ held_of l ∷ [] ≡ l
 three [] e = absurd (omega (arith, e))
 three (a ∷ []) e = absurd (omega (arith, e))
 three (a ∷ b ∷ []) e = absurd (omega (arith, e))
@@ -87,48 +87,48 @@ three (a ∷ b ∷ c ∷ []) e = refl
 three (a ∷ b ∷ c ∷ d ∷ l) e = absurd (omega (arith, e))
 
 -- three places that differ come back from their number
-abbrev comeBack : ℕ → ℕ → ℕ → Bool
-comeBack a b c =
+abbrev come_back : ℕ → ℕ → ℕ → Bool
+come_back a b c =
     cond (eqb a b) true (cond (eqb a c) true (cond (eqb b c) true (same (places_of (number_of (a ∷ b ∷ c ∷ []))) (a ∷ b ∷ c ∷ []))))
 
-all-come-back : (a b c : ℕ) → a < 3 → b < 3 → c < 3 → comeBack a b c ≡ true
+all_come_back : (a b c : ℕ) → a < 3 → b < 3 → c < 3 → come_back a b c ≡ true
 unfolding places_of
-all-come-back a b c ha hb hc =
-    passes-below 3 (comeBack a b)
-    (passes-below 3 (λ y. all_below 3 (comeBack a y)) (passes-below 3 (λ x. all_below 3 (λ y. all_below 3 (comeBack x y))) refl a ha) b hb)
+all_come_back a b c ha hb hc =
+    passes_below 3 (come_back a b)
+    (passes_below 3 (λ y. all_below 3 (come_back a y)) (passes_below 3 (λ x. all_below 3 (λ y. all_below 3 (come_back x y))) refl a ha) b hb)
     c hc
 
 -- a permutation is its number's
-pub places-number : (l : List ℕ) → Permutation 3 l → places_of (number_of l) ≡ l
-places-number l p =
+pub places_number : (l : List ℕ) → Permutation 3 l → places_of (number_of l) ≡ l
+places_number l p =
     subst (λ x. places_of (number_of x) ≡ x) (three l p.long)
     (same_true _ _
     (skip (differ p 1 2 (omega arith) (omega arith))
     (skip (differ p 0 2 (omega arith) (omega arith))
     (skip (differ p 0 1 (omega arith) (omega arith))
-    (all-come-back (fillOf l) (next_of l) (held_of l) (p.within 0 (omega arith)) (p.within 1 (omega arith)) (p.within 2 (omega arith)))))))
+    (all_come_back (fill_of l) (next_of l) (held_of l) (p.within 0 (omega arith)) (p.within 1 (omega arith)) (p.within 2 (omega arith)))))))
 
 -- ---- four roles
 
 -- every list has a number below 24
-pub number4-below : (l : List ℕ) → numberOf4 l < 24
-number4-below l =
-    let h = before-le (backOf l) (held_of l) in
-    let k : (next_of l - before (fillOf l) (next_of l)) % 3 < 3 = omega arith in
+pub number4_below : (l : List ℕ) → number_of4 l < 24
+number4_below l =
+    let h = before_le (back_of l) (held_of l) in
+    let k : (next_of l - before (fill_of l) (next_of l)) % 3 < 3 = omega arith in
     omega arith
 
 -- every number below 24 is its permutation's
-pub number4-places : (n : ℕ) → n < 24 → numberOf4 (placesOf4 n) ≡ n
-unfolding placesOf4
-number4-places n h = eqb-true (numberOf4 (placesOf4 n)) n (passes-below 24 (λ m. eqb (numberOf4 (placesOf4 m)) m) refl n h)
+pub number4_places : (n : ℕ) → n < 24 → number_of4 (places_of4 n) ≡ n
+unfolding places_of4
+number4_places n h = eqb-true (number_of4 (places_of4 n)) n (passes_below 24 (λ m. eqb (number_of4 (places_of4 m)) m) refl n h)
 
 -- every number gives a permutation
-pub places4-permutation : (n : ℕ) → Permutation 4 (placesOf4 n)
-unfolding placesOf4
-places4-permutation n = listed 4 permutations4 refl n (0 ∷ 1 ∷ 2 ∷ 3 ∷ []) refl refl
+pub places4_permutation : (n : ℕ) → Permutation 4 (places_of4 n)
+unfolding places_of4
+places4_permutation n = listed 4 permutations4 refl n (0 ∷ 1 ∷ 2 ∷ 3 ∷ []) refl refl
 
 -- a list of four is its four elements
-four : (l : List ℕ) → length l ≡ 4 → fillOf l ∷ next_of l ∷ held_of l ∷ backOf l ∷ [] ≡ l
+four : (l : List ℕ) → length l ≡ 4 → fill_of l ∷ next_of l ∷ held_of l ∷ back_of l ∷ [] ≡ l
 four [] e = absurd (omega (arith, e))
 four (a ∷ []) e = absurd (omega (arith, e))
 four (a ∷ b ∷ []) e = absurd (omega (arith, e))
@@ -137,27 +137,27 @@ four (a ∷ b ∷ c ∷ d ∷ []) e = refl
 four (a ∷ b ∷ c ∷ d ∷ x ∷ l) e = absurd (omega (arith, e))
 
 -- four places that differ come back from their number
-abbrev comeBack4 : ℕ → ℕ → ℕ → ℕ → Bool
-comeBack4 a b c d =
+abbrev come_back4 : ℕ → ℕ → ℕ → ℕ → Bool
+come_back4 a b c d =
     cond (eqb a b) true
     (cond (eqb a c) true
     (cond (eqb a d) true
     (cond (eqb b c) true
     (cond (eqb b d) true
-    (cond (eqb c d) true (same (placesOf4 (numberOf4 (a ∷ b ∷ c ∷ d ∷ []))) (a ∷ b ∷ c ∷ d ∷ [])))))))
+    (cond (eqb c d) true (same (places_of4 (number_of4 (a ∷ b ∷ c ∷ d ∷ []))) (a ∷ b ∷ c ∷ d ∷ [])))))))
 
-all-come-back4 : (a b c d : ℕ) → a < 4 → b < 4 → c < 4 → d < 4 → comeBack4 a b c d ≡ true
-unfolding placesOf4
-all-come-back4 a b c d ha hb hc hd =
-    passes-below 4 (comeBack4 a b c)
-    (passes-below 4 (λ z. all_below 4 (comeBack4 a b z))
-    (passes-below 4 (λ y. all_below 4 (λ z. all_below 4 (comeBack4 a y z)))
-    (passes-below 4 (λ x. all_below 4 (λ y. all_below 4 (λ z. all_below 4 (comeBack4 x y z)))) refl a ha) b hb) c hc) d hd
+all_come_back4 : (a b c d : ℕ) → a < 4 → b < 4 → c < 4 → d < 4 → come_back4 a b c d ≡ true
+unfolding places_of4
+all_come_back4 a b c d ha hb hc hd =
+    passes_below 4 (come_back4 a b c)
+    (passes_below 4 (λ z. all_below 4 (come_back4 a b z))
+    (passes_below 4 (λ y. all_below 4 (λ z. all_below 4 (come_back4 a y z)))
+    (passes_below 4 (λ x. all_below 4 (λ y. all_below 4 (λ z. all_below 4 (come_back4 x y z)))) refl a ha) b hb) c hc) d hd
 
 -- a permutation is its number's
-pub places4-number : (l : List ℕ) → Permutation 4 l → placesOf4 (numberOf4 l) ≡ l
-places4-number l p =
-    subst (λ x. placesOf4 (numberOf4 x) ≡ x) (four l p.long)
+pub places4_number : (l : List ℕ) → Permutation 4 l → places_of4 (number_of4 l) ≡ l
+places4_number l p =
+    subst (λ x. places_of4 (number_of4 x) ≡ x) (four l p.long)
     (same_true _ _
     (skip (differ p 2 3 (omega arith) (omega arith))
     (skip (differ p 1 3 (omega arith) (omega arith))
@@ -165,4 +165,4 @@ places4-number l p =
     (skip (differ p 0 3 (omega arith) (omega arith))
     (skip (differ p 0 2 (omega arith) (omega arith))
     (skip (differ p 0 1 (omega arith) (omega arith))
-    (all-come-back4 (fillOf l) (next_of l) (held_of l) (backOf l) (p.within 0 (omega arith)) (p.within 1 (omega arith)) (p.within 2 (omega arith)) (p.within 3 (omega arith))))))))))
+    (all_come_back4 (fill_of l) (next_of l) (held_of l) (back_of l) (p.within 0 (omega arith)) (p.within 1 (omega arith)) (p.within 2 (omega arith)) (p.within 3 (omega arith))))))))))

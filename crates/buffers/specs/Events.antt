@@ -8,36 +8,36 @@ abbrev pub width : ℕ
 width = 16
 
 -- DATA_EXCH entered or left
-abbrev pub dataExchangeEvent : ℕ
-dataExchangeEvent = 1
+abbrev pub data_exchange_event : ℕ
+data_exchange_event = 1
 
 -- the watchdog ran out
-abbrev pub watchdogEvent : ℕ
-watchdogEvent = 3
+abbrev pub watchdog_event : ℕ
+watchdog_event = 3
 
 -- a new Global_Control octet
-abbrev pub controlEvent : ℕ
-controlEvent = 8
+abbrev pub control_event : ℕ
+control_event = 8
 
 -- a configuration set is open
-abbrev pub configurationEvent : ℕ
-configurationEvent = 10
+abbrev pub configuration_event : ℕ
+configuration_event = 10
 
 -- a parameter set is open
-abbrev pub parametersEvent : ℕ
-parametersEvent = 11
+abbrev pub parameters_event : ℕ
+parameters_event = 11
 
 -- the diagnosis buffers changed
-abbrev pub diagnosisEvent : ℕ
-diagnosisEvent = 12
+abbrev pub diagnosis_event : ℕ
+diagnosis_event = 12
 
 -- outputs were published
-abbrev pub outputsEvent : ℕ
-outputsEvent = 13
+abbrev pub outputs_event : ℕ
+outputs_event = 13
 
 -- the events that end with the set that is open, never by being acknowledged
-abbrev pub keptEvents : ℕ
-keptEvents = bit_or (2 ^ configurationEvent) (2 ^ parametersEvent)
+abbrev pub kept_events : ℕ
+kept_events = bit_or (2 ^ configuration_event) (2 ^ parameters_event)
 
 -- whether bit n of a word is set
 unfoldable pub bit : ℕ → ℕ → Bool
@@ -48,8 +48,8 @@ abbrev pub without : ℕ → ℕ → ℕ
 without w mask = bit_xor w (bit_and w mask)
 
 -- no event
-abbrev pub noEvents : Events
-noEvents = record { word = 0 }
+abbrev pub no_events : Events
+no_events = record { word = 0 }
 
 -- event n alone; a number that the word has no bit for gives none
 abbrev pub only : ℕ → Events
@@ -65,28 +65,28 @@ cleared e n = record { word = without e.word (only n).word }
 
 -- the mask's events are not set any more, but for those that are kept
 abbrev pub acknowledged : Events → ℕ → Events
-acknowledged e mask = record { word = without e.word (without mask keptEvents) }
+acknowledged e mask = record { word = without e.word (without mask kept_events) }
 
 -- the smallest of the k numbers from n on whose bit is set in a word, or n + k if none is
-unfoldable pub smallestFrom : ℕ → ℕ → ℕ → ℕ
-smallestFrom w n zero = n
-smallestFrom w n (suc k) = cond (bit w n) n (smallestFrom w (suc n) k)
+unfoldable pub smallest_from : ℕ → ℕ → ℕ → ℕ
+smallest_from w n zero = n
+smallest_from w n (suc k) = cond (bit w n) n (smallest_from w (suc n) k)
 
 -- what Pending answers: the smallest number of a set event, or the width for none
-abbrev pub pendingOf : Events → ℕ
-pendingOf e = smallestFrom e.word 0 width
+abbrev pub pending_of : Events → ℕ
+pending_of e = smallest_from e.word 0 width
 
 -- an event that ends with its set: 10 or 11
-abbrev pub endsWithSet : ℕ → Bool
-endsWithSet n = eqb configurationEvent n || eqb parametersEvent n
+abbrev pub ends_with_set : ℕ → Bool
+ends_with_set n = eqb configuration_event n || eqb parameters_event n
 
 -- "Acknowledge (mask) clears bits, never 10 or 11"
 abbrev pub AcknowledgeClears : Type 0
-AcknowledgeClears = (e : Events) (mask n : ℕ) → bit (acknowledged e mask).word n ≡ (bit e.word n && not (bit mask n && not (endsWithSet n)))
+AcknowledgeClears = (e : Events) (mask n : ℕ) → bit (acknowledged e mask).word n ≡ (bit e.word n && not (bit mask n && not (ends_with_set n)))
 
 -- n is the smallest number of a set event of a word: event n is set, and none below it is; the width stands for none
 pub record SmallestSet (w n : ℕ) : Type 0 where
-  pub set-or-none : ((n < width) × (bit w n ≡ true)) ⊎ (n ≡ width)
+  pub set_or_none : ((n < width) × (bit w n ≡ true)) ⊎ (n ≡ width)
   pub none_below : (k : ℕ) → k < n → bit w k ≡ false
 
 -- a function answers n exactly if n is the smallest number of a set event
@@ -95,5 +95,5 @@ AnswersSmallest answer = (e : Events) (n : ℕ) → (answer e ≡ n) ↔ Smalles
 
 -- "Pending returns the smallest number of a set event" (document 02, Req 06), and nothing is left to choose: whatever answers so answers the same
 pub record PendingExactly : Type 0 where
-  pub smallest : AnswersSmallest pendingOf
-  pub no-choice : (answer : Events → ℕ) → AnswersSmallest answer → (e : Events) → answer e ≡ pendingOf e
+  pub smallest : AnswersSmallest pending_of
+  pub no_choice : (answer : Events → ℕ) → AnswersSmallest answer → (e : Events) → answer e ≡ pending_of e

@@ -21,8 +21,8 @@ abbrev pub taken : Quad → Quad
 taken q = record { place = swapped next held q.place; fresh = false; withheld = q.withheld }
 
 -- fill and back change places, and back is held back; next stays as it is
-abbrev pub heldBack : Quad → Quad
-heldBack q = record { place = swapped fill back q.place; fresh = q.fresh; withheld = true }
+abbrev pub held_back : Quad → Quad
+held_back q = record { place = swapped fill back q.place; fresh = q.fresh; withheld = true }
 
 -- next and back change places, next is new, and nothing is held back any more
 abbrev pub released : Quad → Quad

@@ -16,8 +16,8 @@ abbrev pub back : ℕ
 back = 3
 
 -- the place of the buffer in each role
-abbrev pub fillOf : List ℕ → ℕ
-fillOf l = get_or l fill 0
+abbrev pub fill_of : List ℕ → ℕ
+fill_of l = get_or l fill 0
 
 abbrev pub next_of : List ℕ → ℕ
 next_of l = get_or l next 0
@@ -25,8 +25,8 @@ next_of l = get_or l next 0
 abbrev pub held_of : List ℕ → ℕ
 held_of l = get_or l held 0
 
-abbrev pub backOf : List ℕ → ℕ
-backOf l = get_or l back 0
+abbrev pub back_of : List ℕ → ℕ
+back_of l = get_or l back 0
 
 -- the places are 0 to n - 1, each once
 pub record Permutation (n : ℕ) (l : List ℕ) : Type 0 where

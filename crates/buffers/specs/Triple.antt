@@ -20,8 +20,8 @@ abbrev pub taken : Triple → Triple
 taken t = record { place = swapped next held t.place; fresh = false }
 
 -- held and next change places, and next is new
-abbrev pub handedOver : Triple → Triple
-handedOver t = record { place = swapped next held t.place; fresh = true }
+abbrev pub handed_over : Triple → Triple
+handed_over t = record { place = swapped next held t.place; fresh = true }
 
 -- fill and next change places, and nothing is new: new inputs come to the buffer that is sent from
 abbrev pub brought : Triple → Triple

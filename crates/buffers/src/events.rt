@@ -1,6 +1,6 @@
 // The event word: one bit for each event, and the events' numbers.
 ghost use Rattle.std.specs.Prelude.{◌≡◌};
-ghost use Rattle.buffers.specs.Events.{only, noEvents, raised, cleared, acknowledged, pendingOf};
+ghost use Rattle.buffers.specs.Events.{only, no_events, raised, cleared, acknowledged, pending_of};
 
 // The events that are set: event n is bit n of the word.
 #[derive(Drop)]
@@ -30,7 +30,7 @@ impl Events {
 
     // No event.
     pub fn none() -> Self
-        ensures { result ≡ noEvents }
+        ensures { result ≡ no_events }
     {
         Self { word: 0 }
     }
@@ -77,7 +77,7 @@ impl Events {
 
     // The smallest number of a set event, or COUNT for none.
     pub fn pending(self) -> u8
-        ensures { result ≡ pendingOf self }
+        ensures { result ≡ pending_of self }
     {
         u16::trailing_zeros(self.word) as u8
     }

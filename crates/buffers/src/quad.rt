@@ -1,8 +1,8 @@
 // A set of four, the output set, has the roles fill, next, held, back, always a permutation.
 ghost use Rattle.std.specs.Prelude.{◌≡◌};
-ghost use Rattle.buffers.specs.Roles.{fillOf, next_of, held_of};
-ghost use Rattle.buffers.specs.Quad.{initial, published, taken, heldBack, released, renewed};
-ghost use Rattle.buffers.specs.Number.{numberOf4, placesOf4, numbered4};
+ghost use Rattle.buffers.specs.Roles.{fill_of, next_of, held_of};
+ghost use Rattle.buffers.specs.Quad.{initial, published, taken, held_back, released, renewed};
+ghost use Rattle.buffers.specs.Number.{number_of4, places_of4, numbered4};
 
 // One value holding its roles: the places of fill, next, held and back in this order, whether next is new, and whether back holds
 // outputs that sync holds back.
@@ -28,7 +28,7 @@ impl Quad {
 
     // The place of the buffer that is filled.
     pub fn fill(self) -> u8
-        ensures { result ≡ fillOf self.place }
+        ensures { result ≡ fill_of self.place }
     {
         self.place[0]
     }
@@ -69,7 +69,7 @@ impl Quad {
 
     // Fill and back change places, and back is held back: it replaces what was. Next stays as it is.
     pub fn hold_back(mut self) -> Self
-        ensures { result ≡ heldBack self }
+        ensures { result ≡ held_back self }
     {
         let place = [self.place[3], self.place[1], self.place[2], self.place[0]];
         self.place = place;
@@ -99,7 +99,7 @@ impl Quad {
 
     // The roles as one number, 0 to 23.
     pub fn number(self) -> u8
-        ensures { result ≡ numberOf4 self.place }
+        ensures { result ≡ number_of4 self.place }
     {
         let behind = self.place[0] < self.place[1];
         let later = self.place[3] < self.place[2];
@@ -121,7 +121,7 @@ impl Quad {
 
 // The places of fill, next, held and back that have that number; past the last number those of the first.
 fn places(n: u8) -> [u8; 4]
-    ensures { result ≡ placesOf4 n }
+    ensures { result ≡ places_of4 n }
 {
     match n {
         1 => [0, 1, 3, 2],

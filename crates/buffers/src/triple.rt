@@ -1,7 +1,7 @@
 // A set of three has the roles fill, next, held, always a permutation.
 ghost use Rattle.std.specs.Prelude.{◌≡◌};
-ghost use Rattle.buffers.specs.Roles.{fillOf, next_of, held_of};
-ghost use Rattle.buffers.specs.Triple.{initial, published, taken, handedOver, brought, shown, dropped};
+ghost use Rattle.buffers.specs.Roles.{fill_of, next_of, held_of};
+ghost use Rattle.buffers.specs.Triple.{initial, published, taken, handed_over, brought, shown, dropped};
 ghost use Rattle.buffers.specs.Number.{number_of, places_of, numbered};
 
 // One value holding its roles: the places of fill, next and held in this order, and whether next is new.
@@ -25,7 +25,7 @@ impl Triple {
 
     // The place of the buffer that is filled.
     pub fn fill(self) -> u8
-        ensures { result ≡ fillOf self.place }
+        ensures { result ≡ fill_of self.place }
     {
         self.place[0]
     }
@@ -66,7 +66,7 @@ impl Triple {
 
     // Held and next change places, and next is new.
     pub fn hand_over(mut self) -> Self
-        ensures { result ≡ handedOver self }
+        ensures { result ≡ handed_over self }
     {
         let place = [self.place[0], self.place[2], self.place[1]];
         self.place = place;

@@ -3,12 +3,12 @@ ghost use Rattle.std.specs.Prelude.{not, eqb, length};
 ghost use Rattle.state.specs.Start.{given};
 ghost use Rattle.state.specs.Unpack.{unpacked};
 ghost use Rattle.steps.specs.Calls.{started, called};
-ghost use Rattle.rules.specs.Call.{gap, send, tick, take, read, write, hand-over, new-diagnosis, judge-parameters, judge-configuration, events, acknowledge, pending, leave};
+ghost use Rattle.rules.specs.Call.{gap, send, tick, take, read, write, hand_over_lem, new_diagnosis_lem, judge_parameters_lem, judge_configuration_lem, events, acknowledge, pending, leave};
 ghost use Rattle.rules.specs.Call as call;
 ghost use Rattle.window.specs.Order.{order_of};
-ghost use Rattle.window.specs.Entries.{window-read, window-write};
+ghost use Rattle.window.specs.Entries.{window_read, window_write};
 ghost use Rattle.window.specs.Command.{commanded};
-ghost use Rattle.window.specs.Calls.{enteredBy, entered};
+ghost use Rattle.window.specs.Calls.{entered_by, entered};
 ghost use Rattle.card.specs.Exports.{Returns};
 
 use station::calls;
@@ -112,7 +112,7 @@ pub extern "C" fn dp_write(memory: &mut [u8], kind: u32, index: u32, octet: u8) 
 // Hand over inputs.
 #[unsafe(no_mangle)]
 pub extern "C" fn dp_hand_over_inputs(memory: &mut [u8]) -> i64
-    ensures { Returns (called memory.old hand-over) result memory.new }
+    ensures { Returns (called memory.old hand_over_lem) result memory.new }
 {
     let answer = calls::hand_over(memory);
     answer.code()
@@ -121,7 +121,7 @@ pub extern "C" fn dp_hand_over_inputs(memory: &mut [u8]) -> i64
 // New diagnosis of `count` octets, flags in bits 0 to 2: Ext_Diag, Stat_Diag, overflow.
 #[unsafe(no_mangle)]
 pub extern "C" fn dp_new_diagnosis(memory: &mut [u8], count: u32, flags: u32) -> i64
-    ensures { Returns (called memory.old (new-diagnosis count flags)) result memory.new }
+    ensures { Returns (called memory.old (new_diagnosis_lem count flags)) result memory.new }
 {
     let answer = calls::new_diagnosis(memory, count, flags);
     answer.code()
@@ -130,7 +130,7 @@ pub extern "C" fn dp_new_diagnosis(memory: &mut [u8], count: u32, flags: u32) ->
 // Judge parameters, 1 good, 0 bad: 1 if a newer set waited, which is now shown, else 0.
 #[unsafe(no_mangle)]
 pub extern "C" fn dp_judge_parameters(memory: &mut [u8], judgement: u32) -> i64
-    ensures { Returns (called memory.old (judge-parameters judgement)) result memory.new }
+    ensures { Returns (called memory.old (judge_parameters_lem judgement)) result memory.new }
 {
     let answer = calls::judge_parameters(memory, judgement);
     answer.code()
@@ -139,7 +139,7 @@ pub extern "C" fn dp_judge_parameters(memory: &mut [u8], judgement: u32) -> i64
 // Judge configuration, likewise.
 #[unsafe(no_mangle)]
 pub extern "C" fn dp_judge_configuration(memory: &mut [u8], judgement: u32) -> i64
-    ensures { Returns (called memory.old (judge-configuration judgement)) result memory.new }
+    ensures { Returns (called memory.old (judge_configuration_lem judgement)) result memory.new }
 {
     let answer = calls::judge_configuration(memory, judgement);
     answer.code()
@@ -183,7 +183,7 @@ pub extern "C" fn dp_leave_master(memory: &mut [u8]) -> i64
 
 // What is behind an access of the window. What is long is made by the exported call itself, so that its code stands once.
 fn command(memory: &mut [u8], command: Command) -> i64
-    ensures { Returns (enteredBy memory.old (commanded (unpacked memory.old).control command)) result memory.new }
+    ensures { Returns (entered_by memory.old (commanded (unpacked memory.old).control command)) result memory.new }
 {
     match command {
         Command::LowEvents => window::calls::event_bits(memory, 0).code(),
@@ -202,7 +202,7 @@ fn command(memory: &mut [u8], command: Command) -> i64
 // Reads the cell of the window that is at an address in an order, 0 Intel's, any other Motorola's, and so makes the call behind it.
 #[unsafe(no_mangle)]
 pub extern "C" fn dp_window_read(memory: &mut [u8], order: u32, address: u32) -> i64
-    ensures { Returns (entered memory.old (window-read (order_of order) address)) result memory.new }
+    ensures { Returns (entered memory.old (window_read (order_of order) address)) result memory.new }
 {
     command(memory, Command::reading(Order::of(order), address))
 }
@@ -210,7 +210,7 @@ pub extern "C" fn dp_window_read(memory: &mut [u8], order: u32, address: u32) ->
 // Writes an octet to a cell of the window.
 #[unsafe(no_mangle)]
 pub extern "C" fn dp_window_write(memory: &mut [u8], order: u32, address: u32, octet: u8) -> i64
-    ensures { Returns (entered memory.old (window-write (order_of order) address octet)) result memory.new }
+    ensures { Returns (entered memory.old (window_write (order_of order) address octet)) result memory.new }
 {
     command(memory, Command::writing(Order::of(order), address, octet))
 }

@@ -9,6 +9,6 @@ use Rattle.channels.specs.declared.channel.Channel.{Channel}
 use Rattle.channels.specs.Image.{channels, loaded, saved}
 
 -- channel n loaded, changed by f, and saved
-pub saved-by : (f : Channel → Channel) (m m' : List ℕ) (n : ℕ) (c d : Channel) → n < channels → c ≡ loaded m n → d ≡ f c → m' ≡ saved m n d
+pub saved_by : (f : Channel → Channel) (m m' : List ℕ) (n : ℕ) (c d : Channel) → n < channels → c ≡ loaded m n → d ≡ f c → m' ≡ saved m n d
     → m' ≡ cond (ltb n channels) (saved m n (f (loaded m n))) m
-saved-by f m m' n c d h e g s = s ∙ (λ i. saved m n (g i)) ∙ (λ i. saved m n (f (e i))) ∙ simp (lt-ltb n channels h)
+saved_by f m m' n c d h e g s = s ∙ (λ i. saved m n (g i)) ∙ (λ i. saved m n (f (e i))) ∙ simp (lt-ltb n channels h)

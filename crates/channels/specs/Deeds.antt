@@ -5,16 +5,16 @@ use Rattle.channels.specs.declared.channel.Channel.{Channel}
 use Rattle.channels.specs.Image.{channels, loaded, saved}
 
 -- a request is open: the channel is occupied, and can be read
-abbrev pub isOpen : Channel → Bool
-isOpen c = not (eqb c.indication_count 0)
+abbrev pub is_open : Channel → Bool
+is_open c = not (eqb c.indication_count 0)
 
 -- a response is kept: it was given for the newest request, whether its reply ended since or not
-abbrev pub isGiven : Channel → Bool
-isGiven c = not (eqb c.response_count 0)
+abbrev pub is_given : Channel → Bool
+is_given c = not (eqb c.response_count 0)
 
 -- it takes a response of k octets: "one response, a slice of 1 octet up to its buffer", where a request is open and none was given
-abbrev pub takesResponse : Channel → ℕ → Bool
-takesResponse c k = isOpen c && not (isGiven c) && not (eqb k 0) && leb k c.response_len
+abbrev pub takes_response : Channel → ℕ → Bool
+takes_response c k = is_open c && not (is_given c) && not (eqb k 0) && leb k c.response_len
 
 -- a channel with these counts
 abbrev pub counted : Channel → ℕ → ℕ → Channel
@@ -39,37 +39,37 @@ abbrev pub freed : Channel → Channel
 freed c = counted c 0 c.response_count
 
 -- what a channel is whose number is above 15
-abbrev pub noChannel : Channel
-noChannel = record { indication_len = 0; response_len = 0; indication_count = 0; response_count = 0 }
+abbrev pub no_channel : Channel
+no_channel = record { indication_len = 0; response_len = 0; indication_count = 0; response_count = 0 }
 
 -- channel n of a memory, where there is one of that number
-unfoldable pub channelIn : List ℕ → ℕ → Channel
-channelIn m n = cond (ltb n channels) (loaded m n) noChannel
+unfoldable pub channel_in : List ℕ → ℕ → Channel
+channel_in m n = cond (ltb n channels) (loaded m n) no_channel
 
 -- there is a channel of that number, and it is set up
-unfoldable pub isSetUp : List ℕ → ℕ → Bool
-isSetUp m n = cond (ltb n channels) (not (eqb (loaded m n).indication_len 0)) false
+unfoldable pub is_set_up : List ℕ → ℕ → Bool
+is_set_up m n = cond (ltb n channels) (not (eqb (loaded m n).indication_len 0)) false
 
 -- channel n is filled by a request of so many octets, which stand in its buffer
-unfoldable pub filledIn : List ℕ → ℕ → ℕ → List ℕ
-filledIn m n count = cond (ltb n channels) (saved m n (filled (loaded m n) count)) m
+unfoldable pub filled_in : List ℕ → ℕ → ℕ → List ℕ
+filled_in m n count = cond (ltb n channels) (saved m n (filled (loaded m n) count)) m
 
 -- channel n is freed
-unfoldable pub freedIn : List ℕ → ℕ → List ℕ
-freedIn m n = cond (ltb n channels) (saved m n (freed (loaded m n))) m
+unfoldable pub freed_in : List ℕ → ℕ → List ℕ
+freed_in m n = cond (ltb n channels) (saved m n (freed (loaded m n))) m
 
 -- a response is written to its place and channel n counts it
-unfoldable pub respondedIn : List ℕ → ℕ → ℕ → List ℕ → List ℕ
-respondedIn m n at xs = saved (pasted m at xs) n (responded (loaded m n) (length xs))
+unfoldable pub responded_in : List ℕ → ℕ → ℕ → List ℕ → List ℕ
+responded_in m n at xs = saved (pasted m at xs) n (responded (loaded m n) (length xs))
 
 -- the rows of the counts lie side by side: where they begin
-abbrev pub countsAt : ℕ
-countsAt = 160
+abbrev pub counts_at : ℕ
+counts_at = 160
 
 -- how many octets they have together
-abbrev pub countsLength : ℕ
-countsLength = 32
+abbrev pub counts_length : ℕ
+counts_length = 32
 
 -- "WAIT_PRM empties all channels": no count is left
 unfoldable pub emptied : List ℕ → List ℕ
-emptied m = pasted m countsAt (replicate countsLength 0)
+emptied m = pasted m counts_at (replicate counts_length 0)

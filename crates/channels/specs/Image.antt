@@ -9,28 +9,28 @@ abbrev pub channels : ℕ
 channels = 16
 
 -- where the first row begins
-abbrev pub channelsAt : ℕ
-channelsAt = 128
+abbrev pub channels_at : ℕ
+channels_at = 128
 
 -- how many rows there are: the indications' lengths, the responses' lengths, and the counts of both
 abbrev pub rows : ℕ
 rows = 4
 
 -- how many octets they have together
-abbrev pub rowsLength : ℕ
-rowsLength = 64
+abbrev pub rows_length : ℕ
+rows_length = 64
 
 -- where the last row ends
-abbrev pub rowsEnd : ℕ
-rowsEnd = 192
+abbrev pub rows_end : ℕ
+rows_end = 192
 
 -- the place of channel n's octet in row r
 abbrev pub cell : ℕ → ℕ → ℕ
-cell r n = channelsAt + channels * r + n
+cell r n = channels_at + channels * r + n
 
 -- the octet there
-abbrev pub octetAt : List ℕ → ℕ → ℕ → ℕ
-octetAt m r n = get_or m (cell r n) 0
+abbrev pub octet_at : List ℕ → ℕ → ℕ → ℕ
+octet_at m r n = get_or m (cell r n) 0
 
 -- one octet for each row
 abbrev pub image_of : Channel → List ℕ
@@ -40,10 +40,10 @@ image_of c = c.indication_len ∷ c.response_len ∷ c.indication_count ∷ c.re
 unfoldable pub loaded : List ℕ → ℕ → Channel
 loaded m n =
     record {
-      indication_len = octetAt m 0 n;
-      response_len = octetAt m 1 n;
-      indication_count = octetAt m 2 n;
-      response_count = octetAt m 3 n;
+      indication_len = octet_at m 0 n;
+      response_len = octet_at m 1 n;
+      indication_count = octet_at m 2 n;
+      response_count = octet_at m 3 n;
     }
 
 -- octets written in column n from row r on
@@ -56,21 +56,21 @@ unfoldable pub saved : List ℕ → ℕ → Channel → List ℕ
 saved m n c = wrote m n 0 (image_of c)
 
 -- where the poll lies: its channel, and behind that its SSAP; any value is a state
-abbrev pub pollAt : ℕ
-pollAt = 192
+abbrev pub poll_at : ℕ
+poll_at = 192
 
 -- where it ends
-abbrev pub pollEnd : ℕ
-pollEnd = 194
+abbrev pub poll_end : ℕ
+poll_end = 194
 
 -- the poll of a memory
-unfoldable pub pollIn : List ℕ → Poll
-pollIn m = record { channel = get_or m pollAt 0; ssap = get_or m (suc pollAt) 0 }
+unfoldable pub poll_in : List ℕ → Poll
+poll_in m = record { channel = get_or m poll_at 0; ssap = get_or m (suc poll_at) 0 }
 
 -- a memory with the poll written
-unfoldable pub pollSaved : List ℕ → Poll → List ℕ
-pollSaved m p = set (set m pollAt p.channel) (suc pollAt) p.ssap
+unfoldable pub poll_saved : List ℕ → Poll → List ℕ
+poll_saved m p = set (set m poll_at p.channel) (suc poll_at) p.ssap
 
 -- as Start leaves it
-abbrev pub noPoll : Poll
-noPoll = record { channel = 0; ssap = 0 }
+abbrev pub no_poll : Poll
+no_poll = record { channel = 0; ssap = 0 }

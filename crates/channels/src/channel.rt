@@ -1,6 +1,6 @@
 // A channel by value, and its place in the state part: one octet in each of four rows of sixteen.
 ghost use Rattle.std.specs.Prelude.{◌≡◌, ◌<◌, ◌≤◌, length};
-ghost use Rattle.channels.specs.Image.{channels, rowsEnd, loaded, saved};
+ghost use Rattle.channels.specs.Image.{channels, rows_end, loaded, saved};
 
 // The lengths of both buffers, 0 and 0 for a channel that is not set up, and how many octets of each are in use, 0 for none.
 #[derive(Drop)]
@@ -16,7 +16,7 @@ pub const CHANNELS_AT: usize = 128;
 
 // Channel n.
 pub fn load(mem: &[u8], n: usize) -> Channel
-    requires { (n < channels) × (rowsEnd ≤ length mem.now) }
+    requires { (n < channels) × (rows_end ≤ length mem.now) }
     ensures { result ≡ loaded mem.now n }
 {
     Channel {
@@ -29,7 +29,7 @@ pub fn load(mem: &[u8], n: usize) -> Channel
 
 // Channel n is c.
 pub fn save(c: Channel, n: usize, mem: &mut [u8])
-    requires { (n < channels) × (rowsEnd ≤ length mem.old) }
+    requires { (n < channels) × (rows_end ≤ length mem.old) }
     ensures { mem.new ≡ saved mem.old n c }
 {
     mem[128 + n] = c.indication_len;

@@ -1,36 +1,36 @@
 // What becomes of a channel. A request is open, so that the channel is occupied, exactly if the indication's count is not 0.
 ghost use Rattle.std.specs.Prelude.{◌≡◌, ◌+◌, ◌<◌, ◌≤◌, length};
-ghost use Rattle.channels.specs.Image.{channels, rowsEnd};
-ghost use Rattle.channels.specs.Deeds.{isOpen, isGiven, takesResponse, isSetUp, filled, responded, freed, noChannel, channelIn, filledIn, freedIn, respondedIn, emptied};
+ghost use Rattle.channels.specs.Image.{channels, rows_end};
+ghost use Rattle.channels.specs.Deeds.{is_open, is_given, takes_response, is_set_up, filled, responded, freed, no_channel, channel_in, filled_in, freed_in, responded_in, emptied};
 
 use crate::channel::{Channel, load, save};
 use octets::{clear_at, copy_at};
 
 // A request is open.
 pub fn is_open(c: Channel) -> bool
-    ensures { result ≡ isOpen c }
+    ensures { result ≡ is_open c }
 {
     c.indication_count != 0
 }
 
 // A response is kept, whether its reply ended or not.
 pub fn is_given(c: Channel) -> bool
-    ensures { result ≡ isGiven c }
+    ensures { result ≡ is_given c }
 {
     c.response_count != 0
 }
 
 // It takes a response of k octets: a request is open, none was given, and its buffer holds them.
 pub fn takes_response(c: Channel, k: usize) -> bool
-    ensures { result ≡ takesResponse c k }
+    ensures { result ≡ takes_response c k }
 {
     is_open(c) & !is_given(c) & (k != 0) & (k <= c.response_len as usize)
 }
 
 // Whether there is a channel of that number, and it is set up.
 pub fn is_set_up(mem: &[u8], n: u32) -> bool
-    requires { rowsEnd ≤ length mem.now }
-    ensures { result ≡ isSetUp mem.now n }
+    requires { rows_end ≤ length mem.now }
+    ensures { result ≡ is_set_up mem.now n }
 {
     if 16 <= n {
         return false;
@@ -66,7 +66,7 @@ fn freed(mut c: Channel) -> Channel
 
 // What a channel is whose number is above 15.
 fn no_channel() -> Channel
-    ensures { result ≡ noChannel }
+    ensures { result ≡ no_channel }
 {
     Channel {
         indication_len: 0,
@@ -78,8 +78,8 @@ fn no_channel() -> Channel
 
 // Channel n, where there is one of that number.
 pub fn channel_in(mem: &[u8], n: u8) -> Channel
-    requires { rowsEnd ≤ length mem.now }
-    ensures { result ≡ channelIn mem.now n }
+    requires { rows_end ≤ length mem.now }
+    ensures { result ≡ channel_in mem.now n }
 {
     if n < 16 {
         return load(mem, n as usize);
@@ -89,8 +89,8 @@ pub fn channel_in(mem: &[u8], n: u8) -> Channel
 
 // A request of so many octets, which stand in its buffer, fills channel n.
 pub fn fill(mem: &mut [u8], n: u8, count: u8)
-    requires { rowsEnd ≤ length mem.old }
-    ensures { mem.new ≡ filledIn mem.old n count }
+    requires { rows_end ≤ length mem.old }
+    ensures { mem.new ≡ filled_in mem.old n count }
 {
     if n < 16 {
         let c = load(&mem[..], n as usize);
@@ -100,8 +100,8 @@ pub fn fill(mem: &mut [u8], n: u8, count: u8)
 
 // The end of a response's reply frees channel n.
 pub fn free(mem: &mut [u8], n: u8)
-    requires { rowsEnd ≤ length mem.old }
-    ensures { mem.new ≡ freedIn mem.old n }
+    requires { rows_end ≤ length mem.old }
+    ensures { mem.new ≡ freed_in mem.old n }
 {
     if n < 16 {
         let c = load(&mem[..], n as usize);
@@ -111,8 +111,8 @@ pub fn free(mem: &mut [u8], n: u8)
 
 // A response is written to its place, and channel n counts it.
 pub fn respond(mem: &mut [u8], n: usize, at: usize, response: &[u8])
-    requires { (n < channels) × (rowsEnd ≤ length mem.old) × (at + length response.now ≤ length mem.old) × (length response.now ≤ 255) }
-    ensures { mem.new ≡ respondedIn mem.old n at response.now }
+    requires { (n < channels) × (rows_end ≤ length mem.old) × (at + length response.now ≤ length mem.old) × (length response.now ≤ 255) }
+    ensures { mem.new ≡ responded_in mem.old n at response.now }
 {
     let c = load(&mem[..], n);
     copy_at(mem, at, response);
@@ -121,7 +121,7 @@ pub fn respond(mem: &mut [u8], n: usize, at: usize, response: &[u8])
 
 // WAIT_PRM empties all channels: no count is left.
 pub fn empty_all(mem: &mut [u8])
-    requires { rowsEnd ≤ length mem.old }
+    requires { rows_end ≤ length mem.old }
     ensures { mem.new ≡ emptied mem.old }
 {
     clear_at(mem, 160, 32);

@@ -1,15 +1,15 @@
 // Where the buffers of channel n lie: behind those of the channels before it. The sum is made where it is needed; nothing of it is kept.
 ghost use Rattle.std.specs.Prelude.{◌≡◌, ◌<◌, ◌≤◌, length};
-ghost use Rattle.channels.specs.Image.{channels, rowsEnd};
-ghost use Rattle.channels.specs.Places.{indication, response, lengthsIn, roomFrom, bufferAt};
+ghost use Rattle.channels.specs.Image.{channels, rows_end};
+ghost use Rattle.channels.specs.Places.{indication, response, lengths_in, room_from, buffer_at};
 
 use crate::channel::load;
 use octets::rounded_up;
 
 // How much room the buffers of the channels before channel n take.
 fn room_before(mem: &[u8], n: usize) -> usize
-    requires { (n < channels) × (rowsEnd ≤ length mem.now) }
-    ensures { (result ≡ roomFrom (lengthsIn mem.now) 0 n) × (result ≤ 8192) }
+    requires { (n < channels) × (rows_end ≤ length mem.now) }
+    ensures { (result ≡ room_from (lengths_in mem.now) 0 n) × (result ≤ 8192) }
 {
     let mut room = 0;
     let mut k = 0;
@@ -23,16 +23,16 @@ fn room_before(mem: &[u8], n: usize) -> usize
 
 // Where its indication begins. from: where the first channel's buffers begin.
 pub fn indication_at(mem: &[u8], from: usize, n: usize) -> usize
-    requires { (n < channels) × (rowsEnd ≤ length mem.now) × (from ≤ 65536) }
-    ensures { (result ≡ bufferAt (lengthsIn mem.now) from n indication) × (result ≤ 73728) }
+    requires { (n < channels) × (rows_end ≤ length mem.now) × (from ≤ 65536) }
+    ensures { (result ≡ buffer_at (lengths_in mem.now) from n indication) × (result ≤ 73728) }
 {
     from + room_before(mem, n)
 }
 
 // Where its response begins.
 pub fn response_at(mem: &[u8], from: usize, n: usize) -> usize
-    requires { (n < channels) × (rowsEnd ≤ length mem.now) × (from ≤ 65536) }
-    ensures { result ≡ bufferAt (lengthsIn mem.now) from n response }
+    requires { (n < channels) × (rows_end ≤ length mem.now) × (from ≤ 65536) }
+    ensures { result ≡ buffer_at (lengths_in mem.now) from n response }
 {
     let c = load(mem, n);
     indication_at(mem, from, n) + rounded_up(c.indication_len)

@@ -1,6 +1,6 @@
 // The newest poll of a channel that drew its response, and its place in the state part: two octets behind the rows.
 ghost use Rattle.std.specs.Prelude.{◌≡◌, ◌≤◌, length};
-ghost use Rattle.channels.specs.Image.{pollEnd, pollIn, pollSaved};
+ghost use Rattle.channels.specs.Image.{poll_end, poll_in, poll_saved};
 
 // The channel, which is the poll's DSAP, and its SSAP. The reply to it, and to its repeat, is formed by them.
 #[derive(Drop)]
@@ -11,8 +11,8 @@ pub struct Poll {
 
 // The poll of a memory.
 pub fn load_poll(mem: &[u8]) -> Poll
-    requires { pollEnd ≤ length mem.now }
-    ensures { result ≡ pollIn mem.now }
+    requires { poll_end ≤ length mem.now }
+    ensures { result ≡ poll_in mem.now }
 {
     Poll {
         channel: mem[192],
@@ -22,8 +22,8 @@ pub fn load_poll(mem: &[u8]) -> Poll
 
 // The poll is p.
 pub fn save_poll(p: Poll, mem: &mut [u8])
-    requires { pollEnd ≤ length mem.old }
-    ensures { mem.new ≡ pollSaved mem.old p }
+    requires { poll_end ≤ length mem.old }
+    ensures { mem.new ≡ poll_saved mem.old p }
 {
     mem[192] = p.channel;
     mem[193] = p.ssap;

@@ -1,8 +1,8 @@
 // Start: the lengths that it is given become the channels.
 ghost use Rattle.std.specs.Prelude.{◌≡◌, ◌≤◌, length};
-ghost use Rattle.channels.specs.Image.{channels, rowsEnd};
-ghost use Rattle.channels.specs.Places.{roomOf};
-ghost use Rattle.channels.specs.Setting.{lengthOctets, lengthsGiven, lengthsOk, setUp};
+ghost use Rattle.channels.specs.Image.{channels, rows_end};
+ghost use Rattle.channels.specs.Places.{room_of};
+ghost use Rattle.channels.specs.Setting.{length_octets, lengths_given, lengths_ok, set_up};
 
 use crate::channel::{Channel, save};
 use crate::survey;
@@ -10,7 +10,7 @@ use octets::rounded_up;
 
 // Whether there are 32 octets, and every channel's lengths are allowed.
 pub fn lengths_ok(lengths: &[u8]) -> bool
-    ensures { result ≡ lengthsOk lengths.now }
+    ensures { result ≡ lengths_ok lengths.now }
 {
     if lengths.len() != 32 {
         return false;
@@ -27,8 +27,8 @@ pub fn lengths_ok(lengths: &[u8]) -> bool
 
 // How much room the buffers take.
 pub fn room_for(lengths: &[u8]) -> usize
-    requires { length lengths.now ≡ lengthOctets }
-    ensures { (result ≡ roomOf (lengthsGiven lengths.now)) × (result ≤ 8192) }
+    requires { length lengths.now ≡ length_octets }
+    ensures { (result ≡ room_of (lengths_given lengths.now)) × (result ≤ 8192) }
 {
     let mut room = 0;
     let mut n = 0;
@@ -41,8 +41,8 @@ pub fn room_for(lengths: &[u8]) -> usize
 
 // Every channel with its lengths, and free.
 pub fn set_up(mem: &mut [u8], lengths: &[u8])
-    requires { (length lengths.now ≡ lengthOctets) × (rowsEnd ≤ length mem.old) }
-    ensures { mem.new ≡ setUp mem.old lengths.now channels }
+    requires { (length lengths.now ≡ length_octets) × (rows_end ≤ length mem.old) }
+    ensures { mem.new ≡ set_up mem.old lengths.now channels }
 {
     let mut n = 0;
     while n < 16 {

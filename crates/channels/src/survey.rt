@@ -1,9 +1,9 @@
 // What the damage check finds of the channels: four of them at once, an octet of each in half a word.
 ghost use Rattle.std.specs.Prelude.{◌≡◌, true, ◌+◌, ◌*◌, ◌≤◌, eqb, length};
 ghost use Rattle.ranges.specs.Octets.{octets};
-ghost use Rattle.channels.specs.Image.{channels, rowsEnd};
-ghost use Rattle.channels.specs.Rules.{lengthsTest, allKeep, wellAt, eachFrom};
-ghost use Rattle.channels.specs.Places.{lengthsIn, roomFrom, surveyed};
+ghost use Rattle.channels.specs.Image.{channels, rows_end};
+ghost use Rattle.channels.specs.Rules.{lengths_test, all_keep, well_at, each_from};
+ghost use Rattle.channels.specs.Places.{lengths_in, room_from, surveyed};
 
 use ranges::{checks, word};
 
@@ -16,7 +16,7 @@ pub enum Survey {
 
 // Both lengths of a channel: 0 and 0, or each 4 to 240.
 pub fn lengths_ok(a: u8, b: u8) -> bool
-    ensures { result ≡ lengthsTest a b }
+    ensures { result ≡ lengths_test a b }
 {
     if a == 0 {
         return b == 0;
@@ -29,7 +29,7 @@ const MOST: u32 = 0xf0f0_f0f0;
 
 // Four channels by their lengths and counts: 0 exactly if each of them keeps the rules.
 fn broken(a: u32, b: u32, c: u32, d: u32) -> u32
-    ensures { eqb result 0 ≡ allKeep (octets 4 a) (octets 4 b) (octets 4 c) (octets 4 d) }
+    ensures { eqb result 0 ≡ all_keep (octets 4 a) (octets 4 b) (octets 4 c) (octets 4 d) }
 {
     word::exceeds(a, MOST)
         | word::exceeds(b, MOST)
@@ -40,8 +40,8 @@ fn broken(a: u32, b: u32, c: u32, d: u32) -> u32
 
 // Four channels from channel k on: 0 exactly if each of them keeps the rules.
 fn broken_at(mem: &[u8], k: usize) -> u32
-    requires { (k + 4 ≤ channels) × (rowsEnd ≤ length mem.now) }
-    ensures { eqb result 0 ≡ eachFrom (wellAt mem.now) k 4 }
+    requires { (k + 4 ≤ channels) × (rows_end ≤ length mem.now) }
+    ensures { eqb result 0 ≡ each_from (well_at mem.now) k 4 }
 {
     broken(
         word::half(mem, 128 + k),
@@ -53,8 +53,8 @@ fn broken_at(mem: &[u8], k: usize) -> u32
 
 // An eighth of the room that the buffers of four channels from channel k on take.
 fn eighths_at(mem: &[u8], k: usize) -> u32
-    requires { (k + 4 ≤ channels) × (rowsEnd ≤ length mem.now) × (eachFrom (wellAt mem.now) k 4 ≡ true) }
-    ensures { (8 * result ≡ roomFrom (lengthsIn mem.now) k 4) × (result ≤ 256) }
+    requires { (k + 4 ≤ channels) × (rows_end ≤ length mem.now) × (each_from (well_at mem.now) k 4 ≡ true) }
+    ensures { (8 * result ≡ room_from (lengths_in mem.now) k 4) × (result ≤ 256) }
 {
     let indications = word::eighths(word::half(mem, 128 + k));
     let responses = word::eighths(word::half(mem, 144 + k));
@@ -63,7 +63,7 @@ fn eighths_at(mem: &[u8], k: usize) -> u32
 
 // The first four channels.
 fn first_four(mem: &[u8]) -> Survey
-    requires { rowsEnd ≤ length mem.now }
+    requires { rows_end ≤ length mem.now }
     ensures { result ≡ surveyed mem.now 0 4 }
 {
     if broken_at(mem, 0) != 0 {
@@ -75,23 +75,23 @@ fn first_four(mem: &[u8]) -> Survey
 
 // All of them: 0 exactly if each keeps the rules. One comparison with 0 at the end: the compiler makes vectors of the four.
 fn all_broken(mem: &[u8]) -> u32
-    requires { rowsEnd ≤ length mem.now }
-    ensures { eqb result 0 ≡ eachFrom (wellAt mem.now) 0 channels }
+    requires { rows_end ≤ length mem.now }
+    ensures { eqb result 0 ≡ each_from (well_at mem.now) 0 channels }
 {
     broken_at(mem, 0) | broken_at(mem, 4) | broken_at(mem, 8) | broken_at(mem, 12)
 }
 
 // An eighth of the room that all buffers take.
 fn all_eighths(mem: &[u8]) -> u32
-    requires { (rowsEnd ≤ length mem.now) × (eachFrom (wellAt mem.now) 0 channels ≡ true) }
-    ensures { (8 * result ≡ roomFrom (lengthsIn mem.now) 0 channels) × (result ≤ 1024) }
+    requires { (rows_end ≤ length mem.now) × (each_from (well_at mem.now) 0 channels ≡ true) }
+    ensures { (8 * result ≡ room_from (lengths_in mem.now) 0 channels) × (result ≤ 1024) }
 {
     eighths_at(mem, 0) + eighths_at(mem, 4) + eighths_at(mem, 8) + eighths_at(mem, 12)
 }
 
 // All of them.
 fn all(mem: &[u8]) -> Survey
-    requires { rowsEnd ≤ length mem.now }
+    requires { rows_end ≤ length mem.now }
     ensures { result ≡ surveyed mem.now 0 channels }
 {
     if all_broken(mem) != 0 {
@@ -103,7 +103,7 @@ fn all(mem: &[u8]) -> Survey
 
 // All of them. Few stations use more than four.
 pub fn survey_of(mem: &[u8]) -> Survey
-    requires { rowsEnd ≤ length mem.now }
+    requires { rows_end ≤ length mem.now }
     ensures { result ≡ surveyed mem.now 0 channels }
 {
     if !checks::nothing_across(mem, 132, 16) {

@@ -4,6 +4,6 @@ use Rattle.ledger.specs.Bench.{BenchAnswered}
 use Rattle.ledger.proofs.Scripts.{written}
 use Rattle.ledger.proofs.Computing.{computing}
 
-pub bench-answers : BenchAnswered
+pub bench_answers : BenchAnswered
 unfolding computing
-bench-answers = written refl
+bench_answers = written refl

@@ -9,11 +9,11 @@ use Rattle.state.specs.declared.answer.Refusal.{Refusal}
 use Rattle.state.specs.declared.answer.Refusal.TheVariants.{Judging, Range, Absent, Delayed}
 use Rattle.state.specs.Well.{within}
 use Rattle.rules.specs.Diagnosis.{delayed, diagnosed, delaying}
-use Rattle.rules.specs.User.{judgedParameters, judgedConfiguration}
-use Rattle.ledger.specs.Lists.{some, takenOutputs, withOutputs}
-use Rattle.ledger.specs.Ledger.{Ledger, withControl, withBuffers, diagnosisLeaves, parametersOpen, configurationOpen}
-use Rattle.ledger.specs.Outcome.{carried, diagnosisChanged}
-use Rattle.ledger.specs.User.{Told, told, refusing, absent, octetsOfKind, writtenOctet, takeOutputs, readOctet, writeOctet, newDiagnosis, judgeParameters, judgeConfiguration}
+use Rattle.rules.specs.User.{judged_parameters, judged_configuration}
+use Rattle.ledger.specs.Lists.{some, taken_outputs, with_outputs}
+use Rattle.ledger.specs.Ledger.{Ledger, with_control, with_buffers, diagnosis_leaves, parameters_open, configuration_open}
+use Rattle.ledger.specs.Outcome.{carried, diagnosis_changed}
+use Rattle.ledger.specs.User.{Told, told, refusing, absent, octets_of_kind, written_octet, take_outputs, read_octet, write_octet, new_diagnosis, judge_parameters, judge_configuration}
 use Rattle.rules.specs.Kinds.{in_range, writable}
 
 module _ (P : Told → Type 0) where
@@ -35,66 +35,66 @@ module _ (P : Told → Type 0) where
 
   module _ (l : Ledger) where
     pub take_cases : (l.buffers.outputs.fresh ≡ false → P (told 0 l))
-        → (l.buffers.outputs.fresh ≡ true → P (told (cond l.buffers.outputs.zeros 2 1) (withBuffers l (withOutputs l.buffers (takenOutputs l.buffers.outputs)))))
-        → P (takeOutputs l)
-    unfolding takeOutputs
+        → (l.buffers.outputs.fresh ≡ true → P (told (cond l.buffers.outputs.zeros 2 1) (with_buffers l (with_outputs l.buffers (taken_outputs l.buffers.outputs)))))
+        → P (take_outputs l)
+    unfolding take_outputs
     take_cases f g = go l.buffers.outputs.fresh refl
       where
         go : (t : Bool) → l.buffers.outputs.fresh ≡ t
-            → P (cond (not t) (told 0 l) (told (cond l.buffers.outputs.zeros 2 1) (withBuffers l (withOutputs l.buffers (takenOutputs l.buffers.outputs)))))
+            → P (cond (not t) (told 0 l) (told (cond l.buffers.outputs.zeros 2 1) (with_buffers l (with_outputs l.buffers (taken_outputs l.buffers.outputs)))))
         go true e = g e
         go false e = f e
 
-    pub read-cases : (kind index : ℕ) → ((r : Refusal) → P (refusing r l)) → P (told (get_or (octetsOfKind l.buffers kind) index 0) l)
-        → P (readOctet l kind index)
-    unfolding readOctet
-    read-cases kind index f g =
-        then l (in_range l.setup kind index) (absent l kind index) Range Absent (told (get_or (octetsOfKind l.buffers kind) index 0) l) f (λ _ _. g)
+    pub read_cases : (kind index : ℕ) → ((r : Refusal) → P (refusing r l)) → P (told (get_or (octets_of_kind l.buffers kind) index 0) l)
+        → P (read_octet l kind index)
+    unfolding read_octet
+    read_cases kind index f g =
+        then l (in_range l.setup kind index) (absent l kind index) Range Absent (told (get_or (octets_of_kind l.buffers kind) index 0) l) f (λ _ _. g)
 
-    pub write-cases : (kind index x : ℕ) → ((r : Refusal) → P (refusing r l)) → P (told 0 (withBuffers l (writtenOctet l.buffers kind index x)))
-        → P (writeOctet l kind index x)
-    unfolding writeOctet
-    write-cases kind index x f g =
+    pub write_cases : (kind index x : ℕ) → ((r : Refusal) → P (refusing r l)) → P (told 0 (with_buffers l (written_octet l.buffers kind index x)))
+        → P (write_octet l kind index x)
+    unfolding write_octet
+    write_cases kind index x f g =
         then l (writable kind && in_range l.setup kind index) (absent l kind index) Range Absent
-        (told 0 (withBuffers l (writtenOctet l.buffers kind index x))) f (λ _ _. g)
+        (told 0 (with_buffers l (written_octet l.buffers kind index x))) f (λ _ _. g)
 
     -- delayed, or at once
-    pub diagnosis-cases : (count flags : ℕ) → ((r : Refusal) → P (refusing r l))
-        → (within 6 count l.setup.diagnosis_len && leb flags 7 ≡ true → P (told 0 (withControl l (delaying l.control count flags))))
-        → (within 6 count l.setup.diagnosis_len && leb flags 7 ≡ true → P (told 0 (diagnosisChanged l (diagnosed l.control count flags))))
-        → P (newDiagnosis l count flags)
-    unfolding newDiagnosis
-    diagnosis-cases count flags f g h =
+    pub diagnosis_cases : (count flags : ℕ) → ((r : Refusal) → P (refusing r l))
+        → (within 6 count l.setup.diagnosis_len && leb flags 7 ≡ true → P (told 0 (with_control l (delaying l.control count flags))))
+        → (within 6 count l.setup.diagnosis_len && leb flags 7 ≡ true → P (told 0 (diagnosis_changed l (diagnosed l.control count flags))))
+        → P (new_diagnosis l count flags)
+    unfolding new_diagnosis
+    diagnosis_cases count flags f g h =
         then l (within 6 count l.setup.diagnosis_len && leb flags 7) (delayed l.control) Range Delayed
-        (cond (diagnosisLeaves l) (told 0 (withControl l (delaying l.control count flags))) (told 0 (diagnosisChanged l (diagnosed l.control count flags))))
-        f (λ e _. go (diagnosisLeaves l) e)
+        (cond (diagnosis_leaves l) (told 0 (with_control l (delaying l.control count flags))) (told 0 (diagnosis_changed l (diagnosed l.control count flags))))
+        f (λ e _. go (diagnosis_leaves l) e)
       where
         go : (t : Bool) → within 6 count l.setup.diagnosis_len && leb flags 7 ≡ true
-            → P (cond t (told 0 (withControl l (delaying l.control count flags))) (told 0 (diagnosisChanged l (diagnosed l.control count flags))))
+            → P (cond t (told 0 (with_control l (delaying l.control count flags))) (told 0 (diagnosis_changed l (diagnosed l.control count flags))))
         go true e = g e
         go false e = h e
 
-    pub parameters-cases : (j : ℕ) → (parametersOpen l && leb j 1 ≡ false → (r : Refusal) → P (refusing r l))
-        → (parametersOpen l && leb j 1 ≡ true
+    pub parameters_cases : (j : ℕ) → (parameters_open l && leb j 1 ≡ false → (r : Refusal) → P (refusing r l))
+        → (parameters_open l && leb j 1 ≡ true
         → P (told (cond (some l.buffers.parameters.waiting) 1 0)
-        (carried l (judgedParameters l.control (some l.buffers.parameters.waiting) (eqb j 1)) [])))
-        → P (judgeParameters l j)
-    unfolding judgeParameters
-    parameters-cases j f g =
-        twice l (parametersOpen l) (leb j 1) Judging Range
+        (carried l (judged_parameters l.control (some l.buffers.parameters.waiting) (eqb j 1)) [])))
+        → P (judge_parameters l j)
+    unfolding judge_parameters
+    parameters_cases j f g =
+        twice l (parameters_open l) (leb j 1) Judging Range
         (told (cond (some l.buffers.parameters.waiting) 1 0)
-        (carried l (judgedParameters l.control (some l.buffers.parameters.waiting) (eqb j 1)) []))
+        (carried l (judged_parameters l.control (some l.buffers.parameters.waiting) (eqb j 1)) []))
         f g
 
-    pub configuration-cases : (j : ℕ)
-        → (configurationOpen l && l.control.flags.parameters_good && leb j 1 ≡ false → (r : Refusal) → P (refusing r l))
-        → (configurationOpen l && l.control.flags.parameters_good && leb j 1 ≡ true
+    pub configuration_cases : (j : ℕ)
+        → (configuration_open l && l.control.flags.parameters_good && leb j 1 ≡ false → (r : Refusal) → P (refusing r l))
+        → (configuration_open l && l.control.flags.parameters_good && leb j 1 ≡ true
         → P (told (cond (some l.buffers.configuration.waiting) 1 0)
-        (carried l (judgedConfiguration l.control (some l.buffers.configuration.waiting) (eqb j 1)) [])))
-        → P (judgeConfiguration l j)
-    unfolding judgeConfiguration
-    configuration-cases j f g =
-        twice l (configurationOpen l && l.control.flags.parameters_good) (leb j 1) Judging Range
+        (carried l (judged_configuration l.control (some l.buffers.configuration.waiting) (eqb j 1)) [])))
+        → P (judge_configuration l j)
+    unfolding judge_configuration
+    configuration_cases j f g =
+        twice l (configuration_open l && l.control.flags.parameters_good) (leb j 1) Judging Range
         (told (cond (some l.buffers.configuration.waiting) 1 0)
-        (carried l (judgedConfiguration l.control (some l.buffers.configuration.waiting) (eqb j 1)) []))
+        (carried l (judged_configuration l.control (some l.buffers.configuration.waiting) (eqb j 1)) []))
         f g

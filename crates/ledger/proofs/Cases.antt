@@ -8,7 +8,7 @@ use mathlib.Core.List.{List, [], ◌∷◌, ◌++◌}
 use Rattle.telegram.proofs.Framing.{framing}
 use Rattle.state.specs.declared.answer.Refusal.TheVariants.{Judging, Range, Absent, Delayed}
 use Rattle.ledger.specs.Ledger.{Ledger, fresh}
-use Rattle.rules.specs.Call.{octet, gap, send, tick, take, read, write, hand-over, new-diagnosis, judge-parameters, judge-configuration, events, acknowledge, leave}
+use Rattle.rules.specs.Call.{octet, gap, send, tick, take, read, write, hand_over_lem, new_diagnosis_lem, judge_parameters_lem, judge_configuration_lem, events, acknowledge, leave}
 use Rattle.ledger.specs.Calls.{after}
 use Rattle.ledger.specs.Exchange.{Inner}
 use Rattle.ledger.specs.Script.{Part, hears, sends, does, refuses, Answers, station}
@@ -20,36 +20,36 @@ abbrev pub started : Ledger
 started = fresh (station 1 1 10 4 10 2) (0x20 ∷ 0x21 ∷ [])
 
 -- SD1, function 9
-abbrev statusRequest : List ℕ
-statusRequest = 0x10 ∷ 0x05 ∷ 0x02 ∷ 0x49 ∷ 0x50 ∷ 0x16 ∷ []
+abbrev status_request : List ℕ
+status_request = 0x10 ∷ 0x05 ∷ 0x02 ∷ 0x49 ∷ 0x50 ∷ 0x16 ∷ []
 
 -- Slave_Diag
-abbrev pub slaveDiag : List ℕ
-slaveDiag = 0x68 ∷ 0x05 ∷ 0x05 ∷ 0x68 ∷ 0x85 ∷ 0x82 ∷ 0x6D ∷ 0x3C ∷ 0x3E ∷ 0xEE ∷ 0x16 ∷ []
+abbrev pub slave_diag : List ℕ
+slave_diag = 0x68 ∷ 0x05 ∷ 0x05 ∷ 0x68 ∷ 0x85 ∷ 0x82 ∷ 0x6D ∷ 0x3C ∷ 0x3E ∷ 0xEE ∷ 0x16 ∷ []
 
 -- Set_Prm without a watchdog
-abbrev pub setPrm : List ℕ
-setPrm = 0x68 ∷ 0x0C ∷ 0x0C ∷ 0x68 ∷ 0x85 ∷ 0x82 ∷ 0x4D ∷ 0x3D ∷ 0x3E ∷ 0x80 ∷ 0x00 ∷ 0x00 ∷ 0x0B ∷ 0x80 ∷ 0xB3 ∷ 0x00 ∷ 0x8D ∷ 0x16 ∷ []
+abbrev pub set_prm : List ℕ
+set_prm = 0x68 ∷ 0x0C ∷ 0x0C ∷ 0x68 ∷ 0x85 ∷ 0x82 ∷ 0x4D ∷ 0x3D ∷ 0x3E ∷ 0x80 ∷ 0x00 ∷ 0x00 ∷ 0x0B ∷ 0x80 ∷ 0xB3 ∷ 0x00 ∷ 0x8D ∷ 0x16 ∷ []
 
 -- another one
-abbrev setPrm2 : List ℕ
-setPrm2 = 0x68 ∷ 0x0C ∷ 0x0C ∷ 0x68 ∷ 0x85 ∷ 0x82 ∷ 0x4D ∷ 0x3D ∷ 0x3E ∷ 0x80 ∷ 0x00 ∷ 0x00 ∷ 0x01 ∷ 0x80 ∷ 0xB3 ∷ 0x00 ∷ 0x83 ∷ 0x16 ∷ []
+abbrev set_prm2 : List ℕ
+set_prm2 = 0x68 ∷ 0x0C ∷ 0x0C ∷ 0x68 ∷ 0x85 ∷ 0x82 ∷ 0x4D ∷ 0x3D ∷ 0x3E ∷ 0x80 ∷ 0x00 ∷ 0x00 ∷ 0x01 ∷ 0x80 ∷ 0xB3 ∷ 0x00 ∷ 0x83 ∷ 0x16 ∷ []
 
 -- one with a watchdog of 2 ticks, on a base of 1 ms
-abbrev pub setPrmWatched : List ℕ
-setPrmWatched = 0x68 ∷ 0x0D ∷ 0x0D ∷ 0x68 ∷ 0x85 ∷ 0x82 ∷ 0x4D ∷ 0x3D ∷ 0x3E ∷ 0x88 ∷ 0x01 ∷ 0x02 ∷ 0x0B ∷ 0x80 ∷ 0xB3 ∷ 0x00 ∷ 0x04 ∷ 0x9C ∷ 0x16 ∷ []
+abbrev pub set_prm_watched : List ℕ
+set_prm_watched = 0x68 ∷ 0x0D ∷ 0x0D ∷ 0x68 ∷ 0x85 ∷ 0x82 ∷ 0x4D ∷ 0x3D ∷ 0x3E ∷ 0x88 ∷ 0x01 ∷ 0x02 ∷ 0x0B ∷ 0x80 ∷ 0xB3 ∷ 0x00 ∷ 0x04 ∷ 0x9C ∷ 0x16 ∷ []
 
 -- Chk_Cfg
-abbrev pub chkCfg : List ℕ
-chkCfg = 0x68 ∷ 0x07 ∷ 0x07 ∷ 0x68 ∷ 0x85 ∷ 0x82 ∷ 0x4D ∷ 0x3E ∷ 0x3E ∷ 0x20 ∷ 0x21 ∷ 0x11 ∷ 0x16 ∷ []
+abbrev pub chk_cfg : List ℕ
+chk_cfg = 0x68 ∷ 0x07 ∷ 0x07 ∷ 0x68 ∷ 0x85 ∷ 0x82 ∷ 0x4D ∷ 0x3E ∷ 0x3E ∷ 0x20 ∷ 0x21 ∷ 0x11 ∷ 0x16 ∷ []
 
 -- another one
-abbrev chkCfg2 : List ℕ
-chkCfg2 = 0x68 ∷ 0x06 ∷ 0x06 ∷ 0x68 ∷ 0x85 ∷ 0x82 ∷ 0x4D ∷ 0x3E ∷ 0x3E ∷ 0x01 ∷ 0xD1 ∷ 0x16 ∷ []
+abbrev chk_cfg2 : List ℕ
+chk_cfg2 = 0x68 ∷ 0x06 ∷ 0x06 ∷ 0x68 ∷ 0x85 ∷ 0x82 ∷ 0x4D ∷ 0x3E ∷ 0x3E ∷ 0x01 ∷ 0xD1 ∷ 0x16 ∷ []
 
 -- Data_Exchange with the output 11
-abbrev dataExchange : List ℕ
-dataExchange = 0x68 ∷ 0x04 ∷ 0x04 ∷ 0x68 ∷ 0x05 ∷ 0x02 ∷ 0x4D ∷ 0x11 ∷ 0x65 ∷ 0x16 ∷ []
+abbrev data_exchange : List ℕ
+data_exchange = 0x68 ∷ 0x04 ∷ 0x04 ∷ 0x68 ∷ 0x05 ∷ 0x02 ∷ 0x4D ∷ 0x11 ∷ 0x65 ∷ 0x16 ∷ []
 
 -- the reply to a status request
 abbrev status : List ℕ
@@ -66,11 +66,11 @@ e5 = 0xE5 ∷ []
 -- into DATA_EXCH
 abbrev entering : List Part
 entering =
-    does gap 0 ∷ hears setPrm ∷ sends e5 ∷ does send 256
-    ∷ does gap 0 ∷ hears chkCfg ∷ sends e5 ∷ does send 256 ∷ does (judge-parameters 1) 0 ∷ does (judge-configuration 1) 0 ∷ []
+    does gap 0 ∷ hears set_prm ∷ sends e5 ∷ does send 256
+    ∷ does gap 0 ∷ hears chk_cfg ∷ sends e5 ∷ does send 256 ∷ does (judge_parameters_lem 1) 0 ∷ does (judge_configuration_lem 1) 0 ∷ []
 
 -- the octet that breaks off
-breakoff-moment : Answers started
+breakoff_moment : Answers started
     (does gap 0 ∷ hears (0x10 ∷ []) ∷ does leave 0 ∷ does events 0x0000 ∷ hears (0x85 ∷ []) ∷ does events 0x2000 ∷ does (acknowledge 65535) 0
     ∷ does gap 0 ∷ hears (0x10 ∷ 0x05 ∷ []) ∷ does leave 0 ∷ hears (0x82 ∷ []) ∷ does events 0x2000 ∷ does (acknowledge 65535) 0
     ∷ does gap 0 ∷ hears (0x68 ∷ 0x04 ∷ 0x04 ∷ 0x68 ∷ []) ∷ does leave 0 ∷ hears (0x85 ∷ []) ∷ does events 0x2000 ∷ does (acknowledge 65535) 0
@@ -94,44 +94,44 @@ breakoff-moment : Answers started
     ∷ does gap 0 ∷ hears (0x68 ∷ 0xF9 ∷ 0xF9 ∷ []) ∷ does leave 0 ∷ does (octet 0x68 true) 0 ∷ does events 0x2000 ∷ does (acknowledge 65535) 0
     ∷ does gap 0 ∷ hears (0xA2 ∷ 0x85 ∷ 0x82 ∷ []) ∷ does leave 0 ∷ does events 0x0000 ∷ does tick 0 ∷ does events 0x2000 ∷ [])
 unfolding computing
-breakoff-moment = written refl
+breakoff_moment = written refl
 
 -- octets flagged bad
-bad-octets : Answers started
-    (does gap 0 ∷ does (octet 0x10 true) 0 ∷ hears statusRequest ∷ does send 256
+bad_octets : Answers started
+    (does gap 0 ∷ does (octet 0x10 true) 0 ∷ hears status_request ∷ does send 256
     ∷ does gap 0 ∷ hears (0x10 ∷ 0x05 ∷ 0x02 ∷ 0x49 ∷ []) ∷ does (octet 0x50 true) 0 ∷ hears (0x16 ∷ []) ∷ does send 256
     ∷ does gap 0 ∷ hears (0x10 ∷ 0x05 ∷ 0x02 ∷ 0x49 ∷ 0x50 ∷ []) ∷ does (octet 0x16 true) 0 ∷ does send 256
-    ∷ does gap 0 ∷ hears statusRequest ∷ sends status ∷ does send 256 ∷ [])
+    ∷ does gap 0 ∷ hears status_request ∷ sends status ∷ does send 256 ∷ [])
 unfolding computing
-bad-octets = written refl
+bad_octets = written refl
 
 -- another first octet keeps the reply
-other-first-octet-keeps-reply : Answers started
-    (does gap 0 ∷ hears statusRequest ∷ sends (0x10 ∷ [])
+other_first_octet_keeps_reply : Answers started
+    (does gap 0 ∷ hears status_request ∷ sends (0x10 ∷ [])
     ∷ does gap 0 ∷ hears (0xE5 ∷ []) ∷ sends (0x02 ∷ [])
     ∷ does gap 0 ∷ does (octet 0x68 true) 0 ∷ sends (0x05 ∷ [])
     ∷ does gap 0
     ∷ does gap 0 ∷ sends (0x00 ∷ [])
     ∷ does gap 0 ∷ hears (0xDC ∷ []) ∷ does send 256 ∷ [])
 unfolding computing
-other-first-octet-keeps-reply = written refl
+other_first_octet_keeps_reply = written refl
 
 -- a gap inside
-gap-inside-starts-afresh : Answers started
+gap_inside_starts_afresh : Answers started
     (does gap 0 ∷ hears (0x68 ∷ 0x05 ∷ 0x05 ∷ 0x68 ∷ 0x85 ∷ [])
-    ∷ does gap 0 ∷ hears statusRequest ∷ sends status ∷ does send 256 ∷ [])
+    ∷ does gap 0 ∷ hears status_request ∷ sends status ∷ does send 256 ∷ [])
 unfolding computing
-gap-inside-starts-afresh = written refl
+gap_inside_starts_afresh = written refl
 
 -- SD4 is without effect
-sd4-without-effect : Answers started
+sd4_without_effect : Answers started
     (entering ++ (does events 0x0002
-    ∷ does gap 0 ∷ hears (0xDC ∷ 0x05 ∷ 0x02 ∷ []) ∷ does send 256 ∷ hears statusRequest ∷ does send 256 ∷ does events 0x0002 ∷ does take 0 ∷ []))
+    ∷ does gap 0 ∷ hears (0xDC ∷ 0x05 ∷ 0x02 ∷ []) ∷ does send 256 ∷ hears status_request ∷ does send 256 ∷ does events 0x0002 ∷ does take 0 ∷ []))
 unfolding computing
-sd4-without-effect = written refl
+sd4_without_effect = written refl
 
 -- which telegrams act
-acting-conditions : Answers started
+acting_conditions : Answers started
     (does gap 0 ∷ hears (0x10 ∷ 0x06 ∷ 0x02 ∷ 0x49 ∷ 0x51 ∷ 0x16 ∷ []) ∷ does send 256
     ∷ does gap 0 ∷ hears (0x10 ∷ 0x05 ∷ 0x7F ∷ 0x49 ∷ 0xCD ∷ 0x16 ∷ []) ∷ does send 256
     ∷ does gap 0 ∷ hears (0x10 ∷ 0x05 ∷ 0x02 ∷ 0xC9 ∷ 0xD0 ∷ 0x16 ∷ []) ∷ does send 256
@@ -142,10 +142,10 @@ acting-conditions : Answers started
     ∷ does gap 0 ∷ hears (0x10 ∷ 0x05 ∷ 0x02 ∷ 0x79 ∷ 0x80 ∷ 0x16 ∷ []) ∷ sends status ∷ does send 256
     ∷ does gap 0 ∷ hears (0x10 ∷ 0x05 ∷ 0x7E ∷ 0x69 ∷ 0xEC ∷ 0x16 ∷ []) ∷ sends (0x10 ∷ 0x7E ∷ 0x05 ∷ 0x00 ∷ 0x83 ∷ 0x16 ∷ []) ∷ does send 256 ∷ [])
 unfolding computing
-acting-conditions = written refl
+acting_conditions = written refl
 
 -- service points, SSAP and data counts
-points-and-ssap : Answers started
+points_and_ssap : Answers started
     (entering ++ (does events 0x0002
     ∷ does gap 0 ∷ hears (0x68 ∷ 0x07 ∷ 0x07 ∷ 0x68 ∷ 0x85 ∷ 0x82 ∷ 0x4C ∷ 0x3A ∷ 0x3E ∷ 0x02 ∷ 0x00 ∷ 0xCD ∷ 0x16 ∷ []) ∷ sends rejected
     ∷ does send 256
@@ -162,10 +162,10 @@ points-and-ssap : Answers started
     ∷ does gap 0 ∷ hears (0xA2 ∷ 0x85 ∷ 0x82 ∷ 0x4C ∷ 0x3C ∷ 0x3E ∷ 0x00 ∷ 0x00 ∷ 0x00 ∷ 0x00 ∷ 0x00 ∷ 0x00 ∷ 0xCD ∷ 0x16 ∷ []) ∷ sends rejected
     ∷ does send 256 ∷ does events 0x0002 ∷ []))
 unfolding computing
-points-and-ssap = written refl
+points_and_ssap = written refl
 
 -- Set_Prm by another master
-set-prm-another-master : Answers started
+set_prm_another_master : Answers started
     (entering ++ (does events 0x0002
     ∷ does gap 0
     ∷ hears (0x68 ∷ 0x0C ∷ 0x0C ∷ 0x68 ∷ 0x85 ∷ 0x83 ∷ 0x4D ∷ 0x3D ∷ 0x3E ∷ 0x80 ∷ 0x00 ∷ 0x00 ∷ 0x0B ∷ 0x80 ∷ 0xB3 ∷ 0x00 ∷ 0x8E ∷ 0x16 ∷ [])
@@ -176,13 +176,13 @@ set-prm-another-master : Answers started
     ∷ hears (0x68 ∷ 0x0C ∷ 0x0C ∷ 0x68 ∷ 0x85 ∷ 0x83 ∷ 0x4D ∷ 0x3D ∷ 0x3E ∷ 0x40 ∷ 0x00 ∷ 0x00 ∷ 0x0B ∷ 0x80 ∷ 0xB3 ∷ 0x00 ∷ 0x4E ∷ 0x16 ∷ [])
     ∷ sends (0x10 ∷ 0x03 ∷ 0x05 ∷ 0x03 ∷ 0x0B ∷ 0x16 ∷ []) ∷ does send 256 ∷ does events 0x0002 ∷ []))
 unfolding computing
-set-prm-another-master = written refl
+set_prm_another_master = written refl
 
 -- Set_Prm's order
-set-prm-order : Answers started
+set_prm_order : Answers started
     (does gap 0 ∷ hears (0x68 ∷ 0x0B ∷ 0x0B ∷ 0x68 ∷ 0x85 ∷ 0x82 ∷ 0x4D ∷ 0x3D ∷ 0x3E ∷ 0x40 ∷ 0x00 ∷ 0x00 ∷ 0x0B ∷ 0x80 ∷ 0xB3 ∷ 0x4D ∷ 0x16 ∷ [])
     ∷ sends e5 ∷ does send 256 ∷ does events 0x2000 ∷ does take 2
-    ∷ does gap 0 ∷ hears slaveDiag
+    ∷ does gap 0 ∷ hears slave_diag
     ∷ sends (0x68 ∷ 0x0B ∷ 0x0B ∷ 0x68 ∷ 0x82 ∷ 0x85 ∷ 0x08 ∷ 0x3E ∷ 0x3C ∷ 0x42 ∷ 0x05 ∷ 0x00 ∷ 0xFF ∷ 0x80 ∷ 0xB3 ∷ 0x02 ∷ 0x16 ∷ [])
     ∷ does send 256
     ∷ does gap 0
@@ -197,21 +197,21 @@ set-prm-order : Answers started
     ∷ does gap 0
     ∷ hears (0x68 ∷ 0x0C ∷ 0x0C ∷ 0x68 ∷ 0x85 ∷ 0x82 ∷ 0x4D ∷ 0x3D ∷ 0x3E ∷ 0xA0 ∷ 0x00 ∷ 0x00 ∷ 0x0B ∷ 0x00 ∷ 0x00 ∷ 0x00 ∷ 0x7A ∷ 0x16 ∷ [])
     ∷ sends e5 ∷ does send 256 ∷ does take 2
-    ∷ does gap 0 ∷ hears slaveDiag
+    ∷ does gap 0 ∷ hears slave_diag
     ∷ sends (0x68 ∷ 0x0B ∷ 0x0B ∷ 0x68 ∷ 0x82 ∷ 0x85 ∷ 0x08 ∷ 0x3E ∷ 0x3C ∷ 0x42 ∷ 0x05 ∷ 0x00 ∷ 0xFF ∷ 0x80 ∷ 0xB3 ∷ 0x02 ∷ 0x16 ∷ [])
     ∷ does send 256
     ∷ does gap 0
     ∷ hears (0x68 ∷ 0x0C ∷ 0x0C ∷ 0x68 ∷ 0x85 ∷ 0x82 ∷ 0x4D ∷ 0x3D ∷ 0x3E ∷ 0xC0 ∷ 0x00 ∷ 0x00 ∷ 0x0B ∷ 0x00 ∷ 0x00 ∷ 0x00 ∷ 0x9A ∷ 0x16 ∷ [])
     ∷ sends e5 ∷ does send 256 ∷ does take 2
-    ∷ does gap 0 ∷ hears setPrm ∷ sends e5 ∷ does send 256 ∷ does events 0x2800
-    ∷ does gap 0 ∷ hears slaveDiag
+    ∷ does gap 0 ∷ hears set_prm ∷ sends e5 ∷ does send 256 ∷ does events 0x2800
+    ∷ does gap 0 ∷ hears slave_diag
     ∷ sends (0x68 ∷ 0x0B ∷ 0x0B ∷ 0x68 ∷ 0x82 ∷ 0x85 ∷ 0x08 ∷ 0x3E ∷ 0x3C ∷ 0x02 ∷ 0x04 ∷ 0x00 ∷ 0x02 ∷ 0x80 ∷ 0xB3 ∷ 0xC4 ∷ 0x16 ∷ [])
     ∷ does send 256 ∷ [])
 unfolding computing
-set-prm-order = written refl
+set_prm_order = written refl
 
 -- Set_Prm with faults
-set-prm-faults : Answers started
+set_prm_faults : Answers started
     (does gap 0
     ∷ hears (0x68 ∷ 0x0C ∷ 0x0C ∷ 0x68 ∷ 0x85 ∷ 0x82 ∷ 0x4D ∷ 0x3D ∷ 0x3E ∷ 0x80 ∷ 0x00 ∷ 0x00 ∷ 0x0B ∷ 0xB3 ∷ 0x80 ∷ 0x00 ∷ 0x8D ∷ 0x16 ∷ [])
     ∷ sends e5 ∷ does send 256 ∷ does events 0x2000
@@ -227,147 +227,147 @@ set-prm-faults : Answers started
     ∷ does gap 0
     ∷ hears (0x68 ∷ 0x0F ∷ 0x0F ∷ 0x68 ∷ 0x85 ∷ 0x82 ∷ 0x4D ∷ 0x3D ∷ 0x3E ∷ 0x88 ∷ 0x01 ∷ 0x02 ∷ 0x0B ∷ 0x80 ∷ 0xB3 ∷ 0x00 ∷ 0xAA ∷ 0xBB ∷ 0xCC ∷ 0xC9 ∷ 0x16 ∷ [])
     ∷ sends e5 ∷ does send 256 ∷ does events 0x2800 ∷ does (read 2 0) 0x88 ∷ does (read 2 9) 0xCC ∷ refuses (read 2 10) Range
-    ∷ does gap 0 ∷ hears slaveDiag
+    ∷ does gap 0 ∷ hears slave_diag
     ∷ sends (0x68 ∷ 0x0B ∷ 0x0B ∷ 0x68 ∷ 0x82 ∷ 0x85 ∷ 0x08 ∷ 0x3E ∷ 0x3C ∷ 0x02 ∷ 0x0C ∷ 0x00 ∷ 0x02 ∷ 0x80 ∷ 0xB3 ∷ 0xCC ∷ 0x16 ∷ [])
     ∷ does send 256 ∷ [])
 unfolding computing
-set-prm-faults = written refl
+set_prm_faults = written refl
 
 -- a good Set_Prm drops the configuration
-good-set-prm-drops-configuration : Answers started
-    (does gap 0 ∷ hears setPrm2 ∷ sends e5 ∷ does send 256 ∷ does (judge-parameters 1) 0
-    ∷ does gap 0 ∷ hears chkCfg2 ∷ sends e5 ∷ does send 256
+good_set_prm_drops_configuration : Answers started
+    (does gap 0 ∷ hears set_prm2 ∷ sends e5 ∷ does send 256 ∷ does (judge_parameters_lem 1) 0
+    ∷ does gap 0 ∷ hears chk_cfg2 ∷ sends e5 ∷ does send 256
     ∷ does gap 0 ∷ hears (0x68 ∷ 0x06 ∷ 0x06 ∷ 0x68 ∷ 0x85 ∷ 0x82 ∷ 0x4D ∷ 0x3E ∷ 0x3E ∷ 0x02 ∷ 0xD2 ∷ 0x16 ∷ []) ∷ sends e5 ∷ does send 256
     ∷ does events 0x0400
     ∷ does gap 0
     ∷ hears (0x68 ∷ 0x0C ∷ 0x0C ∷ 0x68 ∷ 0x85 ∷ 0x82 ∷ 0x4D ∷ 0x3D ∷ 0x3E ∷ 0x80 ∷ 0x00 ∷ 0x00 ∷ 0x02 ∷ 0x80 ∷ 0xB3 ∷ 0x00 ∷ 0x84 ∷ 0x16 ∷ [])
-    ∷ sends e5 ∷ does send 256 ∷ does events 0x0800 ∷ refuses (judge-configuration 1) Judging ∷ refuses (read 3 0) Absent
-    ∷ does (judge-parameters 1) 0 ∷ refuses (judge-configuration 1) Judging ∷ [])
+    ∷ sends e5 ∷ does send 256 ∷ does events 0x0800 ∷ refuses (judge_configuration_lem 1) Judging ∷ refuses (read 3 0) Absent
+    ∷ does (judge_parameters_lem 1) 0 ∷ refuses (judge_configuration_lem 1) Judging ∷ [])
 unfolding computing
-good-set-prm-drops-configuration = written refl
+good_set_prm_drops_configuration = written refl
 
 -- the owner leaves the station
-unlock-by-owner : Answers started
+unlock_by_owner : Answers started
     (entering ++ (does events 0x0002
     ∷ does gap 0
     ∷ hears (0x68 ∷ 0x0C ∷ 0x0C ∷ 0x68 ∷ 0x85 ∷ 0x82 ∷ 0x4D ∷ 0x3D ∷ 0x3E ∷ 0x40 ∷ 0x00 ∷ 0x00 ∷ 0x0B ∷ 0x00 ∷ 0x00 ∷ 0x00 ∷ 0x1A ∷ 0x16 ∷ [])
     ∷ sends e5 ∷ does send 256 ∷ does events 0x2002 ∷ does take 2
-    ∷ does gap 0 ∷ hears slaveDiag
+    ∷ does gap 0 ∷ hears slave_diag
     ∷ sends (0x68 ∷ 0x0B ∷ 0x0B ∷ 0x68 ∷ 0x82 ∷ 0x85 ∷ 0x08 ∷ 0x3E ∷ 0x3C ∷ 0x02 ∷ 0x05 ∷ 0x00 ∷ 0xFF ∷ 0x80 ∷ 0xB3 ∷ 0xC2 ∷ 0x16 ∷ [])
     ∷ does send 256 ∷ []))
 unfolding computing
-unlock-by-owner = written refl
+unlock_by_owner = written refl
 
 -- the watchdog of 3 ticks, on a base of 1 ms, is refilled
-watchdog-refill : Answers started
+watchdog_refill : Answers started
     (does gap 0
     ∷ hears (0x68 ∷ 0x0D ∷ 0x0D ∷ 0x68 ∷ 0x85 ∷ 0x82 ∷ 0x4D ∷ 0x3D ∷ 0x3E ∷ 0x88 ∷ 0x01 ∷ 0x03 ∷ 0x0B ∷ 0x80 ∷ 0xB3 ∷ 0x00 ∷ 0x04 ∷ 0x9D ∷ 0x16 ∷ [])
     ∷ sends e5 ∷ does send 256 ∷ does tick 0 ∷ does tick 0
-    ∷ does gap 0 ∷ hears statusRequest ∷ sends status ∷ does send 256 ∷ does tick 0 ∷ does tick 0
+    ∷ does gap 0 ∷ hears status_request ∷ sends status ∷ does send 256 ∷ does tick 0 ∷ does tick 0
     ∷ does gap 0 ∷ hears (0x10 ∷ 0x05 ∷ 0x02 ∷ 0x40 ∷ 0x47 ∷ 0x16 ∷ []) ∷ does tick 0 ∷ does tick 0
     ∷ does gap 0 ∷ hears (0x68 ∷ 0x04 ∷ 0x04 ∷ 0x68 ∷ 0x05 ∷ 0x02 ∷ 0x4D ∷ 0x00 ∷ 0x54 ∷ 0x16 ∷ []) ∷ sends rejected ∷ does send 256 ∷ does tick 0
     ∷ does tick 0 ∷ does events 0x0800
     ∷ does gap 0 ∷ hears (0x10 ∷ 0x05 ∷ 0x03 ∷ 0x49 ∷ 0x51 ∷ 0x16 ∷ []) ∷ sends (0x10 ∷ 0x03 ∷ 0x05 ∷ 0x00 ∷ 0x08 ∷ 0x16 ∷ []) ∷ does send 256
     ∷ does tick 0 ∷ does events 0x2008 ∷ [])
 unfolding computing
-watchdog-refill = written refl
+watchdog_refill = written refl
 
 -- the watchdog runs out on a busy line
-watchdog-expiry-on-busy-line : Answers started
-    (does gap 0 ∷ hears setPrmWatched ∷ does tick 0 ∷ does tick 0 ∷ does events 0x0808 ∷ sends e5 ∷ does events 0x2008 ∷ does send 256 ∷ [])
+watchdog_expiry_on_busy_line : Answers started
+    (does gap 0 ∷ hears set_prm_watched ∷ does tick 0 ∷ does tick 0 ∷ does events 0x0808 ∷ sends e5 ∷ does events 0x2008 ∷ does send 256 ∷ [])
 unfolding computing
-watchdog-expiry-on-busy-line = written refl
+watchdog_expiry_on_busy_line = written refl
 
 -- the next Tick drops the reply for a noted clear
-noted-clear-next-tick-drops-reply : Answers started
-    (does gap 0 ∷ hears setPrmWatched ∷ does tick 0 ∷ does tick 0 ∷ does events 0x0808 ∷ does tick 0 ∷ does events 0x2008 ∷ does send 256 ∷ [])
+noted_clear_next_tick_drops_reply : Answers started
+    (does gap 0 ∷ hears set_prm_watched ∷ does tick 0 ∷ does tick 0 ∷ does events 0x0808 ∷ does tick 0 ∷ does events 0x2008 ∷ does send 256 ∷ [])
 unfolding computing
-noted-clear-next-tick-drops-reply = written refl
+noted_clear_next_tick_drops_reply = written refl
 
 -- the next Tick drops the telegram for a noted clear
-noted-clear-next-tick-drops-telegram : Answers started
+noted_clear_next_tick_drops_telegram : Answers started
     (entering ++ (does events 0x0002
     ∷ does gap 0 ∷ hears (0x68 ∷ 0x04 ∷ 0x04 ∷ 0x68 ∷ 0x05 ∷ 0x02 ∷ []) ∷ does leave 0 ∷ does events 0x0002 ∷ does tick 0 ∷ does events 0x2002
     ∷ hears (0x4D ∷ 0x7A ∷ 0xCE ∷ 0x16 ∷ []) ∷ does send 256 ∷ does take 2
-    ∷ does gap 0 ∷ hears statusRequest ∷ sends status ∷ does send 256 ∷ []))
+    ∷ does gap 0 ∷ hears status_request ∷ sends status ∷ does send 256 ∷ []))
 unfolding computing
-noted-clear-next-tick-drops-telegram = written refl
+noted_clear_next_tick_drops_telegram = written refl
 
 -- a noted clear outlives a good Set_Prm
-noted-clear-survives-good-set-prm : Answers started
+noted_clear_survives_good_set_prm : Answers started
     (does gap 0 ∷ hears (0x68 ∷ 0x0C ∷ 0x0C ∷ 0x68 ∷ 0x85 ∷ 0x82 ∷ 0x4D ∷ 0x3D ∷ 0x3E ∷ 0x80 ∷ 0x01 ∷ 0x0A ∷ 0x0B ∷ 0x80 ∷ 0xB3 ∷ 0x00 ∷ [])
     ∷ does leave 0 ∷ hears (0x98 ∷ 0x16 ∷ []) ∷ does events 0x0800 ∷ does (read 2 0) 0x80 ∷ sends e5 ∷ does events 0x2000 ∷ refuses (read 2 0) Absent
     ∷ [])
 unfolding computing
-noted-clear-survives-good-set-prm = written refl
+noted_clear_survives_good_set_prm = written refl
 
 -- a delayed diagnosis, and its reply is dropped
-delayed-diagnosis-dropped : Answers started
-    (does gap 0 ∷ hears slaveDiag ∷ sends (0x68 ∷ []) ∷ does (new-diagnosis 6 0) 0 ∷ does events 0x0000
+delayed_diagnosis_dropped : Answers started
+    (does gap 0 ∷ hears slave_diag ∷ sends (0x68 ∷ []) ∷ does (new_diagnosis_lem 6 0) 0 ∷ does events 0x0000
     ∷ does gap 0 ∷ hears (0xE5 ∷ []) ∷ does events 0x0000
     ∷ does gap 0 ∷ hears (0x10 ∷ []) ∷ does events 0x1000 ∷ does send 256 ∷ [])
 unfolding computing
-delayed-diagnosis-dropped = written refl
+delayed_diagnosis_dropped = written refl
 
 -- a delayed diagnosis, to the end of its reply
-delayed-diagnosis-end : Answers started
+delayed_diagnosis_end : Answers started
     (entering ++ (does events 0x0002 ∷ does (write 5 6 0xA1) 0
-    ∷ does gap 0 ∷ hears slaveDiag ∷ sends (0x68 ∷ 0x0B ∷ []) ∷ does (new-diagnosis 7 1) 0 ∷ does events 0x0002 ∷ refuses (new-diagnosis 7 1) Delayed
-    ∷ refuses (new-diagnosis 5 1) Range ∷ refuses (new-diagnosis 11 1) Range ∷ refuses (new-diagnosis 7 8) Range ∷ refuses (read 5 6) Absent
+    ∷ does gap 0 ∷ hears slave_diag ∷ sends (0x68 ∷ 0x0B ∷ []) ∷ does (new_diagnosis_lem 7 1) 0 ∷ does events 0x0002 ∷ refuses (new_diagnosis_lem 7 1) Delayed
+    ∷ refuses (new_diagnosis_lem 5 1) Range ∷ refuses (new_diagnosis_lem 11 1) Range ∷ refuses (new_diagnosis_lem 7 8) Range ∷ refuses (read 5 6) Absent
     ∷ refuses (write 5 6 0x00) Absent ∷ refuses (read 5 5) Range ∷ refuses (read 5 10) Range
     ∷ sends (0x0B ∷ 0x68 ∷ 0x82 ∷ 0x85 ∷ 0x08 ∷ 0x3E ∷ 0x3C ∷ 0x00 ∷ 0x04 ∷ 0x00 ∷ 0x02 ∷ 0x80 ∷ 0xB3 ∷ []) ∷ does events 0x0002 ∷ sends (0xC2 ∷ [])
     ∷ does events 0x0002 ∷ sends (0x16 ∷ []) ∷ does events 0x1002 ∷ does (read 5 6) 0x00
-    ∷ does gap 0 ∷ hears dataExchange ∷ sends (0x68 ∷ 0x04 ∷ 0x04 ∷ 0x68 ∷ 0x02 ∷ 0x05 ∷ 0x0A ∷ 0x00 ∷ 0x11 ∷ 0x16 ∷ []) ∷ does send 256
-    ∷ does gap 0 ∷ hears slaveDiag
+    ∷ does gap 0 ∷ hears data_exchange ∷ sends (0x68 ∷ 0x04 ∷ 0x04 ∷ 0x68 ∷ 0x02 ∷ 0x05 ∷ 0x0A ∷ 0x00 ∷ 0x11 ∷ 0x16 ∷ []) ∷ does send 256
+    ∷ does gap 0 ∷ hears slave_diag
     ∷ sends (0x68 ∷ 0x0C ∷ 0x0C ∷ 0x68 ∷ 0x82 ∷ 0x85 ∷ 0x08 ∷ 0x3E ∷ 0x3C ∷ 0x08 ∷ 0x04 ∷ 0x00 ∷ 0x02 ∷ 0x80 ∷ 0xB3 ∷ 0xA1 ∷ 0x6B ∷ 0x16 ∷ [])
     ∷ does send 256
-    ∷ does gap 0 ∷ hears dataExchange ∷ sends (0x68 ∷ 0x04 ∷ 0x04 ∷ 0x68 ∷ 0x02 ∷ 0x05 ∷ 0x08 ∷ 0x00 ∷ 0x0F ∷ 0x16 ∷ []) ∷ does send 256 ∷ []))
+    ∷ does gap 0 ∷ hears data_exchange ∷ sends (0x68 ∷ 0x04 ∷ 0x04 ∷ 0x68 ∷ 0x02 ∷ 0x05 ∷ 0x08 ∷ 0x00 ∷ 0x0F ∷ 0x16 ∷ []) ∷ does send 256 ∷ []))
 unfolding computing
-delayed-diagnosis-end = written refl
+delayed_diagnosis_end = written refl
 
 -- a delayed diagnosis, then a clear
-delayed-diagnosis-then-clear-by-tick : Answers started
+delayed_diagnosis_then_clear_by_tick : Answers started
     (entering ++ (does events 0x0002
-    ∷ does gap 0 ∷ hears slaveDiag ∷ does (new-diagnosis 10 7) 0 ∷ does leave 0 ∷ does events 0x0002 ∷ does tick 0 ∷ does events 0x3002
+    ∷ does gap 0 ∷ hears slave_diag ∷ does (new_diagnosis_lem 10 7) 0 ∷ does leave 0 ∷ does events 0x0002 ∷ does tick 0 ∷ does events 0x3002
     ∷ does send 256
-    ∷ does gap 0 ∷ hears slaveDiag
+    ∷ does gap 0 ∷ hears slave_diag
     ∷ sends (0x68 ∷ 0x0F ∷ 0x0F ∷ 0x68 ∷ 0x82 ∷ 0x85 ∷ 0x08 ∷ 0x3E ∷ 0x3C ∷ 0x0A ∷ 0x07 ∷ 0x80 ∷ 0xFF ∷ 0x80 ∷ 0xB3 ∷ 0x00 ∷ 0x00 ∷ 0x00 ∷ 0x00 ∷ 0x4C ∷ 0x16 ∷ [])
     ∷ does send 256 ∷ []))
 unfolding computing
-delayed-diagnosis-then-clear-by-tick = written refl
+delayed_diagnosis_then_clear_by_tick = written refl
 
 -- the two diagnosis buffers change
-diag-buffers-swap : Answers started
-    (does (write 5 6 0x11) 0 ∷ does (write 5 7 0x12) 0 ∷ does (new-diagnosis 8 0) 0 ∷ does (read 5 6) 0x00 ∷ does (write 5 6 0x21) 0
-    ∷ does (new-diagnosis 7 0) 0 ∷ does (read 5 6) 0x11 ∷ does (read 5 7) 0x12
-    ∷ does gap 0 ∷ hears slaveDiag
+diag_buffers_swap : Answers started
+    (does (write 5 6 0x11) 0 ∷ does (write 5 7 0x12) 0 ∷ does (new_diagnosis_lem 8 0) 0 ∷ does (read 5 6) 0x00 ∷ does (write 5 6 0x21) 0
+    ∷ does (new_diagnosis_lem 7 0) 0 ∷ does (read 5 6) 0x11 ∷ does (read 5 7) 0x12
+    ∷ does gap 0 ∷ hears slave_diag
     ∷ sends (0x68 ∷ 0x0C ∷ 0x0C ∷ 0x68 ∷ 0x82 ∷ 0x85 ∷ 0x08 ∷ 0x3E ∷ 0x3C ∷ 0x02 ∷ 0x05 ∷ 0x00 ∷ 0xFF ∷ 0x80 ∷ 0xB3 ∷ 0x21 ∷ 0xE3 ∷ 0x16 ∷ [])
-    ∷ does send 256 ∷ does (new-diagnosis 10 0) 0 ∷ does (read 5 6) 0x21
-    ∷ does gap 0 ∷ hears slaveDiag
+    ∷ does send 256 ∷ does (new_diagnosis_lem 10 0) 0 ∷ does (read 5 6) 0x21
+    ∷ does gap 0 ∷ hears slave_diag
     ∷ sends (0x68 ∷ 0x0F ∷ 0x0F ∷ 0x68 ∷ 0x82 ∷ 0x85 ∷ 0x08 ∷ 0x3E ∷ 0x3C ∷ 0x02 ∷ 0x05 ∷ 0x00 ∷ 0xFF ∷ 0x80 ∷ 0xB3 ∷ 0x11 ∷ 0x12 ∷ 0x00 ∷ 0x00 ∷ 0xE5 ∷ 0x16 ∷ [])
     ∷ does send 256 ∷ [])
 unfolding computing
-diag-buffers-swap = written refl
+diag_buffers_swap = written refl
 
 -- the inputs
-input-rotation : Answers started
-    (entering ++ (does events 0x0002 ∷ does (write 4 0 0x01) 0 ∷ does hand-over 0 ∷ does (read 4 0) 0x00 ∷ does (write 4 0 0x02) 0 ∷ does hand-over 0
+input_rotation : Answers started
+    (entering ++ (does events 0x0002 ∷ does (write 4 0 0x01) 0 ∷ does hand_over_lem 0 ∷ does (read 4 0) 0x00 ∷ does (write 4 0 0x02) 0 ∷ does hand_over_lem 0
     ∷ does (read 4 0) 0x01 ∷ does (write 4 0 0x03) 0
-    ∷ does gap 0 ∷ hears dataExchange ∷ sends (0x68 ∷ 0x04 ∷ 0x04 ∷ 0x68 ∷ 0x02 ∷ 0x05 ∷ 0x08 ∷ 0x02 ∷ 0x11 ∷ 0x16 ∷ []) ∷ does send 256
+    ∷ does gap 0 ∷ hears data_exchange ∷ sends (0x68 ∷ 0x04 ∷ 0x04 ∷ 0x68 ∷ 0x02 ∷ 0x05 ∷ 0x08 ∷ 0x02 ∷ 0x11 ∷ 0x16 ∷ []) ∷ does send 256
     ∷ does (read 4 0) 0x03
-    ∷ does gap 0 ∷ hears dataExchange ∷ sends (0x68 ∷ 0x04 ∷ 0x04 ∷ 0x68 ∷ 0x02 ∷ 0x05 ∷ 0x08 ∷ 0x02 ∷ 0x11 ∷ 0x16 ∷ []) ∷ does send 256
-    ∷ does hand-over 0 ∷ does (read 4 0) 0x00
+    ∷ does gap 0 ∷ hears data_exchange ∷ sends (0x68 ∷ 0x04 ∷ 0x04 ∷ 0x68 ∷ 0x02 ∷ 0x05 ∷ 0x08 ∷ 0x02 ∷ 0x11 ∷ 0x16 ∷ []) ∷ does send 256
+    ∷ does hand_over_lem 0 ∷ does (read 4 0) 0x00
     ∷ does gap 0 ∷ hears (0x68 ∷ 0x05 ∷ 0x05 ∷ 0x68 ∷ 0x85 ∷ 0x83 ∷ 0x6D ∷ 0x38 ∷ 0x3E ∷ 0xEB ∷ 0x16 ∷ [])
     ∷ sends (0x68 ∷ 0x06 ∷ 0x06 ∷ 0x68 ∷ 0x83 ∷ 0x85 ∷ 0x08 ∷ 0x3E ∷ 0x38 ∷ 0x02 ∷ 0x88 ∷ 0x16 ∷ []) ∷ does send 256
-    ∷ does gap 0 ∷ hears dataExchange ∷ sends (0x68 ∷ 0x04 ∷ 0x04 ∷ 0x68 ∷ 0x02 ∷ 0x05 ∷ 0x08 ∷ 0x03 ∷ 0x12 ∷ 0x16 ∷ []) ∷ does send 256
-    ∷ does (write 4 0 0x04) 0 ∷ does hand-over 0 ∷ does (read 4 0) 0x02 ∷ []))
+    ∷ does gap 0 ∷ hears data_exchange ∷ sends (0x68 ∷ 0x04 ∷ 0x04 ∷ 0x68 ∷ 0x02 ∷ 0x05 ∷ 0x08 ∷ 0x03 ∷ 0x12 ∷ 0x16 ∷ []) ∷ does send 256
+    ∷ does (write 4 0 0x04) 0 ∷ does hand_over_lem 0 ∷ does (read 4 0) 0x02 ∷ []))
 unfolding computing
-input-rotation = written refl
+input_rotation = written refl
 
 -- take and read outputs
-take-and-read-outputs : Answers started
+take_and_read_outputs : Answers started
     (entering ++ (does events 0x0002
-    ∷ does gap 0 ∷ hears dataExchange ∷ sends (0x68 ∷ 0x04 ∷ 0x04 ∷ 0x68 ∷ 0x02 ∷ 0x05 ∷ 0x08 ∷ 0x00 ∷ 0x0F ∷ 0x16 ∷ []) ∷ does send 256
+    ∷ does gap 0 ∷ hears data_exchange ∷ sends (0x68 ∷ 0x04 ∷ 0x04 ∷ 0x68 ∷ 0x02 ∷ 0x05 ∷ 0x08 ∷ 0x00 ∷ 0x0F ∷ 0x16 ∷ []) ∷ does send 256
     ∷ does events 0x2002 ∷ does (read 1 0) 0x00
     ∷ does gap 0 ∷ hears (0x68 ∷ 0x05 ∷ 0x05 ∷ 0x68 ∷ 0x85 ∷ 0x83 ∷ 0x6D ∷ 0x39 ∷ 0x3E ∷ 0xEC ∷ 0x16 ∷ [])
     ∷ sends (0x68 ∷ 0x06 ∷ 0x06 ∷ 0x68 ∷ 0x83 ∷ 0x85 ∷ 0x08 ∷ 0x3E ∷ 0x39 ∷ 0x00 ∷ 0x87 ∷ 0x16 ∷ []) ∷ does send 256 ∷ does take 1 ∷ does take 0
@@ -378,67 +378,67 @@ take-and-read-outputs : Answers started
     ∷ does gap 0 ∷ hears (0x68 ∷ 0x05 ∷ 0x05 ∷ 0x68 ∷ 0x85 ∷ 0x83 ∷ 0x6D ∷ 0x39 ∷ 0x3E ∷ 0xEC ∷ 0x16 ∷ [])
     ∷ sends (0x68 ∷ 0x06 ∷ 0x06 ∷ 0x68 ∷ 0x83 ∷ 0x85 ∷ 0x08 ∷ 0x3E ∷ 0x39 ∷ 0x33 ∷ 0xBA ∷ 0x16 ∷ []) ∷ does send 256 ∷ []))
 unfolding computing
-take-and-read-outputs = written refl
+take_and_read_outputs = written refl
 
 -- Data_Exchange with another count
-data-exchange-wrong-count : Answers started
+data_exchange_wrong_count : Answers started
     (entering ++ (does events 0x0002
     ∷ does gap 0 ∷ hears (0x68 ∷ 0x05 ∷ 0x05 ∷ 0x68 ∷ 0x05 ∷ 0x02 ∷ 0x4D ∷ 0x11 ∷ 0x22 ∷ 0x87 ∷ 0x16 ∷ []) ∷ sends rejected ∷ does send 256
     ∷ does events 0x2002 ∷ does take 2 ∷ does (read 1 0) 0x00
-    ∷ does gap 0 ∷ hears slaveDiag
+    ∷ does gap 0 ∷ hears slave_diag
     ∷ sends (0x68 ∷ 0x0B ∷ 0x0B ∷ 0x68 ∷ 0x82 ∷ 0x85 ∷ 0x08 ∷ 0x3E ∷ 0x3C ∷ 0x06 ∷ 0x05 ∷ 0x00 ∷ 0xFF ∷ 0x80 ∷ 0xB3 ∷ 0xC6 ∷ 0x16 ∷ [])
     ∷ does send 256 ∷ []))
 unfolding computing
-data-exchange-wrong-count = written refl
+data_exchange_wrong_count = written refl
 
 -- Chk_Cfg
-chk-cfg : Answers started
-    (does gap 0 ∷ hears chkCfg ∷ sends rejected ∷ does send 256
-    ∷ does gap 0 ∷ hears setPrm ∷ sends e5 ∷ does send 256
+chk_cfg_lem : Answers started
+    (does gap 0 ∷ hears chk_cfg ∷ sends rejected ∷ does send 256
+    ∷ does gap 0 ∷ hears set_prm ∷ sends e5 ∷ does send 256
     ∷ does gap 0 ∷ hears (0x68 ∷ 0x07 ∷ 0x07 ∷ 0x68 ∷ 0x85 ∷ 0x83 ∷ 0x4D ∷ 0x3E ∷ 0x3E ∷ 0x20 ∷ 0x21 ∷ 0x12 ∷ 0x16 ∷ [])
     ∷ sends (0x10 ∷ 0x03 ∷ 0x05 ∷ 0x03 ∷ 0x0B ∷ 0x16 ∷ []) ∷ does send 256
-    ∷ does gap 0 ∷ hears chkCfg ∷ sends e5 ∷ does send 256 ∷ does events 0x0C00 ∷ refuses (judge-configuration 1) Judging
-    ∷ refuses (judge-configuration 2) Judging ∷ refuses (judge-parameters 2) Range ∷ does (judge-parameters 1) 0 ∷ does events 0x0400
-    ∷ refuses (judge-configuration 2) Range ∷ does (read 3 1) 0x21 ∷ refuses (read 3 2) Absent ∷ refuses (read 3 3) Absent ∷ refuses (read 3 4) Range
-    ∷ does (judge-configuration 0) 0 ∷ does events 0x2000
-    ∷ does gap 0 ∷ hears slaveDiag
+    ∷ does gap 0 ∷ hears chk_cfg ∷ sends e5 ∷ does send 256 ∷ does events 0x0C00 ∷ refuses (judge_configuration_lem 1) Judging
+    ∷ refuses (judge_configuration_lem 2) Judging ∷ refuses (judge_parameters_lem 2) Range ∷ does (judge_parameters_lem 1) 0 ∷ does events 0x0400
+    ∷ refuses (judge_configuration_lem 2) Range ∷ does (read 3 1) 0x21 ∷ refuses (read 3 2) Absent ∷ refuses (read 3 3) Absent ∷ refuses (read 3 4) Range
+    ∷ does (judge_configuration_lem 0) 0 ∷ does events 0x2000
+    ∷ does gap 0 ∷ hears slave_diag
     ∷ sends (0x68 ∷ 0x0B ∷ 0x0B ∷ 0x68 ∷ 0x82 ∷ 0x85 ∷ 0x08 ∷ 0x3E ∷ 0x3C ∷ 0x06 ∷ 0x05 ∷ 0x00 ∷ 0xFF ∷ 0x80 ∷ 0xB3 ∷ 0xC6 ∷ 0x16 ∷ [])
     ∷ does send 256 ∷ [])
 unfolding computing
-chk-cfg = written refl
+chk_cfg_lem = written refl
 
 -- parameters that wait
-waiting-parameters : Answers started
-    (does gap 0 ∷ hears setPrm2 ∷ sends e5 ∷ does send 256
+waiting_parameters : Answers started
+    (does gap 0 ∷ hears set_prm2 ∷ sends e5 ∷ does send 256
     ∷ does gap 0
     ∷ hears (0x68 ∷ 0x0D ∷ 0x0D ∷ 0x68 ∷ 0x85 ∷ 0x82 ∷ 0x4D ∷ 0x3D ∷ 0x3E ∷ 0x80 ∷ 0x00 ∷ 0x00 ∷ 0x02 ∷ 0x80 ∷ 0xB3 ∷ 0x00 ∷ 0x55 ∷ 0xD9 ∷ 0x16 ∷ [])
     ∷ sends e5 ∷ does send 256
     ∷ does gap 0
     ∷ hears (0x68 ∷ 0x0E ∷ 0x0E ∷ 0x68 ∷ 0x85 ∷ 0x82 ∷ 0x4D ∷ 0x3D ∷ 0x3E ∷ 0x80 ∷ 0x00 ∷ 0x00 ∷ 0x03 ∷ 0x80 ∷ 0xB3 ∷ 0x00 ∷ 0x66 ∷ 0x77 ∷ 0x62 ∷ 0x16 ∷ [])
-    ∷ sends e5 ∷ does send 256 ∷ does (read 2 3) 0x01 ∷ refuses (read 2 7) Absent ∷ does (judge-parameters 0) 1 ∷ does events 0x0800
-    ∷ does (read 2 3) 0x03 ∷ does (read 2 8) 0x77 ∷ refuses (read 2 9) Absent ∷ does (judge-parameters 1) 0 ∷ does events 0x0000
-    ∷ refuses (judge-parameters 1) Judging ∷ refuses (read 2 3) Absent ∷ [])
+    ∷ sends e5 ∷ does send 256 ∷ does (read 2 3) 0x01 ∷ refuses (read 2 7) Absent ∷ does (judge_parameters_lem 0) 1 ∷ does events 0x0800
+    ∷ does (read 2 3) 0x03 ∷ does (read 2 8) 0x77 ∷ refuses (read 2 9) Absent ∷ does (judge_parameters_lem 1) 0 ∷ does events 0x0000
+    ∷ refuses (judge_parameters_lem 1) Judging ∷ refuses (read 2 3) Absent ∷ [])
 unfolding computing
-waiting-parameters = written refl
+waiting_parameters = written refl
 
 -- configuration that waits
-waiting-configuration : Answers started
-    (does gap 0 ∷ hears setPrm2 ∷ sends e5 ∷ does send 256 ∷ does (judge-parameters 1) 0
-    ∷ does gap 0 ∷ hears chkCfg2 ∷ sends e5 ∷ does send 256
+waiting_configuration : Answers started
+    (does gap 0 ∷ hears set_prm2 ∷ sends e5 ∷ does send 256 ∷ does (judge_parameters_lem 1) 0
+    ∷ does gap 0 ∷ hears chk_cfg2 ∷ sends e5 ∷ does send 256
     ∷ does gap 0 ∷ hears (0x68 ∷ 0x07 ∷ 0x07 ∷ 0x68 ∷ 0x85 ∷ 0x82 ∷ 0x4D ∷ 0x3E ∷ 0x3E ∷ 0x02 ∷ 0x03 ∷ 0xD5 ∷ 0x16 ∷ []) ∷ sends e5 ∷ does send 256
-    ∷ does (read 3 0) 0x01 ∷ refuses (read 3 1) Absent ∷ does (judge-configuration 1) 1 ∷ does events 0x0400
-    ∷ does gap 0 ∷ hears dataExchange ∷ sends rejected ∷ does send 256 ∷ does (read 3 1) 0x03 ∷ does (judge-configuration 1) 0 ∷ does events 0x0002
+    ∷ does (read 3 0) 0x01 ∷ refuses (read 3 1) Absent ∷ does (judge_configuration_lem 1) 1 ∷ does events 0x0400
+    ∷ does gap 0 ∷ hears data_exchange ∷ sends rejected ∷ does send 256 ∷ does (read 3 1) 0x03 ∷ does (judge_configuration_lem 1) 0 ∷ does events 0x0002
     ∷ [])
 unfolding computing
-waiting-configuration = written refl
+waiting_configuration = written refl
 
 -- Global_Control
-global-control : Answers started
+global_control_lem : Answers started
     (does gap 0
     ∷ hears (0x68 ∷ 0x0C ∷ 0x0C ∷ 0x68 ∷ 0x85 ∷ 0x82 ∷ 0x4D ∷ 0x3D ∷ 0x3E ∷ 0x80 ∷ 0x00 ∷ 0x00 ∷ 0x01 ∷ 0x80 ∷ 0xB3 ∷ 0x06 ∷ 0x89 ∷ 0x16 ∷ [])
     ∷ sends e5 ∷ does send 256
-    ∷ does gap 0 ∷ hears (0x68 ∷ 0x07 ∷ 0x07 ∷ 0x68 ∷ 0xFF ∷ 0x82 ∷ 0x44 ∷ 0x3A ∷ 0x3E ∷ 0x08 ∷ 0x00 ∷ 0x45 ∷ 0x16 ∷ []) ∷ does (judge-parameters 1) 0
-    ∷ does gap 0 ∷ hears chkCfg2 ∷ sends e5 ∷ does send 256 ∷ does (judge-configuration 1) 0 ∷ does events 0x0002
+    ∷ does gap 0 ∷ hears (0x68 ∷ 0x07 ∷ 0x07 ∷ 0x68 ∷ 0xFF ∷ 0x82 ∷ 0x44 ∷ 0x3A ∷ 0x3E ∷ 0x08 ∷ 0x00 ∷ 0x45 ∷ 0x16 ∷ []) ∷ does (judge_parameters_lem 1) 0
+    ∷ does gap 0 ∷ hears chk_cfg2 ∷ sends e5 ∷ does send 256 ∷ does (judge_configuration_lem 1) 0 ∷ does events 0x0002
     ∷ does gap 0 ∷ hears (0x68 ∷ 0x07 ∷ 0x07 ∷ 0x68 ∷ 0xFF ∷ 0x82 ∷ 0x44 ∷ 0x3A ∷ 0x3E ∷ 0x00 ∷ 0x00 ∷ 0x3D ∷ 0x16 ∷ []) ∷ does events 0x0002
     ∷ does gap 0 ∷ hears (0x68 ∷ 0x07 ∷ 0x07 ∷ 0x68 ∷ 0xFF ∷ 0x82 ∷ 0x46 ∷ 0x3A ∷ 0x3E ∷ 0x08 ∷ 0x09 ∷ 0x50 ∷ 0x16 ∷ []) ∷ does events 0x0002
     ∷ does gap 0 ∷ hears (0x68 ∷ 0x07 ∷ 0x07 ∷ 0x68 ∷ 0xFF ∷ 0x83 ∷ 0x46 ∷ 0x3A ∷ 0x3E ∷ 0x08 ∷ 0x00 ∷ 0x48 ∷ 0x16 ∷ []) ∷ does events 0x0002
@@ -454,54 +454,54 @@ global-control : Answers started
     ∷ does gap 0 ∷ hears (0x68 ∷ 0x07 ∷ 0x07 ∷ 0x68 ∷ 0xFF ∷ 0x82 ∷ 0x46 ∷ 0x3A ∷ 0x3E ∷ 0x08 ∷ 0x04 ∷ 0x4B ∷ 0x16 ∷ []) ∷ does events 0x0000
     ∷ does gap 0 ∷ hears (0x68 ∷ 0x07 ∷ 0x07 ∷ 0x68 ∷ 0x85 ∷ 0x82 ∷ 0x44 ∷ 0x3A ∷ 0x3E ∷ 0x09 ∷ 0xFF ∷ 0xCB ∷ 0x16 ∷ []) ∷ does events 0x0100 ∷ [])
 unfolding computing
-global-control = written refl
+global_control_lem = written refl
 
 -- Global_Control publishes zeros
-global-control-clear-data : Answers started
+global_control_clear_data : Answers started
     (entering ++ (does events 0x0002
-    ∷ does gap 0 ∷ hears dataExchange
+    ∷ does gap 0 ∷ hears data_exchange
     ∷ does gap 0 ∷ hears (0x68 ∷ 0x07 ∷ 0x07 ∷ 0x68 ∷ 0xFF ∷ 0x82 ∷ 0x46 ∷ 0x3A ∷ 0x3E ∷ 0x02 ∷ 0x00 ∷ 0x41 ∷ 0x16 ∷ []) ∷ does events 0x2102
     ∷ does take 2 ∷ does (read 1 0) 0x00 ∷ does (acknowledge 65535) 0
     ∷ does gap 0 ∷ hears (0x68 ∷ 0x04 ∷ 0x04 ∷ 0x68 ∷ 0x05 ∷ 0x02 ∷ 0x4D ∷ 0x12 ∷ 0x66 ∷ 0x16 ∷ []) ∷ does take 1 ∷ does (acknowledge 65535) 0
     ∷ does gap 0 ∷ hears (0x68 ∷ 0x07 ∷ 0x07 ∷ 0x68 ∷ 0xFF ∷ 0x82 ∷ 0x46 ∷ 0x3A ∷ 0x3E ∷ 0x02 ∷ 0x00 ∷ 0x41 ∷ 0x16 ∷ []) ∷ does events 0x2000
     ∷ does take 2 ∷ []))
 unfolding computing
-global-control-clear-data = written refl
+global_control_clear_data = written refl
 
 -- kinds and indices out of range
-indices-and-kinds : Answers started
+indices_and_kinds : Answers started
     (refuses (read 0 0) Range ∷ refuses (read 6 0) Range ∷ refuses (read 1 1) Range ∷ refuses (read 4 1) Range ∷ refuses (read 5 0) Range
     ∷ does (read 5 9) 0x00 ∷ refuses (read 2 10) Range ∷ refuses (read 2 9) Absent ∷ refuses (read 3 4) Range ∷ refuses (read 3 3) Absent
     ∷ refuses (write 1 0 0x00) Range ∷ refuses (write 2 0 0x00) Range ∷ refuses (write 3 0 0x00) Range ∷ refuses (write 4 1 0x00) Range
     ∷ refuses (write 5 5 0x00) Range ∷ refuses (write 5 10 0x00) Range ∷ refuses (write 6 0 0x00) Range ∷ does (write 4 0 0xFE) 0
     ∷ does (read 4 0) 0xFE ∷ [])
 unfolding computing
-indices-and-kinds = written refl
+indices_and_kinds = written refl
 
 -- a Read_Outputs reply is fixed whole
-read-outputs-fixed-whole : Answers started
+read_outputs_fixed_whole : Answers started
     (entering ++ (does events 0x0002
-    ∷ does gap 0 ∷ hears dataExchange ∷ does take 1
+    ∷ does gap 0 ∷ hears data_exchange ∷ does take 1
     ∷ does gap 0 ∷ hears (0x68 ∷ 0x05 ∷ 0x05 ∷ 0x68 ∷ 0x85 ∷ 0x82 ∷ 0x6D ∷ 0x39 ∷ 0x3E ∷ 0xEB ∷ 0x16 ∷ [])
-    ∷ sends (0x68 ∷ 0x06 ∷ 0x06 ∷ 0x68 ∷ 0x82 ∷ 0x85 ∷ []) ∷ refuses (judge-parameters 1) Judging ∷ does leave 0
+    ∷ sends (0x68 ∷ 0x06 ∷ 0x06 ∷ 0x68 ∷ 0x82 ∷ 0x85 ∷ []) ∷ refuses (judge_parameters_lem 1) Judging ∷ does leave 0
     ∷ does gap 0 ∷ hears (0x68 ∷ 0x04 ∷ 0x04 ∷ 0x68 ∷ 0x05 ∷ 0x02 ∷ 0x4D ∷ 0x22 ∷ 0x76 ∷ 0x16 ∷ [])
     ∷ sends (0x68 ∷ 0x04 ∷ 0x04 ∷ 0x68 ∷ 0x02 ∷ 0x05 ∷ 0x08 ∷ 0x00 ∷ 0x0F ∷ 0x16 ∷ []) ∷ does take 2 ∷ []))
 unfolding computing
-read-outputs-fixed-whole = written refl
+read_outputs_fixed_whole = written refl
 
 -- a bad judgement is not delayed
-judge-bad-is-not-delayed : Answers started
-    (does gap 0 ∷ hears setPrm2 ∷ does (judge-parameters 0) 0 ∷ does events 0x2000 ∷ sends e5 ∷ does send 256 ∷ [])
+judge_bad_is_not_delayed : Answers started
+    (does gap 0 ∷ hears set_prm2 ∷ does (judge_parameters_lem 0) 0 ∷ does events 0x2000 ∷ sends e5 ∷ does send 256 ∷ [])
 unfolding computing
-judge-bad-is-not-delayed = written refl
+judge_bad_is_not_delayed = written refl
 
 -- and what the theorems ask for is there: the second octet of a telegram is inner, and these values are what Start takes
-inner-octet : Inner (after started (gap ∷ octet 0x10 false ∷ [])) 0x05 false
+inner_octet : Inner (after started (gap ∷ octet 0x10 false ∷ [])) 0x05 false
 unfolding computing
-inner-octet = record {
+inner_octet = record {
   before = record { listens = refl; begins = refl; unfinished = ((framing (0x10 ∷ [])).part.0 refl).2 };
   behind = record { listens = refl; begins = refl; unfinished = ((framing (0x10 ∷ 0x05 ∷ [])).part.0 refl).2 };
 }
 
-start-takes-values : StartTakes (station 1 1 10 4 10 2) (0x20 ∷ 0x21 ∷ [])
-start-takes-values = omega arith
+start_takes_values : StartTakes (station 1 1 10 4 10 2) (0x20 ∷ 0x21 ∷ [])
+start_takes_values = omega arith

@@ -5,62 +5,62 @@ use mathlib.Core.Bool.{Bool, true, false, cond}
 use mathlib.Core.List.{List, [], ◌∷◌, ◌++◌}
 use Rattle.telegram.specs.declared.reader.Status.{Status}
 use Rattle.telegram.specs.declared.reader.Status.TheVariants.{Fresh, Inside, Complete, Broken}
-use Rattle.telegram.specs.Reading.{run, readerAfter, status}
+use Rattle.telegram.specs.Reading.{run, reader_after, status}
 use Rattle.rules.specs.Line.{ticked}
-use Rattle.ledger.specs.Ledger.{Ledger, withLine, begun, busy}
+use Rattle.ledger.specs.Ledger.{Ledger, with_line, begun, busy}
 use Rattle.ledger.specs.Outcome.{carried, settle}
-use Rattle.ledger.specs.Bus.{telegramOn, answered, completed, brokenOff, lengthened, beginning, sendLeft, silenced, heardAs, heard, paused, afterSend, elapsed, gapped}
-use Rattle.ledger.specs.User.{handOver, acknowledgeEvents, leaveMaster}
-use Rattle.rules.specs.Call.{Call, octet, gap, send, tick, take, read, write, hand-over, new-diagnosis, judge-parameters, judge-configuration, events, acknowledge, pending, leave}
+use Rattle.ledger.specs.Bus.{telegram_on, answered, completed, broken_off, lengthened, beginning, send_left, silenced, heard_as, heard, paused, after_send, elapsed, gapped}
+use Rattle.ledger.specs.User.{hand_over, acknowledge_events, leave_master}
+use Rattle.rules.specs.Call.{Call, octet, gap, send, tick, take, read, write, hand_over_lem, new_diagnosis_lem, judge_parameters_lem, judge_configuration_lem, events, acknowledge, pending, leave}
 use Rattle.ledger.specs.Calls.{step, after}
-use Rattle.ledger.proofs.Settling.{settle-setup, settle-slice}
-use Rattle.ledger.proofs.ByCases.{take_cases, read-cases, write-cases, diagnosis-cases, parameters-cases, configuration-cases}
+use Rattle.ledger.proofs.Settling.{settle_setup, settle_slice}
+use Rattle.ledger.proofs.ByCases.{take_cases, read_cases, write_cases, diagnosis_cases, parameters_cases, configuration_cases}
 
 abbrev pub Kept : Ledger → Ledger → Type 0
 Kept l m = (m.setup ≡ l.setup) × (m.slice ≡ l.slice)
 
-settled-kept : (l m : Ledger) → Kept l m → Kept l (settle m)
-settled-kept l m k = (settle-setup m ∙ k.0, settle-slice m ∙ k.1)
+settled_kept : (l m : Ledger) → Kept l m → Kept l (settle m)
+settled_kept l m k = (settle_setup m ∙ k.0, settle_slice m ∙ k.1)
 
-heard-kept : (l : Ledger) (b : ℕ) (s : Status) → Kept l (heardAs s l b)
+heard_kept : (l : Ledger) (b : ℕ) (s : Status) → Kept l (heard_as s l b)
 unfolding answered
-heard-kept l b Fresh = (refl, refl)
-heard-kept l b Inside = go (begun l)
+heard_kept l b Fresh = (refl, refl)
+heard_kept l b Inside = go (begun l)
   where
-    go : (t : Bool) → Kept l (cond t (withLine l (lengthened l.line b)) (settle (withLine l (beginning b))))
+    go : (t : Bool) → Kept l (cond t (with_line l (lengthened l.line b)) (settle (with_line l (beginning b))))
     go true = (refl, refl)
-    go false = settled-kept l (withLine l (beginning b)) (refl, refl)
-heard-kept l b Complete =
-    settled-kept l (completed l (telegramOn (l.line.telegram ++ b ∷ []))) (refl, refl)
-heard-kept l b Broken = settled-kept l (withLine l (brokenOff l.line)) (refl, refl)
+    go false = settled_kept l (with_line l (beginning b)) (refl, refl)
+heard_kept l b Complete =
+    settled_kept l (completed l (telegram_on (l.line.telegram ++ b ∷ []))) (refl, refl)
+heard_kept l b Broken = settled_kept l (with_line l (broken_off l.line)) (refl, refl)
 
 pub step_kept : (l : Ledger) (c : Call) → Kept l (step l c).ledger
-unfolding heard paused afterSend elapsed handOver acknowledgeEvents leaveMaster
+unfolding heard paused after_send elapsed hand_over acknowledge_events leave_master
 step_kept l (octet b bad) = go l.line.ignored
   where
     s : Status
-    s = status (readerAfter (run l.line.telegram) b bad)
+    s = status (reader_after (run l.line.telegram) b bad)
 
-    go : (t : Bool) → Kept l (cond t l (heardAs s l b))
+    go : (t : Bool) → Kept l (cond t l (heard_as s l b))
     go true = (refl, refl)
-    go false = heard-kept l b s
+    go false = heard_kept l b s
 step_kept l gap =
-    settled-kept l (withLine l (gapped l.line))
+    settled_kept l (with_line l (gapped l.line))
     (refl, refl)
-step_kept l send = settled-kept l (withLine l (sendLeft l.line l.line.reply)) (refl, refl)
+step_kept l send = settled_kept l (with_line l (send_left l.line l.line.reply)) (refl, refl)
 step_kept l tick = go l.control.noted
   where
-    go : (t : Bool) → Kept l (cond t (settle (withLine l (silenced l))) (carried l (ticked (busy l) l.control) []))
-    go true = settled-kept l (withLine l (silenced l)) (refl, refl)
+    go : (t : Bool) → Kept l (cond t (settle (with_line l (silenced l))) (carried l (ticked (busy l) l.control) []))
+    go true = settled_kept l (with_line l (silenced l)) (refl, refl)
     go false = (refl, refl)
 step_kept l take = take_cases (λ t. Kept l t.ledger) l (λ _. (refl, refl)) (λ _. (refl, refl))
-step_kept l (read kind index) = read-cases (λ t. Kept l t.ledger) l kind index (λ _. (refl, refl)) (refl, refl)
-step_kept l (write kind index x) = write-cases (λ t. Kept l t.ledger) l kind index x (λ _. (refl, refl)) (refl, refl)
-step_kept l hand-over = (refl, refl)
-step_kept l (new-diagnosis count flags) =
-    diagnosis-cases (λ t. Kept l t.ledger) l count flags (λ _. (refl, refl)) (λ _. (refl, refl)) (λ _. (refl, refl))
-step_kept l (judge-parameters j) = parameters-cases (λ t. Kept l t.ledger) l j (λ _ _. (refl, refl)) (λ _. (refl, refl))
-step_kept l (judge-configuration j) = configuration-cases (λ t. Kept l t.ledger) l j (λ _ _. (refl, refl)) (λ _. (refl, refl))
+step_kept l (read kind index) = read_cases (λ t. Kept l t.ledger) l kind index (λ _. (refl, refl)) (refl, refl)
+step_kept l (write kind index x) = write_cases (λ t. Kept l t.ledger) l kind index x (λ _. (refl, refl)) (refl, refl)
+step_kept l hand_over_lem = (refl, refl)
+step_kept l (new_diagnosis_lem count flags) =
+    diagnosis_cases (λ t. Kept l t.ledger) l count flags (λ _. (refl, refl)) (λ _. (refl, refl)) (λ _. (refl, refl))
+step_kept l (judge_parameters_lem j) = parameters_cases (λ t. Kept l t.ledger) l j (λ _ _. (refl, refl)) (λ _. (refl, refl))
+step_kept l (judge_configuration_lem j) = configuration_cases (λ t. Kept l t.ledger) l j (λ _ _. (refl, refl)) (λ _. (refl, refl))
 step_kept l events = (refl, refl)
 step_kept l (acknowledge mask) = (refl, refl)
 step_kept l pending = (refl, refl)

@@ -15,13 +15,13 @@ use Rattle.rules.specs.declared.outcome.SetDeed.{SetDeed}
 use Rattle.rules.specs.declared.outcome.SetDeed.TheVariants as set-deed
 use Rattle.rules.specs.declared.outcome.Outcome.{Outcome}
 use Rattle.rules.specs.Diagnosis.{delayed, diagnosed}
-use Rattle.rules.specs.Line.{clearNoted}
-use Rattle.rules.proofs.Bounded.{Bounded, BoundedBy, noted-bounded}
-use Rattle.ledger.specs.Lists.{some, Outputs, takenOutputs, Inputs, writtenInput, Sets, Diagnoses, exchangedDiagnoses, writtenDiagnosis, Buffers, withOutputs, withInputs, withDiagnoses}
-use Rattle.ledger.specs.Ledger.{Line, Ledger, withLine, busy, diagnosisLeaves}
-use Rattle.ledger.specs.Outcome.{onOutputs, onInputs, onSets, onBuffers, carried, diagnosisChanged, afterReply, settle}
-use Rattle.ledger.specs.User.{writtenOctet}
-use Rattle.telegram.proofs.OctetLists.{set-octets, zero-octets}
+use Rattle.rules.specs.Line.{clear_noted}
+use Rattle.rules.proofs.Bounded.{Bounded, BoundedBy, noted_bounded}
+use Rattle.ledger.specs.Lists.{some, Outputs, taken_outputs, Inputs, written_input, Sets, Diagnoses, exchanged_diagnoses, written_diagnosis, Buffers, with_outputs, with_inputs, with_diagnoses}
+use Rattle.ledger.specs.Ledger.{Line, Ledger, with_line, busy, diagnosis_leaves}
+use Rattle.ledger.specs.Outcome.{on_outputs, on_inputs, on_sets, on_buffers, carried, diagnosis_changed, after_reply, settle}
+use Rattle.ledger.specs.User.{written_octet}
+use Rattle.telegram.proofs.OctetLists.{set_octets, zero_octets}
 use Rattle.ledger.proofs.OctetReplies.{OutputOctets, InputOctets, SetOctets, DiagnosisOctets, ListOctets}
 
 -- what a ledger that is fed octets keeps
@@ -37,33 +37,33 @@ pub record Octal (l : Ledger) : Type 0 where
 -- The lists after an outcome.
 
 -- the outputs
-outputs-octal : (d : OutputsDeed) (o : Outputs) (n : ℕ) (ds : List ℕ) → Octets ds → OutputOctets o → OutputOctets (onOutputs d o n ds)
-outputs-octal outputs-deed.Keep o n ds q f = f
-outputs-octal outputs-deed.Publish o n ds q f = record { held = f.held; next = q; back = f.back }
-outputs-octal outputs-deed.HoldBack o n ds q f = record { held = f.held; next = f.next; back = q }
-outputs-octal outputs-deed.Release o n ds q f = record { held = f.held; next = f.back; back = tt }
-outputs-octal outputs-deed.Zeros o n ds q f = record { held = f.held; next = zero-octets n; back = tt }
+outputs_octal : (d : OutputsDeed) (o : Outputs) (n : ℕ) (ds : List ℕ) → Octets ds → OutputOctets o → OutputOctets (on_outputs d o n ds)
+outputs_octal outputs-deed.Keep o n ds q f = f
+outputs_octal outputs-deed.Publish o n ds q f = record { held = f.held; next = q; back = f.back }
+outputs_octal outputs-deed.HoldBack o n ds q f = record { held = f.held; next = f.next; back = q }
+outputs_octal outputs-deed.Release o n ds q f = record { held = f.held; next = f.back; back = tt }
+outputs_octal outputs-deed.Zeros o n ds q f = record { held = f.held; next = zero_octets n; back = tt }
 
 -- the inputs
-inputs-octal : (d : InputsDeed) (i : Inputs) → InputOctets i → InputOctets (onInputs d i)
-inputs-octal inputs-deed.Keep i f = f
-inputs-octal inputs-deed.Bring i f = either InputOctets i.fresh (record { sending = f.next; next = f.sending; held = f.held }) f
+inputs_octal : (d : InputsDeed) (i : Inputs) → InputOctets i → InputOctets (on_inputs d i)
+inputs_octal inputs-deed.Keep i f = f
+inputs_octal inputs-deed.Bring i f = either InputOctets i.fresh (record { sending = f.next; next = f.sending; held = f.held }) f
 
 -- the sets of a kind
-sets-octal : (d : SetDeed) (x : Sets) (ds : List ℕ) → Octets ds → SetOctets x → SetOctets (onSets d x ds)
-sets-octal set-deed.Keep x ds q f = f
-sets-octal set-deed.Receive x ds q f =
+sets_octal : (d : SetDeed) (x : Sets) (ds : List ℕ) → Octets ds → SetOctets x → SetOctets (on_sets d x ds)
+sets_octal set-deed.Keep x ds q f = f
+sets_octal set-deed.Receive x ds q f =
     either SetOctets (some x.shown) (record { shown = f.shown; waiting = q }) (record { shown = q; waiting = f.waiting })
-sets-octal set-deed.Advance x ds q f = record { shown = f.waiting; waiting = tt }
-sets-octal set-deed.Drop x ds q f = record { shown = tt; waiting = tt }
+sets_octal set-deed.Advance x ds q f = record { shown = f.waiting; waiting = tt }
+sets_octal set-deed.Drop x ds q f = record { shown = tt; waiting = tt }
 
 -- all of them
-lists-octal : (o : Outcome) (s : Setup) (ds : List ℕ) (b : Buffers) → Octets ds → ListOctets b → ListOctets (onBuffers o s ds b)
-lists-octal o s ds b q f = record {
-  outputs = outputs-octal o.outputs b.outputs s.output_len ds q f.outputs;
-  inputs = inputs-octal o.inputs b.inputs f.inputs;
-  parameters = sets-octal o.parameters b.parameters ds q f.parameters;
-  configuration = sets-octal o.configuration b.configuration ds q f.configuration;
+lists_octal : (o : Outcome) (s : Setup) (ds : List ℕ) (b : Buffers) → Octets ds → ListOctets b → ListOctets (on_buffers o s ds b)
+lists_octal o s ds b q f = record {
+  outputs = outputs_octal o.outputs b.outputs s.output_len ds q f.outputs;
+  inputs = inputs_octal o.inputs b.inputs f.inputs;
+  parameters = sets_octal o.parameters b.parameters ds q f.parameters;
+  configuration = sets_octal o.configuration b.configuration ds q f.configuration;
   diagnosis = f.diagnosis;
 }
 
@@ -72,17 +72,17 @@ lists-octal o s ds b q f = record {
 
 module _ {l : Ledger} (f : Octal l) where
   -- another line
-  pub on_line : (n : Line) → Octets n.telegram → Octets n.reply → Octal (withLine l n)
+  pub on_line : (n : Line) → Octets n.telegram → Octets n.reply → Octal (with_line l n)
   on_line n x y = record { ident = f.ident; slice = f.slice; control = f.control; lists = f.lists; telegram = x; reply = y }
 
   -- other lists and another control part
-  pub on-lists : (b : Buffers) (c : Control) → ListOctets b → Bounded c
+  pub on_lists : (b : Buffers) (c : Control) → ListOctets b → Bounded c
       → Octal (record { setup = l.setup; slice = l.slice; control = c; buffers = b; line = l.line })
-  on-lists b c x h = record { ident = f.ident; slice = f.slice; control = h; lists = x; telegram = f.telegram; reply = f.reply }
+  on_lists b c x h = record { ident = f.ident; slice = f.slice; control = h; lists = x; telegram = f.telegram; reply = f.reply }
 
   -- other inputs
-  pub on-inputs : (i : Inputs) → InputOctets i → ListOctets (withInputs l.buffers i)
-  on-inputs i w = record {
+  pub on_inputs_lem : (i : Inputs) → InputOctets i → ListOctets (with_inputs l.buffers i)
+  on_inputs_lem i w = record {
     outputs = f.lists.outputs;
     inputs = w;
     parameters = f.lists.parameters;
@@ -91,8 +91,8 @@ module _ {l : Ledger} (f : Octal l) where
   }
 
   -- another diagnosis
-  on-diagnoses : (d : Diagnoses) → DiagnosisOctets d → ListOctets (withDiagnoses l.buffers d)
-  on-diagnoses d w = record {
+  on_diagnoses : (d : Diagnoses) → DiagnosisOctets d → ListOctets (with_diagnoses l.buffers d)
+  on_diagnoses d w = record {
     outputs = f.lists.outputs;
     inputs = f.lists.inputs;
     parameters = f.lists.parameters;
@@ -101,8 +101,8 @@ module _ {l : Ledger} (f : Octal l) where
   }
 
   -- outputs taken
-  pub taken-octal : ListOctets (withOutputs l.buffers (takenOutputs l.buffers.outputs))
-  taken-octal = record {
+  pub taken_octal : ListOctets (with_outputs l.buffers (taken_outputs l.buffers.outputs))
+  taken_octal = record {
     outputs = record { held = f.lists.outputs.next; next = f.lists.outputs.held; back = f.lists.outputs.back };
     inputs = f.lists.inputs;
     parameters = f.lists.parameters;
@@ -111,34 +111,34 @@ module _ {l : Ledger} (f : Octal l) where
   }
 
   -- an octet written
-  pub written-octal : (kind index x : ℕ) → x < 256 → ListOctets (writtenOctet l.buffers kind index x)
-  written-octal kind index x h =
+  pub written_octal : (kind index x : ℕ) → x < 256 → ListOctets (written_octet l.buffers kind index x)
+  written_octal kind index x h =
       either ListOctets (eqb kind 4)
-      (on-inputs (writtenInput l.buffers.inputs index x)
-      (record { sending = f.lists.inputs.sending; next = f.lists.inputs.next; held = set-octets l.buffers.inputs.held index x h f.lists.inputs.held }))
-      (on-diagnoses (writtenDiagnosis l.buffers.diagnosis index x)
-      (record { own = f.lists.diagnosis.own; user = set-octets l.buffers.diagnosis.user index x h f.lists.diagnosis.user }))
+      (on_inputs_lem (written_input l.buffers.inputs index x)
+      (record { sending = f.lists.inputs.sending; next = f.lists.inputs.next; held = set_octets l.buffers.inputs.held index x h f.lists.inputs.held }))
+      (on_diagnoses (written_diagnosis l.buffers.diagnosis index x)
+      (record { own = f.lists.diagnosis.own; user = set_octets l.buffers.diagnosis.user index x h f.lists.diagnosis.user }))
 
   -- an outcome
-  pub carried-octal : (o : Outcome) (ds : List ℕ) → Octets ds → BoundedBy o → Octal (carried l o ds)
-  carried-octal o ds q h = on-lists (onBuffers o l.setup ds l.buffers) o.control (lists-octal o l.setup ds l.buffers q f.lists) h
+  pub carried_octal : (o : Outcome) (ds : List ℕ) → Octets ds → BoundedBy o → Octal (carried l o ds)
+  carried_octal o ds q h = on_lists (on_buffers o l.setup ds l.buffers) o.control (lists_octal o l.setup ds l.buffers q f.lists) h
 
   -- the two diagnosis lists change
-  pub changed-octal : (count flags : ℕ) → Octal (diagnosisChanged l (diagnosed l.control count flags))
+  pub changed_octal : (count flags : ℕ) → Octal (diagnosis_changed l (diagnosed l.control count flags))
   unfolding diagnosed
-  changed-octal count flags =
-      on-lists (withDiagnoses l.buffers (exchangedDiagnoses l.buffers.diagnosis)) (diagnosed l.control count flags)
-      (on-diagnoses (exchangedDiagnoses l.buffers.diagnosis) (record { own = f.lists.diagnosis.user; user = f.lists.diagnosis.own })) f.control
+  changed_octal count flags =
+      on_lists (with_diagnoses l.buffers (exchanged_diagnoses l.buffers.diagnosis)) (diagnosed l.control count flags)
+      (on_diagnoses (exchanged_diagnoses l.buffers.diagnosis) (record { own = f.lists.diagnosis.user; user = f.lists.diagnosis.own })) f.control
 
   -- a delayed diagnosis
-  reply-octal : Octal (afterReply l)
-  unfolding afterReply
-  reply-octal =
-      either Octal (delayed l.control && not (diagnosisLeaves l)) (changed-octal l.control.diagnosis.delayed_count l.control.diagnosis.delayed_flags) f
+  reply_octal : Octal (after_reply l)
+  unfolding after_reply
+  reply_octal =
+      either Octal (delayed l.control && not (diagnosis_leaves l)) (changed_octal l.control.diagnosis.delayed_count l.control.diagnosis.delayed_flags) f
 
 -- and then a noted clear
-pub settle-octal : {l : Ledger} → Octal l → Octal (settle l)
+pub settle_octal : {l : Ledger} → Octal l → Octal (settle l)
 unfolding settle
-settle-octal {l} f =
-    let g = reply-octal f in
-    carried-octal g (clearNoted (busy l) (afterReply l).control) [] tt (noted-bounded (afterReply l).control g.control (busy l))
+settle_octal {l} f =
+    let g = reply_octal f in
+    carried_octal g (clear_noted (busy l) (after_reply l).control) [] tt (noted_bounded (after_reply l).control g.control (busy l))

@@ -7,10 +7,10 @@ use Rattle.telegram.proofs.Run.{no_true}
 use Rattle.ledger.specs.Lists.{some}
 
 -- a list with nothing in it
-pub nothing-in : (xs : List ℕ) → some xs ≡ false → xs ≡ []
-nothing-in [] e = refl
-nothing-in (x ∷ xs) e = no_true (sym e)
+pub nothing_in : (xs : List ℕ) → some xs ≡ false → xs ≡ []
+nothing_in [] e = refl
+nothing_in (x ∷ xs) e = no_true (sym e)
 
 -- one with something in it is not empty
-pub something-in : {xs : List ℕ} → some xs ≡ true → xs ≡ [] → ⊥
-something-in e f = no_true (sym (ap some f) ∙ e)
+pub something_in : {xs : List ℕ} → some xs ≡ true → xs ≡ [] → ⊥
+something_in e f = no_true (sym (ap some f) ∙ e)

@@ -3,7 +3,7 @@
 use Rattle.std.specs.Prelude.{ℕ, List, [], ◌∷◌, ◌++◌, replicate}
 use Rattle.state.specs.declared.setup.Setup.{Setup}
 use Rattle.ledger.specs.Ledger.{fresh}
-use Rattle.rules.specs.Call.{gap, send, tick, take, read, write, hand-over, new-diagnosis, judge-parameters, judge-configuration, events, acknowledge, leave}
+use Rattle.rules.specs.Call.{gap, send, tick, take, read, write, hand_over_lem, new_diagnosis_lem, judge_parameters_lem, judge_configuration_lem, events, acknowledge, leave}
 use Rattle.ledger.specs.Script.{Part, hears, sends, does, Answers, station}
 
 -- a status request
@@ -46,7 +46,7 @@ abbrev pub configure : List Part
 configure =
     does gap 0 ∷ hears (0x68 ∷ 0x06 ∷ 0x06 ∷ 0x68 ∷ 0x85 ∷ 0x82 ∷ 0x5D ∷ 0x3E ∷ 0x3E ∷ 0x20 ∷ 0x00 ∷ 0x16 ∷ [])
     ∷ sends (0xE5 ∷ []) ∷ does send 256
-    ∷ does (judge-parameters 1) 0 ∷ does (judge-configuration 1) 0 ∷ does (write 4 0 0x21) 0 ∷ does hand-over 0 ∷ []
+    ∷ does (judge_parameters_lem 1) 0 ∷ does (judge_configuration_lem 1) 0 ∷ does (write 4 0 0x21) 0 ∷ does hand_over_lem 0 ∷ []
 
 -- Data_Exchange
 abbrev pub d : List Part
@@ -58,7 +58,7 @@ d =
 -- with Diag_Flag
 abbrev pub e : List Part
 e =
-    does (new-diagnosis 6 0) 0
+    does (new_diagnosis_lem 6 0) 0
     ∷ does gap 0 ∷ hears (0x68 ∷ 0x04 ∷ 0x04 ∷ 0x68 ∷ 0x05 ∷ 0x02 ∷ 0x5D ∷ 0x7A ∷ 0xDE ∷ 0x16 ∷ [])
     ∷ sends (0x68 ∷ 0x04 ∷ 0x04 ∷ 0x68 ∷ 0x02 ∷ 0x05 ∷ 0x0A ∷ 0x21 ∷ 0x32 ∷ 0x16 ∷ []) ∷ does send 256 ∷ []
 
@@ -84,11 +84,11 @@ j =
     ∷ sends (0x10 ∷ 0x02 ∷ 0x05 ∷ 0x03 ∷ 0x0A ∷ 0x16 ∷ []) ∷ does send 256 ∷ []
 
 -- the station that they are tried on, with the octets that Get_Cfg sends
-abbrev pub benchSetup : Setup
-benchSetup = station 1 1 7 1 6 1
+abbrev pub bench_setup : Setup
+bench_setup = station 1 1 7 1 6 1
 
-abbrev pub benchSlice : List ℕ
-benchSlice = 0x20 ∷ []
+abbrev pub bench_slice : List ℕ
+bench_slice = 0x20 ∷ []
 
 -- all of them, one behind the other, with a ahead of each
 abbrev pub bench : List Part
@@ -96,4 +96,4 @@ bench = a ++ b ++ a ++ f ++ a ++ c ++ a ++ parametrize ++ a ++ configure ++ a ++
 
 -- the ledger answers so
 abbrev pub BenchAnswered : Type 0
-BenchAnswered = Answers (fresh benchSetup benchSlice) bench
+BenchAnswered = Answers (fresh bench_setup bench_slice) bench

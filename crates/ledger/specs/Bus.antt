@@ -3,32 +3,32 @@
 use Rattle.std.specs.Prelude.{ℕ, Bool, true, false, cond, ◌||◌, List, [], ◌∷◌, ◌++◌, length, get_or}
 use Rattle.telegram.specs.declared.reader.Status.{Status}
 use Rattle.telegram.specs.declared.reader.Status.TheVariants.{Fresh, Inside, Complete, Broken}
-use Rattle.telegram.specs.Telegram.{Telegram, kind_of, daOf, saOf, fcOf, dsapOf, ssapOf, payloadOf}
-use Rattle.telegram.specs.Reading.{start, run, readerAfter, status, gathered, telegramOf}
+use Rattle.telegram.specs.Telegram.{Telegram, kind_of, da_of, sa_of, fc_of, dsap_of, ssap_of, payload_of}
+use Rattle.telegram.specs.Reading.{start, run, reader_after, status, gathered, telegram_of}
 use Rattle.rules.specs.declared.request.Request.{Request}
 use Rattle.rules.specs.declared.request.Data.{Data}
 use Rattle.rules.specs.declared.request.Prm.{Prm}
 use Rattle.rules.specs.declared.outcome.Outcome.{Outcome}
-use Rattle.rules.specs.Requests.{masterOf}
-use Rattle.rules.specs.Services.{outcomeBy}
+use Rattle.rules.specs.Requests.{master_of}
+use Rattle.rules.specs.Services.{outcome_by}
 use Rattle.rules.specs.Line.{ticked}
-use Rattle.ledger.specs.Ledger.{Line, Ledger, withLine, begun, busy, occupied}
-use Rattle.ledger.specs.Replies.{replyOf}
+use Rattle.ledger.specs.Ledger.{Line, Ledger, with_line, begun, busy, occupied}
+use Rattle.ledger.specs.Replies.{reply_of}
 use Rattle.rules.specs.Replies.{diagnoses}
-use Rattle.ledger.specs.Outcome.{carried, onBuffers, settle}
+use Rattle.ledger.specs.Outcome.{carried, on_buffers, settle}
 
 -- the telegram with these octets: where they are those of a valid telegram, that one (ByGrammar.antt: HeardAsFramed.whole)
-abbrev pub telegramOn : List ℕ → Telegram
-telegramOn xs = telegramOf (run xs) (gathered start xs)
+abbrev pub telegram_on : List ℕ → Telegram
+telegram_on xs = telegram_of (run xs) (gathered start xs)
 
 -- its header, as the rules see it
-abbrev pub requestBy : Telegram → Request
-requestBy t =
-    record { kind = kind_of t; da = daOf t; sa = saOf t; fc = fcOf t; dsap = dsapOf t; ssap = ssapOf t; count = length (payloadOf t) }
+abbrev pub request_by : Telegram → Request
+request_by t =
+    record { kind = kind_of t; da = da_of t; sa = sa_of t; fc = fc_of t; dsap = dsap_of t; ssap = ssap_of t; count = length (payload_of t) }
 
 -- the data octets that Set_Prm looks at
-abbrev pub prmBy : List ℕ → Prm
-prmBy ds =
+abbrev pub prm_by : List ℕ → Prm
+prm_by ds =
     record {
       status = get_or ds 0 0;
       factor1 = get_or ds 1 0;
@@ -40,31 +40,31 @@ prmBy ds =
     }
 
 -- and all that the rules look at
-abbrev pub dataBy : List ℕ → Data
-dataBy ds = record { prm = prmBy ds; first = get_or ds 0 0; second = get_or ds 1 0 }
+abbrev pub data_by : List ℕ → Data
+data_by ds = record { prm = prm_by ds; first = get_or ds 0 0; second = get_or ds 1 0 }
 
 -- what comes of a telegram
-abbrev pub outcomeOf : Ledger → Request → List ℕ → Outcome
-outcomeOf l r ds = outcomeBy l.setup l.control (occupied l) r (dataBy ds)
+abbrev pub outcome_of : Ledger → Request → List ℕ → Outcome
+outcome_of l r ds = outcome_by l.setup l.control (occupied l) r (data_by ds)
 
 -- a last octet applies Services to all of them and fixes the reply whole; octets are ignored until a gap
 unfoldable pub answered : Ledger → Outcome → ℕ → List ℕ → Ledger
 answered l o master ds =
-    withLine (carried l o ds)
+    with_line (carried l o ds)
     (record {
       ignored = true;
       telegram = [];
-      reply = replyOf o.drawn l.setup l.slice o.control (onBuffers o l.setup ds l.buffers) master;
+      reply = reply_of o.drawn l.setup l.slice o.control (on_buffers o l.setup ds l.buffers) master;
       diagnosing = diagnoses o.drawn;
     })
 
 -- a complete telegram: what comes of it is carried out, and the reply fixed
 abbrev pub completed : Ledger → Telegram → Ledger
-completed l t = answered l (outcomeOf l (requestBy t) (payloadOf t)) (masterOf (requestBy t)) (payloadOf t)
+completed l t = answered l (outcome_of l (request_by t) (payload_of t)) (master_of (request_by t)) (payload_of t)
 
 -- broken off: octets are ignored until the next gap
-abbrev pub brokenOff : Line → Line
-brokenOff n = record { ignored = true; telegram = []; reply = n.reply; diagnosing = n.diagnosing }
+abbrev pub broken_off : Line → Line
+broken_off n = record { ignored = true; telegram = []; reply = n.reply; diagnosing = n.diagnosing }
 
 -- an inner octet only lengthens the telegram octets
 abbrev pub lengthened : Line → ℕ → Line
@@ -76,15 +76,15 @@ beginning b = record { ignored = false; telegram = b ∷ []; reply = []; diagnos
 
 -- by what the octets are with this one: none yet, some that lack octets, a telegram, or some that none can result from
 -- (ByGrammar.antt: HeardAsFramed, each case by the grammar)
-abbrev pub heardAs : Status → Ledger → ℕ → Ledger
-heardAs Fresh l b = l
-heardAs Inside l b = cond (begun l) (withLine l (lengthened l.line b)) (settle (withLine l (beginning b)))
-heardAs Complete l b = settle (completed l (telegramOn (l.line.telegram ++ b ∷ [])))
-heardAs Broken l b = settle (withLine l (brokenOff l.line))
+abbrev pub heard_as : Status → Ledger → ℕ → Ledger
+heard_as Fresh l b = l
+heard_as Inside l b = cond (begun l) (with_line l (lengthened l.line b)) (settle (with_line l (beginning b)))
+heard_as Complete l b = settle (completed l (telegram_on (l.line.telegram ++ b ∷ [])))
+heard_as Broken l b = settle (with_line l (broken_off l.line))
 
 -- the bus's octet
 unfoldable pub heard : Ledger → ℕ → Bool → Ledger
-heard l b bad = cond l.line.ignored l (heardAs (status (readerAfter (run l.line.telegram) b bad)) l b)
+heard l b bad = cond l.line.ignored l (heard_as (status (reader_after (run l.line.telegram) b bad)) l b)
 
 -- the line after a gap: the next octet may begin a telegram; a reply stays
 abbrev pub gapped : Line → Line
@@ -92,21 +92,21 @@ gapped n = record { ignored = false; telegram = []; reply = n.reply; diagnosing 
 
 -- a gap; one inside a telegram breaks it off
 unfoldable pub paused : Ledger → Ledger
-paused l = settle (withLine l (gapped l.line))
+paused l = settle (with_line l (gapped l.line))
 
 -- send answers the first reply octet left, 256 when no octet is left
-abbrev pub sendTold : List ℕ → ℕ
-sendTold [] = 256
-sendTold (x ∷ xs) = x
+abbrev pub send_told : List ℕ → ℕ
+send_told [] = 256
+send_told (x ∷ xs) = x
 
 -- and removes it
-abbrev pub sendLeft : Line → List ℕ → Line
-sendLeft n [] = n
-sendLeft n (x ∷ xs) = record { ignored = n.ignored; telegram = n.telegram; reply = xs; diagnosing = n.diagnosing }
+abbrev pub send_left : Line → List ℕ → Line
+send_left n [] = n
+send_left n (x ∷ xs) = record { ignored = n.ignored; telegram = n.telegram; reply = xs; diagnosing = n.diagnosing }
 
 -- the ledger after a send
-unfoldable pub afterSend : Ledger → Ledger
-afterSend l = settle (withLine l (sendLeft l.line l.line.reply))
+unfoldable pub after_send : Ledger → Ledger
+after_send l = settle (with_line l (send_left l.line l.line.reply))
 
 -- the next Tick after a clear was noted drops telegram or reply, so that it is carried out, counting nothing
 abbrev pub silenced : Ledger → Line
@@ -114,4 +114,4 @@ silenced l = record { ignored = l.line.ignored || begun l; telegram = []; reply 
 
 -- a Tick
 unfoldable pub elapsed : Ledger → Ledger
-elapsed l = cond l.control.noted (settle (withLine l (silenced l))) (carried l (ticked (busy l) l.control) [])
+elapsed l = cond l.control.noted (settle (with_line l (silenced l))) (carried l (ticked (busy l) l.control) [])

@@ -5,7 +5,7 @@ use Rattle.state.specs.declared.answer.Answer.TheVariants.{Value}
 use Rattle.telegram.specs.Framing.{Continues}
 use Rattle.ledger.specs.Ledger.{Ledger, begun}
 use Rattle.ledger.specs.Bus.{heard}
-use Rattle.rules.specs.Call.{Call, octet, gap, send, tick, take, read, write, hand-over, new-diagnosis, judge-parameters, judge-configuration, events, acknowledge, pending, leave}
+use Rattle.rules.specs.Call.{Call, octet, gap, send, tick, take, read, write, hand_over_lem, new_diagnosis_lem, judge_parameters_lem, judge_configuration_lem, events, acknowledge, pending, leave}
 use Rattle.ledger.specs.Calls.{answers, after}
 
 -- a telegram is begun, unfinished and not broken off: octets are heard, some came, and some more complete a telegram
@@ -20,22 +20,22 @@ pub record Inner (l : Ledger) (b : ℕ) (bad : Bool) : Type 0 where
   pub behind : MidTelegram (heard l b bad)
 
 -- a user call; the others are the bus's
-abbrev pub ofUser : Call → Bool
-ofUser (octet b bad) = false
-ofUser gap = false
-ofUser send = false
-ofUser tick = false
-ofUser take = true
-ofUser (read kind index) = true
-ofUser (write kind index x) = true
-ofUser hand-over = true
-ofUser (new-diagnosis count flags) = true
-ofUser (judge-parameters j) = true
-ofUser (judge-configuration j) = true
-ofUser events = true
-ofUser (acknowledge mask) = true
-ofUser pending = true
-ofUser leave = true
+abbrev pub of_user : Call → Bool
+of_user (octet b bad) = false
+of_user gap = false
+of_user send = false
+of_user tick = false
+of_user take = true
+of_user (read kind index) = true
+of_user (write kind index x) = true
+of_user hand_over_lem = true
+of_user (new_diagnosis_lem count flags) = true
+of_user (judge_parameters_lem j) = true
+of_user (judge_configuration_lem j) = true
+of_user events = true
+of_user (acknowledge mask) = true
+of_user pending = true
+of_user leave = true
 
 -- every call keeps its answer, whichever of an octet and a call c comes first between the calls pre and post; answered: what a list of
 -- calls answers, whatever a call is and whatever it is made on
@@ -43,15 +43,15 @@ pub record PlacesChanged {E : Type 0} (answered : List E → List Answer) (pre p
   pub earlier : List Answer
   pub own : Answer
   pub later : List Answer
-  pub earlier-are : length earlier ≡ length pre
-  pub later-are : length later ≡ length post
-  pub octet-first : answered (pre ++ octet ∷ c ∷ post) ≡ earlier ++ Value 0 ∷ own ∷ later
-  pub call-first : answered (pre ++ c ∷ octet ∷ post) ≡ earlier ++ own ∷ Value 0 ∷ later
+  pub earlier_are : length earlier ≡ length pre
+  pub later_are : length later ≡ length post
+  pub octet_first : answered (pre ++ octet ∷ c ∷ post) ≡ earlier ++ Value 0 ∷ own ∷ later
+  pub call_first : answered (pre ++ c ∷ octet ∷ post) ≡ earlier ++ own ∷ Value 0 ∷ later
 
 -- and that for a user call, where the octet is inner before the call or is inner after it
 pub record Exchange (l : Ledger) (pre post : List Call) (b : ℕ) (bad : Bool) (c : Call) : Type 0 where
-  pub inner_first : ofUser c ≡ true → Inner (after l pre) b bad → PlacesChanged (answers l) pre post (octet b bad) c
-  pub inner-second : ofUser c ≡ true → Inner (after l (pre ++ c ∷ [])) b bad → PlacesChanged (answers l) pre post (octet b bad) c
+  pub inner_first : of_user c ≡ true → Inner (after l pre) b bad → PlacesChanged (answers l) pre post (octet b bad) c
+  pub inner_second : of_user c ≡ true → Inner (after l (pre ++ c ∷ [])) b bad → PlacesChanged (answers l) pre post (octet b bad) c
 
 -- so it is from every ledger on
 abbrev pub PlacesChange : Type 0

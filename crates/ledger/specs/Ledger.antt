@@ -2,7 +2,7 @@
 use Rattle.std.specs.Prelude.{ℕ, Bool, true, false, ◌&&◌, ◌||◌, List, [], replicate}
 use Rattle.state.specs.declared.setup.Setup.{Setup}
 use Rattle.state.specs.declared.control.Control.{Control}
-use Rattle.state.specs.Start.{firstControl}
+use Rattle.state.specs.Start.{first_control}
 use Rattle.rules.specs.declared.request.Occupied.{Occupied}
 use Rattle.ledger.specs.Lists.{some, Outputs, Buffers, no_sets}
 
@@ -22,8 +22,8 @@ pub record Ledger : Type 0 where
   pub line : Line
 
 -- the ledger with one field changed
-abbrev pub withControl : Ledger → Control → Ledger
-withControl l x =
+abbrev pub with_control : Ledger → Control → Ledger
+with_control l x =
     record {
       setup = l.setup;
       slice = l.slice;
@@ -32,8 +32,8 @@ withControl l x =
       line = l.line;
     }
 
-abbrev pub withBuffers : Ledger → Buffers → Ledger
-withBuffers l x =
+abbrev pub with_buffers : Ledger → Buffers → Ledger
+with_buffers l x =
     record {
       setup = l.setup;
       slice = l.slice;
@@ -42,8 +42,8 @@ withBuffers l x =
       line = l.line;
     }
 
-abbrev pub withLine : Ledger → Line → Ledger
-withLine l x =
+abbrev pub with_line : Ledger → Line → Ledger
+with_line l x =
     record {
       setup = l.setup;
       slice = l.slice;
@@ -61,32 +61,32 @@ abbrev pub busy : Ledger → Bool
 busy l = begun l || some l.line.reply
 
 -- a Slave_Diag reply is unfinished
-abbrev pub diagnosisLeaves : Ledger → Bool
-diagnosisLeaves l = l.line.diagnosing && some l.line.reply
+abbrev pub diagnosis_leaves : Ledger → Bool
+diagnosis_leaves l = l.line.diagnosing && some l.line.reply
 
 -- a parameter set is open
-abbrev pub parametersOpen : Ledger → Bool
-parametersOpen l = some l.buffers.parameters.shown
+abbrev pub parameters_open : Ledger → Bool
+parameters_open l = some l.buffers.parameters.shown
 
 -- a configuration set is open
-abbrev pub configurationOpen : Ledger → Bool
-configurationOpen l = some l.buffers.configuration.shown
+abbrev pub configuration_open : Ledger → Bool
+configuration_open l = some l.buffers.configuration.shown
 
 -- what the rules look at of the lists
 abbrev pub occupied : Ledger → Occupied
 occupied l =
-    record { parameters = parametersOpen l; configuration = configurationOpen l; outputs = l.buffers.outputs.withheld }
+    record { parameters = parameters_open l; configuration = configuration_open l; outputs = l.buffers.outputs.withheld }
 
 -- zeroed outputs, none held back
-abbrev pub freshOutputs : ℕ → Outputs
-freshOutputs n =
+abbrev pub fresh_outputs : ℕ → Outputs
+fresh_outputs n =
     record { held = replicate n 0; next = replicate n 0; back = []; fresh = false; zeros = false; withheld = false }
 
 -- zeroed buffers
-abbrev pub freshBuffers : Setup → Buffers
-freshBuffers s =
+abbrev pub fresh_buffers : Setup → Buffers
+fresh_buffers s =
     record {
-      outputs = freshOutputs s.output_len;
+      outputs = fresh_outputs s.output_len;
       inputs = record { sending = replicate s.input_len 0; next = replicate s.input_len 0; held = replicate s.input_len 0; fresh = false };
       parameters = no_sets;
       configuration = no_sets;
@@ -94,9 +94,9 @@ freshBuffers s =
     }
 
 -- Start also waits for a gap
-abbrev pub freshLine : Line
-freshLine = record { ignored = true; telegram = []; reply = []; diagnosing = false }
+abbrev pub fresh_line : Line
+fresh_line = record { ignored = true; telegram = []; reply = []; diagnosing = false }
 
 -- the ledger is fed Start's arguments; WAIT_PRM without publishing, no owner, nothing new or shown, diagnosis count 6, no flags, no events
 abbrev pub fresh : Setup → List ℕ → Ledger
-fresh s slice = record { setup = s; slice = slice; control = firstControl; buffers = freshBuffers s; line = freshLine }
+fresh s slice = record { setup = s; slice = slice; control = first_control; buffers = fresh_buffers s; line = fresh_line }

@@ -22,8 +22,8 @@ abbrev pub published : Outputs → List ℕ → Outputs
 published o ds = record { held = o.held; next = ds; back = o.back; fresh = true; zeros = false; withheld = o.withheld }
 
 -- these outputs are held back, in place of those that were
-abbrev pub heldBack : Outputs → List ℕ → Outputs
-heldBack o ds = record { held = o.held; next = o.next; back = ds; fresh = o.fresh; zeros = o.zeros; withheld = true }
+abbrev pub held_back : Outputs → List ℕ → Outputs
+held_back o ds = record { held = o.held; next = o.next; back = ds; fresh = o.fresh; zeros = o.zeros; withheld = true }
 
 -- nothing is held back any more
 abbrev pub emptied : Outputs → Outputs
@@ -34,18 +34,18 @@ abbrev pub released : Outputs → Outputs
 released o = emptied (published o o.back)
 
 -- the station publishes n zeros
-abbrev pub publishedZeros : Outputs → ℕ → Outputs
-publishedZeros o n =
+abbrev pub published_zeros : Outputs → ℕ → Outputs
+published_zeros o n =
     record { held = o.held; next = replicate n 0; back = o.back; fresh = true; zeros = true; withheld = o.withheld }
 
 -- take changes next and held
-abbrev pub takenOutputs : Outputs → Outputs
-takenOutputs o =
+abbrev pub taken_outputs : Outputs → Outputs
+taken_outputs o =
     record { held = o.next; next = o.held; back = o.back; fresh = false; zeros = o.zeros; withheld = o.withheld }
 
 -- where next is new
-abbrev pub tookNew : Outputs → Outputs
-tookNew o = cond o.fresh (takenOutputs o) o
+abbrev pub took_new : Outputs → Outputs
+took_new o = cond o.fresh (taken_outputs o) o
 
 -- the inputs that the controller sends (fill), those that are next, and those that the user holds
 pub record Inputs : Type 0 where
@@ -55,16 +55,16 @@ pub record Inputs : Type 0 where
   pub fresh : Bool
 
 -- hand over: held and next change, next is new
-abbrev pub handedOver : Inputs → Inputs
-handedOver i = record { sending = i.sending; next = i.held; held = i.next; fresh = true }
+abbrev pub handed_over : Inputs → Inputs
+handed_over i = record { sending = i.sending; next = i.held; held = i.next; fresh = true }
 
 -- if next inputs are new, fill and next change
 abbrev pub brought : Inputs → Inputs
 brought i = cond i.fresh (record { sending = i.next; next = i.sending; held = i.held; fresh = false }) i
 
 -- octet n of the inputs held is written
-abbrev pub writtenInput : Inputs → ℕ → ℕ → Inputs
-writtenInput i n x = record { sending = i.sending; next = i.next; held = set i.held n x; fresh = i.fresh }
+abbrev pub written_input : Inputs → ℕ → ℕ → Inputs
+written_input i n x = record { sending = i.sending; next = i.next; held = set i.held n x; fresh = i.fresh }
 
 -- a set of parameters or of configuration that is shown, and one that waits; the empty list where there is none
 pub record Sets : Type 0 where
@@ -72,8 +72,8 @@ pub record Sets : Type 0 where
   pub waiting : List ℕ
 
 -- a set is shown if none is open; otherwise it waits, replacing one that waits
-abbrev pub receivedSet : Sets → List ℕ → Sets
-receivedSet s ds = cond (some s.shown) (record { shown = s.shown; waiting = ds }) (record { shown = ds; waiting = s.waiting })
+abbrev pub received_set : Sets → List ℕ → Sets
+received_set s ds = cond (some s.shown) (record { shown = s.shown; waiting = ds }) (record { shown = ds; waiting = s.waiting })
 
 -- the newer set is shown instead
 abbrev pub advanced : Sets → Sets
@@ -89,12 +89,12 @@ pub record Diagnoses : Type 0 where
   pub user : List ℕ
 
 -- the two buffers change
-abbrev pub exchangedDiagnoses : Diagnoses → Diagnoses
-exchangedDiagnoses d = record { own = d.user; user = d.own }
+abbrev pub exchanged_diagnoses : Diagnoses → Diagnoses
+exchanged_diagnoses d = record { own = d.user; user = d.own }
 
 -- octet n of the user's is written
-abbrev pub writtenDiagnosis : Diagnoses → ℕ → ℕ → Diagnoses
-writtenDiagnosis d n x = record { own = d.own; user = set d.user n x }
+abbrev pub written_diagnosis : Diagnoses → ℕ → ℕ → Diagnoses
+written_diagnosis d n x = record { own = d.own; user = set d.user n x }
 
 -- all of them
 pub record Buffers : Type 0 where
@@ -105,8 +105,8 @@ pub record Buffers : Type 0 where
   pub diagnosis : Diagnoses
 
 -- the lists with one field changed
-abbrev pub withOutputs : Buffers → Outputs → Buffers
-withOutputs b x =
+abbrev pub with_outputs : Buffers → Outputs → Buffers
+with_outputs b x =
     record {
       outputs = x;
       inputs = b.inputs;
@@ -115,8 +115,8 @@ withOutputs b x =
       diagnosis = b.diagnosis;
     }
 
-abbrev pub withInputs : Buffers → Inputs → Buffers
-withInputs b x =
+abbrev pub with_inputs : Buffers → Inputs → Buffers
+with_inputs b x =
     record {
       outputs = b.outputs;
       inputs = x;
@@ -125,8 +125,8 @@ withInputs b x =
       diagnosis = b.diagnosis;
     }
 
-abbrev pub withDiagnoses : Buffers → Diagnoses → Buffers
-withDiagnoses b x =
+abbrev pub with_diagnoses : Buffers → Diagnoses → Buffers
+with_diagnoses b x =
     record {
       outputs = b.outputs;
       inputs = b.inputs;

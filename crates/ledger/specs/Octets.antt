@@ -3,7 +3,7 @@ use Rattle.std.specs.Prelude.{ℕ, ◌<◌, ◌≡◌, List, [], ◌∷◌, ◌�
 use Rattle.telegram.specs.Telegram.{Octets}
 use Rattle.state.specs.declared.setup.Setup.{Setup}
 use Rattle.state.specs.declared.answer.Answer.TheVariants.{Value}
-use Rattle.rules.specs.Call.{Call, octet, gap, send, tick, take, read, write, hand-over, new-diagnosis, judge-parameters, judge-configuration, events, acknowledge, pending, leave}
+use Rattle.rules.specs.Call.{Call, octet, gap, send, tick, take, read, write, hand_over_lem, new_diagnosis_lem, judge_parameters_lem, judge_configuration_lem, events, acknowledge, pending, leave}
 use Rattle.ledger.specs.Ledger.{Ledger, fresh}
 use Rattle.ledger.specs.Calls.{step, after}
 use Rattle.ledger.specs.ReadBack.{StartTakes}
@@ -17,10 +17,10 @@ OctetsIn tick = Unit
 OctetsIn take = Unit
 OctetsIn (read kind index) = Unit
 OctetsIn (write kind index x) = x < 256
-OctetsIn hand-over = Unit
-OctetsIn (new-diagnosis count flags) = Unit
-OctetsIn (judge-parameters j) = Unit
-OctetsIn (judge-configuration j) = Unit
+OctetsIn hand_over_lem = Unit
+OctetsIn (new_diagnosis_lem count flags) = Unit
+OctetsIn (judge_parameters_lem j) = Unit
+OctetsIn (judge_configuration_lem j) = Unit
 OctetsIn events = Unit
 OctetsIn (acknowledge mask) = Unit
 OctetsIn pending = Unit
@@ -34,11 +34,11 @@ AllOctets (c ∷ cs) = OctetsIn c × AllOctets cs
 -- "Send answers 256 when no octet is left", and "Reading answers the octet"
 pub record AnswersOctets (l : Ledger) : Type 0 where
   -- what is left of the reply are octets
-  pub left-are : Octets l.line.reply
+  pub left_are : Octets l.line.reply
   -- so that 256 from Send says that none is left
-  pub answers-none : ((step l send).answer ≡ Value 256) ↔ (l.line.reply ≡ [])
+  pub answers_none : ((step l send).answer ≡ Value 256) ↔ (l.line.reply ≡ [])
   -- what a read answers is an octet
-  pub reads-octet : (kind index n : ℕ) → (step l (read kind index)).answer ≡ Value n → n < 256
+  pub reads_octet : (kind index n : ℕ) → (step l (read kind index)).answer ≡ Value n → n < 256
 
 -- after every list of calls that brings octets, from a Start with a slice of octets and an ident number of 16 bits
 abbrev pub SentOctets : Type 0

@@ -7,7 +7,7 @@ use Rattle.state.specs.declared.answer.Refusal.{Refusal}
 use Rattle.ledger.specs.Ledger.{Ledger}
 use Rattle.rules.specs.Call.{Call}
 use Rattle.ledger.specs.Calls.{answers}
-use Rattle.ledger.specs.Hearing.{hear, sendsOf, values}
+use Rattle.ledger.specs.Hearing.{hear, sends_of, values}
 
 -- octets that come, each answered by 0; sends that answer these; a call that answers a value; a call that is refused
 pub data Part : Type 0 where
@@ -20,21 +20,21 @@ pub data Part : Type 0 where
 abbrev pub calls_of : List Part → List Call
 calls_of [] = []
 calls_of (hears xs ∷ ps) = hear xs ++ calls_of ps
-calls_of (sends xs ∷ ps) = sendsOf xs ++ calls_of ps
+calls_of (sends xs ∷ ps) = sends_of xs ++ calls_of ps
 calls_of (does c n ∷ ps) = c ∷ calls_of ps
 calls_of (refuses c r ∷ ps) = c ∷ calls_of ps
 
 -- and their answers
-abbrev pub answersOf : List Part → List Answer
-answersOf [] = []
-answersOf (hears xs ∷ ps) = replicate (length xs) (Value 0) ++ answersOf ps
-answersOf (sends xs ∷ ps) = values xs ++ answersOf ps
-answersOf (does c n ∷ ps) = Value n ∷ answersOf ps
-answersOf (refuses c r ∷ ps) = Refused r ∷ answersOf ps
+abbrev pub answers_of : List Part → List Answer
+answers_of [] = []
+answers_of (hears xs ∷ ps) = replicate (length xs) (Value 0) ++ answers_of ps
+answers_of (sends xs ∷ ps) = values xs ++ answers_of ps
+answers_of (does c n ∷ ps) = Value n ∷ answers_of ps
+answers_of (refuses c r ∷ ps) = Refused r ∷ answers_of ps
 
 -- the ledger answers so
 pub record Answers (l : Ledger) (ps : List Part) : Type 0 where
-  pub answers-are : answers l (calls_of ps) ≡ answersOf ps
+  pub answers_are : answers l (calls_of ps) ≡ answers_of ps
 
 -- address 5, ident 80B3, these lengths for outputs, inputs, parameters, configuration, diagnosis and Get_Cfg
 abbrev pub station : ℕ → ℕ → ℕ → ℕ → ℕ → ℕ → Setup

@@ -16,17 +16,17 @@ abbrev pub word : Ty
 word = ty_int w64
 
 -- a reference to a state, to an octet, and the slices
-abbrev pub refT : Ty
-refT = ty_ref erased mut (ty_named head)
+abbrev pub ref_t : Ty
+ref_t = ty_ref erased mut (ty_named head)
 
-abbrev pub refB : Ty
-refB = ty_ref erased mut byte
+abbrev pub ref_b : Ty
+ref_b = ty_ref erased mut byte
 
-abbrev pub sliceM : Ty
-sliceM = slice_ty (ty_ref (named 0) mut byte)
+abbrev pub slice_m : Ty
+slice_m = slice_ty (ty_ref (named 0) mut byte)
 
-abbrev pub sliceE : Ty
-sliceE = slice_ty refB
+abbrev pub slice_e : Ty
+slice_e = slice_ty ref_b
 
 -- what a call that returns nothing gives
 pub fits_unit : (w : Val) → w ≡ vunit → Holds (has_ty ty_unit w) × WT w

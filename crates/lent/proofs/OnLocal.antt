@@ -108,37 +108,37 @@ module _ (ty : Ty) (mir_is : R.mir ≡ ty ∷ []) {M : Type 1} {𝓤 : Ura M} (�
   -- ---- `octet`
 
   module _ (v : ℕ) (v-fits : v < 2 ^ 8) (t : Bool) where
-    abbrev pub to-octet : ℕ → ℕ → GName → GName → (Octet 𝓛 at_mem run).Ghost
-    to-octet ν ν' δ δ' = (((ν ∷ [], (ν' ∷ [], tt)), (full_share, (full_share, tt)), tt, (ref δ h, (slice δ' ys, (v, (t, tt)))), (vptr l 0 ∷ [], (slice_val (b, o) n ∷ [], (vint w8 v ∷ [], (vbool t ∷ [], tt))))), tt)
+    abbrev pub to_octet : ℕ → ℕ → GName → GName → (Octet 𝓛 at_mem run).Ghost
+    to_octet ν ν' δ δ' = (((ν ∷ [], (ν' ∷ [], tt)), (full_share, (full_share, tt)), tt, (ref δ h, (slice δ' ys, (v, (t, tt)))), (vptr l 0 ∷ [], (slice_val (b, o) n ∷ [], (vint w8 v ∷ [], (vbool t ∷ [], tt))))), tt)
 
     abbrev pub OctetAt : ℕ → ℕ → GName → GName → SProp 𝓤
-    OctetAt ν ν' δ δ' = sep 𝓤 ((Octet 𝓛 at_mem run).pre (to-octet ν ν' δ δ')) (Kept ν ν' δ δ')
+    OctetAt ν ν' δ δ' = sep 𝓤 ((Octet 𝓛 at_mem run).pre (to_octet ν ν' δ δ')) (Kept ν ν' δ δ')
 
     -- what is lent is what it asks
-    octet-asks : (ν ν' : ℕ) (δ δ' : GName)
-        → ent 𝓤 (sep 𝓤 (sep 𝓤 (sem 𝓛 ((MutRef (named 0) (ν ∷ []) R).own_val (ref δ h) (vptr l 0 ∷ []))) (A.lft (ν ∷ []) full_share)) (sep 𝓤 (sem 𝓛 ((MutSlice (named 1) (ν' ∷ []) u8).own_val (slice δ' ys) (slice_val (b, o) n ∷ []))) (A.lft (ν' ∷ []) full_share))) ((Octet 𝓛 at_mem run).pre (to-octet ν ν' δ δ'))
-    octet-asks ν ν' δ δ' =
+    octet_asks : (ν ν' : ℕ) (δ δ' : GName)
+        → ent 𝓤 (sep 𝓤 (sep 𝓤 (sem 𝓛 ((MutRef (named 0) (ν ∷ []) R).own_val (ref δ h) (vptr l 0 ∷ []))) (A.lft (ν ∷ []) full_share)) (sep 𝓤 (sem 𝓛 ((MutSlice (named 1) (ν' ∷ []) u8).own_val (slice δ' ys) (slice_val (b, o) n ∷ []))) (A.lft (ν' ∷ []) full_share))) ((Octet 𝓛 at_mem run).pre (to_octet ν ν' δ δ'))
+    octet_asks ν ν' δ δ' =
         qed 𝓛 ((‵ ((MutRef (named 0) (ν ∷ []) R).own_val (ref δ h) (vptr l 0 ∷ [])) ⊛ ‵ (flft (ν ∷ []) full_share)) ∷ (‵ ((MutSlice (named 1) (ν' ∷ []) u8).own_val (slice δ' ys) (slice_val (b, o) n ∷ [])) ⊛ ‵ (flft (ν' ∷ []) full_share)) ∷ []) ∵
         says ! safe $ split ! $ move ! (2 ∷ []) $ split ! $
         -- [the slice; its token; the reference; its token]
         nothing ! $ owned ! bool (Is bool) (bool_Makes 𝓛) t _ refl $ fjoin ! $ owned ! u8 (Is u8) (uint_Makes 𝓛 w8) v _ (refl, v-fits) $ fjoin ! $ move ! (1 ∷ 0 ∷ []) $ fjoin ! $ move ! (2 ∷ 0 ∷ []) $ fjoin ! $ nothing ! $ move ! (2 ∷ 0 ∷ []) $ join ! $ move ! (2 ∷ 0 ∷ []) $ join ! $ frame ! $ done !
 
-    pub octet-before : (ℓ : Lifetime) → ent 𝓤 (sep 𝓤 (Holds h) (Mem ℓ ys)) (H.⇛ (ex 𝓤 (λ (ν : ℕ). ex 𝓤 (λ (ν' : ℕ). ex 𝓤 (λ (δ : GName). ex 𝓤 (OctetAt ν ν' δ))))))
-    octet-before ℓ =
+    pub octet_before : (ℓ : Lifetime) → ent 𝓤 (sep 𝓤 (Holds h) (Mem ℓ ys)) (H.⇛ (ex 𝓤 (λ (ν : ℕ). ex 𝓤 (λ (ν' : ℕ). ex 𝓤 (λ (δ : GName). ex 𝓤 (OctetAt ν ν' δ))))))
+    octet_before ℓ =
         qed 𝓛 ((‵ (fat full_share ty l 0 (value h)) ⊛ ‵ (R.own h (values h))) ∷ (‵ ((MutSlice ℓ κ u8).own_val (slice γ ys) (slice_val (b, o) n ∷ [])) ⊛ ‵ (flft κ q)) ∷ []) ∵ updating ! $
         use2 𝓛 (later (some (λ (ν : ℕ). some (λ (ν' : ℕ). some (λ (δ : GName). some (λ (δ' : GName). (‵ ((MutRef (named 0) (ν ∷ []) R).own_val (ref δ h) (vptr l 0 ∷ [])) ⊛ ‵ (flft (ν ∷ []) full_share)) ⊛ ((‵ ((MutSlice (named 1) (ν' ∷ []) u8).own_val (slice δ' ys) (slice_val (b, o) n ∷ [])) ⊛ ‵ (flft (ν' ∷ []) full_share)) ⊛ raw (Kept ν ν' δ δ')))))))) (lends ℓ) $ await ! tt $
         pick ! (λ ν. pick ! (λ ν'. pick ! (λ δ. pick ! (λ δ'. split ! $ move ! (1 ∷ []) $ split ! $ move ! (2 ∷ 0 ∷ []) $
-        use2 𝓛 (raw ((Octet 𝓛 at_mem run).pre (to-octet ν ν' δ δ'))) (octet-asks ν ν' δ δ') $
+        use2 𝓛 (raw ((Octet 𝓛 at_mem run).pre (to_octet ν ν' δ δ'))) (octet_asks ν ν' δ δ') $
         at_once ! $ show ! (λ (m : ℕ). ex 𝓤 (λ (m' : ℕ). ex 𝓤 (λ (d : GName). ex 𝓤 (OctetAt m m' d)))) ν $ show ! (λ (m' : ℕ). ex 𝓤 (λ (d : GName). ex 𝓤 (OctetAt ν m' d))) ν' $ show ! (λ (d : GName). ex 𝓤 (OctetAt ν ν' d)) δ $ show ! (OctetAt ν ν' δ) δ' $ frame ! $ done !))))
 
     -- what it says of the last state and the last list
     abbrev OctetSays : State → List ℕ → Type 0
     OctetSays z zs = Steps (reading.heard h ys v t) z zs
 
-    pub octet-after : (ℓ : Lifetime) → Room u8 (length ys) → (ν ν' : ℕ) (δ δ' : GName) (w : Val)
-        → ent 𝓤 (sep 𝓤 ((Octet 𝓛 at_mem run).post (to-octet ν ν' δ δ') w) (Kept ν ν' δ δ')) (H.⇛ (guard 𝓤 ((w ≡ vunit) × (length (reading.heard h ys v t).memory ≡ n)) (sep 𝓤 (Holds (reading.heard h ys v t).state) (Mem ℓ (reading.heard h ys v t).memory))))
-    octet-after ℓ room ν ν' δ δ' w =
-        qed 𝓛 (raw ((Octet 𝓛 at_mem run).post (to-octet ν ν' δ δ') w) ∷ raw (Kept ν ν' δ δ') ∷ []) ∵ updating ! $
+    pub octet_after : (ℓ : Lifetime) → Room u8 (length ys) → (ν ν' : ℕ) (δ δ' : GName) (w : Val)
+        → ent 𝓤 (sep 𝓤 ((Octet 𝓛 at_mem run).post (to_octet ν ν' δ δ') w) (Kept ν ν' δ δ')) (H.⇛ (guard 𝓤 ((w ≡ vunit) × (length (reading.heard h ys v t).memory ≡ n)) (sep 𝓤 (Holds (reading.heard h ys v t).state) (Mem ℓ (reading.heard h ys v t).memory))))
+    octet_after ℓ room ν ν' δ δ' w =
+        qed 𝓛 (raw ((Octet 𝓛 at_mem run).post (to_octet ν ν' δ δ') w) ∷ raw (Kept ν ν' δ δ') ∷ []) ∵ updating ! $
         use1 𝓛 (later (some (λ (r : Unit {0}). ((‵ (flft (ν ∷ []) full_share) ⊛ ‵ (flft (ν' ∷ []) full_share) ⊛ ‵ ftrue) ⊛ ‵ (Nothing.own r (w ∷ []))) ⊛ raw (ensured 𝓛 octet.ended (octet.clauses 𝓛 at_mem run) (ν ∷ [], (ν' ∷ [], tt)) (ref δ h, (slice δ' ys, (v, (t, tt)))) tt r)))) (id⊢ 𝓤 _) $ await ! tt $ pick ! (λ r.
         split ! $ move ! (1 ∷ []) $ use1 𝓛 (some (λ (zs : State × (List ℕ × (Unit {0} × (Unit {0} × Unit {0})))). ‵ (lasts octet.ended (ν ∷ [], (ν' ∷ [], tt)) (ref δ h, (slice δ' ys, (v, (t, tt)))) zs) ⊛ raw (fact 𝓤 (OctetSays zs.0 zs.1.0)))) (id⊢ 𝓤 _) $ pick ! (λ zs.
         split ! $ move ! (1 ∷ []) $ heard ! (OctetSays zs.0 zs.1.0) (λ e. fsplit ! $ rewrite ! 0 (λ (z : State). ‵ (fres δ (R.coded.code z))) e.states refl $
@@ -158,29 +158,29 @@ module _ (ty : Ty) (mir_is : R.mir ≡ ty ∷ []) {M : Type 1} {𝓤 : Ura M} (�
     TickAt ν ν' δ δ' = sep 𝓤 ((Tick 𝓛 at_mem run).pre (to_tick ν ν' δ δ')) (Kept ν ν' δ δ')
 
     -- what is lent is what it asks
-    tick-asks : (ν ν' : ℕ) (δ δ' : GName)
+    tick_asks : (ν ν' : ℕ) (δ δ' : GName)
         → ent 𝓤 (sep 𝓤 (sep 𝓤 (sem 𝓛 ((MutRef (named 0) (ν ∷ []) R).own_val (ref δ h) (vptr l 0 ∷ []))) (A.lft (ν ∷ []) full_share)) (sep 𝓤 (sem 𝓛 ((MutSlice (named 1) (ν' ∷ []) u8).own_val (slice δ' ys) (slice_val (b, o) n ∷ []))) (A.lft (ν' ∷ []) full_share))) ((Tick 𝓛 at_mem run).pre (to_tick ν ν' δ δ'))
-    tick-asks ν ν' δ δ' =
+    tick_asks ν ν' δ δ' =
         qed 𝓛 ((‵ ((MutRef (named 0) (ν ∷ []) R).own_val (ref δ h) (vptr l 0 ∷ [])) ⊛ ‵ (flft (ν ∷ []) full_share)) ∷ (‵ ((MutSlice (named 1) (ν' ∷ []) u8).own_val (slice δ' ys) (slice_val (b, o) n ∷ [])) ⊛ ‵ (flft (ν' ∷ []) full_share)) ∷ []) ∵
         says ! safe $ split ! $ move ! (2 ∷ []) $ split ! $
         -- [the slice; its token; the reference; its token]
         nothing ! $ move ! (1 ∷ 0 ∷ []) $ fjoin ! $ move ! (2 ∷ 0 ∷ []) $ fjoin ! $ nothing ! $ move ! (2 ∷ 0 ∷ []) $ join ! $ move ! (2 ∷ 0 ∷ []) $ join ! $ frame ! $ done !
 
-    pub tick-before : (ℓ : Lifetime) → ent 𝓤 (sep 𝓤 (Holds h) (Mem ℓ ys)) (H.⇛ (ex 𝓤 (λ (ν : ℕ). ex 𝓤 (λ (ν' : ℕ). ex 𝓤 (λ (δ : GName). ex 𝓤 (TickAt ν ν' δ))))))
-    tick-before ℓ =
+    pub tick_before : (ℓ : Lifetime) → ent 𝓤 (sep 𝓤 (Holds h) (Mem ℓ ys)) (H.⇛ (ex 𝓤 (λ (ν : ℕ). ex 𝓤 (λ (ν' : ℕ). ex 𝓤 (λ (δ : GName). ex 𝓤 (TickAt ν ν' δ))))))
+    tick_before ℓ =
         qed 𝓛 ((‵ (fat full_share ty l 0 (value h)) ⊛ ‵ (R.own h (values h))) ∷ (‵ ((MutSlice ℓ κ u8).own_val (slice γ ys) (slice_val (b, o) n ∷ [])) ⊛ ‵ (flft κ q)) ∷ []) ∵ updating ! $
         use2 𝓛 (later (some (λ (ν : ℕ). some (λ (ν' : ℕ). some (λ (δ : GName). some (λ (δ' : GName). (‵ ((MutRef (named 0) (ν ∷ []) R).own_val (ref δ h) (vptr l 0 ∷ [])) ⊛ ‵ (flft (ν ∷ []) full_share)) ⊛ ((‵ ((MutSlice (named 1) (ν' ∷ []) u8).own_val (slice δ' ys) (slice_val (b, o) n ∷ [])) ⊛ ‵ (flft (ν' ∷ []) full_share)) ⊛ raw (Kept ν ν' δ δ')))))))) (lends ℓ) $ await ! tt $
         pick ! (λ ν. pick ! (λ ν'. pick ! (λ δ. pick ! (λ δ'. split ! $ move ! (1 ∷ []) $ split ! $ move ! (2 ∷ 0 ∷ []) $
-        use2 𝓛 (raw ((Tick 𝓛 at_mem run).pre (to_tick ν ν' δ δ'))) (tick-asks ν ν' δ δ') $
+        use2 𝓛 (raw ((Tick 𝓛 at_mem run).pre (to_tick ν ν' δ δ'))) (tick_asks ν ν' δ δ') $
         at_once ! $ show ! (λ (m : ℕ). ex 𝓤 (λ (m' : ℕ). ex 𝓤 (λ (d : GName). ex 𝓤 (TickAt m m' d)))) ν $ show ! (λ (m' : ℕ). ex 𝓤 (λ (d : GName). ex 𝓤 (TickAt ν m' d))) ν' $ show ! (λ (d : GName). ex 𝓤 (TickAt ν ν' d)) δ $ show ! (TickAt ν ν' δ) δ' $ frame ! $ done !))))
 
     -- what it says of the last state and the last list
     abbrev TickSays : State → List ℕ → Type 0
     TickSays z zs = Steps (elapsed h ys) z zs
 
-    pub tick-after : (ℓ : Lifetime) → Room u8 (length ys) → (ν ν' : ℕ) (δ δ' : GName) (w : Val)
+    pub tick_after : (ℓ : Lifetime) → Room u8 (length ys) → (ν ν' : ℕ) (δ δ' : GName) (w : Val)
         → ent 𝓤 (sep 𝓤 ((Tick 𝓛 at_mem run).post (to_tick ν ν' δ δ') w) (Kept ν ν' δ δ')) (H.⇛ (guard 𝓤 ((w ≡ vunit) × (length (elapsed h ys).memory ≡ n)) (sep 𝓤 (Holds (elapsed h ys).state) (Mem ℓ (elapsed h ys).memory))))
-    tick-after ℓ room ν ν' δ δ' w =
+    tick_after ℓ room ν ν' δ δ' w =
         qed 𝓛 (raw ((Tick 𝓛 at_mem run).post (to_tick ν ν' δ δ') w) ∷ raw (Kept ν ν' δ δ') ∷ []) ∵ updating ! $
         use1 𝓛 (later (some (λ (r : Unit {0}). ((‵ (flft (ν ∷ []) full_share) ⊛ ‵ (flft (ν' ∷ []) full_share) ⊛ ‵ ftrue) ⊛ ‵ (Nothing.own r (w ∷ []))) ⊛ raw (ensured 𝓛 tick.ended (tick.clauses 𝓛 at_mem run) (ν ∷ [], (ν' ∷ [], tt)) (ref δ h, (slice δ' ys, tt)) tt r)))) (id⊢ 𝓤 _) $ await ! tt $ pick ! (λ r.
         split ! $ move ! (1 ∷ []) $ use1 𝓛 (some (λ (zs : State × (List ℕ × Unit {0})). ‵ (lasts tick.ended (ν ∷ [], (ν' ∷ [], tt)) (ref δ h, (slice δ' ys, tt)) zs) ⊛ raw (fact 𝓤 (TickSays zs.0 zs.1.0)))) (id⊢ 𝓤 _) $ pick ! (λ zs.

@@ -1,10 +1,10 @@
 // The bench loop: it holds the unpacked state in a local and lends it for every octet and Tick; the state is unpacked once,
 // and packed again at the end.
 ghost use Rattle.std.specs.Prelude.{◌≡◌, ◌++◌};
-ghost use Rattle.steps.specs.Calls.{wellMemory, memoryAfter};
+ghost use Rattle.steps.specs.Calls.{well_memory, memory_after};
 ghost use Rattle.steps.specs.Safe.{Safe};
 ghost use Rattle.steps.specs.Stepped.{Steps};
-ghost use Rattle.lent.specs.Run.{runBeats, wellReceived, ticks, turn, calls};
+ghost use Rattle.lent.specs.Run.{run_beats, well_received, ticks, turn, calls};
 
 use crate::{octet, tick};
 use state::image::save;
@@ -16,7 +16,7 @@ use station::memory::is_well;
 // Octets.
 pub fn listen(state: State, memory: &mut [u8], octets: &[u8]) -> State
     requires { Safe state memory.old }
-    ensures { Steps (runBeats state memory.old (wellReceived octets.now)) result memory.new }
+    ensures { Steps (run_beats state memory.old (well_received octets.now)) result memory.new }
 {
     let mut held = state;
     let mut i: usize = 0;
@@ -30,7 +30,7 @@ pub fn listen(state: State, memory: &mut [u8], octets: &[u8]) -> State
 // Ticks.
 pub fn wait(state: State, memory: &mut [u8], count: usize) -> State
     requires { Safe state memory.old }
-    ensures { Steps (runBeats state memory.old (ticks count)) result memory.new }
+    ensures { Steps (run_beats state memory.old (ticks count)) result memory.new }
 {
     let mut held = state;
     let mut i: usize = 0;
@@ -44,7 +44,7 @@ pub fn wait(state: State, memory: &mut [u8], count: usize) -> State
 // A telegram after a gap, then Ticks.
 pub fn take_turn(state: State, memory: &mut [u8], telegram: &[u8], count: usize) -> State
     requires { Safe state memory.old }
-    ensures { Steps (runBeats state memory.old (turn telegram.now count)) result memory.new }
+    ensures { Steps (run_beats state memory.old (turn telegram.now count)) result memory.new }
 {
     let paused = pause(state, memory);
     let listened = listen(paused, memory, telegram);
@@ -53,7 +53,7 @@ pub fn take_turn(state: State, memory: &mut [u8], telegram: &[u8], count: usize)
 
 // Two telegrams on the unpacked state: the memory is left as the exported calls leave it. Whether it was well.
 pub fn exchange(memory: &mut [u8], first: &[u8], second: &[u8], count: usize) -> bool
-    ensures { (result ≡ wellMemory memory.old) × (memory.new ≡ memoryAfter memory.old (calls (turn first.now count ++ turn second.now count))) }
+    ensures { (result ≡ well_memory memory.old) × (memory.new ≡ memory_after memory.old (calls (turn first.now count ++ turn second.now count))) }
 {
     if !is_well(&memory[..]) {
         return false;

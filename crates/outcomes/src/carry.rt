@@ -2,7 +2,7 @@
 ghost use Rattle.std.specs.Prelude.{◌≡◌};
 ghost use Rattle.steps.specs.Safe.{Safe};
 ghost use Rattle.steps.specs.Stepped.{Steps};
-ghost use Rattle.steps.specs.Outcome.{isOpen, onOutputs, onInputs, receivedSet, onSets, onState, on_memory, carried, diagnosisChanged, afterReply, settle};
+ghost use Rattle.steps.specs.Outcome.{is_open, on_outputs, on_inputs, received_set, on_sets, on_state, on_memory, carried, diagnosis_changed, after_reply, settle};
 
 use crate::line::{busy, diagnosis_leaves};
 use buffers::triple::Triple;
@@ -15,13 +15,13 @@ use state::state::{Outputs, Sets, State};
 
 // A set is open.
 pub fn is_open(s: Sets) -> bool
-    ensures { result ≡ isOpen s }
+    ensures { result ≡ is_open s }
 {
     !(s.shown == 0)
 }
 
 pub fn on_outputs(deed: OutputsDeed, o: Outputs) -> Outputs
-    ensures { result ≡ onOutputs deed o }
+    ensures { result ≡ on_outputs deed o }
 {
     match deed {
         OutputsDeed::Keep => o,
@@ -46,7 +46,7 @@ pub fn on_outputs(deed: OutputsDeed, o: Outputs) -> Outputs
 
 // New inputs come to the buffer that is sent from.
 fn bring_new(t: Triple) -> Triple
-    ensures { result ≡ onInputs InputsDeed.Bring t }
+    ensures { result ≡ on_inputs InputsDeed.Bring t }
 {
     if t.fresh {
         return t.bring();
@@ -55,7 +55,7 @@ fn bring_new(t: Triple) -> Triple
 }
 
 pub fn on_inputs(deed: InputsDeed, t: Triple) -> Triple
-    ensures { result ≡ onInputs deed t }
+    ensures { result ≡ on_inputs deed t }
 {
     match deed {
         InputsDeed::Keep => t,
@@ -65,7 +65,7 @@ pub fn on_inputs(deed: InputsDeed, t: Triple) -> Triple
 
 // A set is shown if none is open; otherwise it waits.
 fn received_set(s: Sets, count: u8) -> Sets
-    ensures { result ≡ receivedSet s count }
+    ensures { result ≡ received_set s count }
 {
     if is_open(s) {
         return Sets {
@@ -82,7 +82,7 @@ fn received_set(s: Sets, count: u8) -> Sets
 }
 
 pub fn on_sets(deed: SetDeed, s: Sets, count: u8) -> Sets
-    ensures { result ≡ onSets deed s count }
+    ensures { result ≡ on_sets deed s count }
 {
     match deed {
         SetDeed::Keep => s,
@@ -102,7 +102,7 @@ pub fn on_sets(deed: SetDeed, s: Sets, count: u8) -> Sets
 
 // The state after an outcome; count: of the data received.
 fn on_state(s: State, o: Outcome, count: u8) -> State
-    ensures { result ≡ onState s o count }
+    ensures { result ≡ on_state s o count }
 {
     let setup = s.setup;
     let control = o.control;
@@ -154,7 +154,7 @@ pub fn carry_out(s: State, mem: &mut [u8], o: Outcome, count: u8) -> State
 
 // The two diagnosis buffers change, with that control part.
 pub fn diagnosis_changed(mut s: State, control: Control) -> State
-    ensures { result ≡ diagnosisChanged s control }
+    ensures { result ≡ diagnosis_changed s control }
 {
     s.control = control;
     s.swapped = !s.swapped;
@@ -163,7 +163,7 @@ pub fn diagnosis_changed(mut s: State, control: Control) -> State
 
 // A delayed diagnosis takes effect when the Slave_Diag reply ended or was dropped.
 fn after_reply(s: State) -> State
-    ensures { result ≡ afterReply s }
+    ensures { result ≡ after_reply s }
 {
     if is_delayed(s.control.diagnosis) & !diagnosis_leaves(s) {
         return diagnosis_changed(s, caught_up(s.control));

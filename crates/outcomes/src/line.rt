@@ -1,9 +1,9 @@
 // The line as the state has it: what is busy, and what waits for its end.
 ghost use Rattle.std.specs.Prelude.{◌≤◌, ◌||◌, ◌≡◌, length};
-ghost use Rattle.state.specs.Layout.{imageLength};
+ghost use Rattle.state.specs.Layout.{image_length};
 ghost use Rattle.state.specs.Unpack.{unpacked};
 ghost use Rattle.rules.specs.Diagnosis.{delayed};
-ghost use Rattle.steps.specs.Line.{isInside, begun, busy, diagnosisLeaves};
+ghost use Rattle.steps.specs.Line.{is_inside, begun, busy, diagnosis_leaves};
 
 use rules::diagnosis::is_delayed;
 use rules::replies::is_diagnosis;
@@ -12,7 +12,7 @@ use state::state::State;
 use telegram::reader::Status;
 
 pub fn is_inside(status: Status) -> bool
-    ensures { result ≡ isInside status }
+    ensures { result ≡ is_inside status }
 {
     match status {
         Status::Fresh => false,
@@ -40,7 +40,7 @@ pub fn busy(s: State) -> bool
 
 // A Slave_Diag reply is unfinished.
 pub fn diagnosis_leaves(s: State) -> bool
-    ensures { result ≡ diagnosisLeaves s }
+    ensures { result ≡ diagnosis_leaves s }
 {
     let reply = s.reply;
     let drawn = reply.drawn;
@@ -50,7 +50,7 @@ pub fn diagnosis_leaves(s: State) -> bool
 
 // The same over the memory.
 pub fn busy_in(mem: &[u8]) -> bool
-    requires { imageLength ≤ length mem.now }
+    requires { image_length ≤ length mem.now }
     ensures { result ≡ busy (unpacked mem.now) }
 {
     let incoming = load::incoming(mem);
@@ -62,8 +62,8 @@ pub fn busy_in(mem: &[u8]) -> bool
 
 // A Slave_Diag reply is unfinished, over the memory.
 pub fn diagnosis_leaves_in(mem: &[u8]) -> bool
-    requires { imageLength ≤ length mem.now }
-    ensures { result ≡ diagnosisLeaves (unpacked mem.now) }
+    requires { image_length ≤ length mem.now }
+    ensures { result ≡ diagnosis_leaves (unpacked mem.now) }
 {
     let reply = load::reply(mem);
     let drawn = reply.drawn;
@@ -73,7 +73,7 @@ pub fn diagnosis_leaves_in(mem: &[u8]) -> bool
 
 // Whether a diagnosis is delayed or a clear noted.
 pub fn waits(mem: &[u8]) -> bool
-    requires { imageLength ≤ length mem.now }
+    requires { image_length ≤ length mem.now }
     ensures { result ≡ delayed (unpacked mem.now).control || (unpacked mem.now).control.noted }
 {
     is_delayed(load::diagnosis(mem)) | load::noted(mem)

@@ -1,14 +1,14 @@
 // An outcome of the rules carried out over the memory that holds the state: a set that the rules keep is not written.
 ghost use Rattle.std.specs.Prelude.{◌≤◌, ◌≡◌, length};
 ghost use Rattle.state.specs.declared.state.State.{State};
-ghost use Rattle.state.specs.Layout.{imageLength};
+ghost use Rattle.state.specs.Layout.{image_length};
 ghost use Rattle.state.specs.Memory.{kept, Holds};
 ghost use Rattle.state.specs.Unpack.{unpacked};
-ghost use Rattle.state.specs.With.{withOutputs, withInputs, withParameters, withConfiguration};
-ghost use Rattle.rules.specs.Retries.{onChain};
+ghost use Rattle.state.specs.With.{with_outputs, with_inputs, with_parameters, with_configuration};
+ghost use Rattle.rules.specs.Retries.{on_chain};
 ghost use Rattle.steps.specs.Safe.{Safe};
-ghost use Rattle.steps.specs.Stepped.{packedAfter};
-ghost use Rattle.steps.specs.Outcome.{onOutputs, onInputs, onSets, on_memory, carried};
+ghost use Rattle.steps.specs.Stepped.{packed_after};
+ghost use Rattle.steps.specs.Outcome.{on_outputs, on_inputs, on_sets, on_memory, carried};
 
 use crate::carry::{on_inputs, on_outputs, on_sets};
 use buffers::triple::Triple;
@@ -45,8 +45,8 @@ fn carry_buffers(deed: OutputsDeed, mem: &mut [u8])
 
 // What becomes of the output set, which was `outputs`.
 fn put_outputs(deed: OutputsDeed, outputs: Outputs, mem: &mut [u8])
-    requires { imageLength ≤ length mem.old }
-    ensures { (s : State) → s.outputs ≡ outputs → mem.old ≡ kept s mem.old → mem.new ≡ kept (withOutputs s (onOutputs deed outputs)) mem.old }
+    requires { image_length ≤ length mem.old }
+    ensures { (s : State) → s.outputs ≡ outputs → mem.old ≡ kept s mem.old → mem.new ≡ kept (with_outputs s (on_outputs deed outputs)) mem.old }
 {
     match deed {
         OutputsDeed::Keep => {}
@@ -59,8 +59,8 @@ fn put_outputs(deed: OutputsDeed, outputs: Outputs, mem: &mut [u8])
 
 // Of the input set, which was `inputs`.
 fn put_inputs(deed: InputsDeed, inputs: Triple, mem: &mut [u8])
-    requires { imageLength ≤ length mem.old }
-    ensures { (s : State) → s.inputs ≡ inputs → mem.old ≡ kept s mem.old → mem.new ≡ kept (withInputs s (onInputs deed inputs)) mem.old }
+    requires { image_length ≤ length mem.old }
+    ensures { (s : State) → s.inputs ≡ inputs → mem.old ≡ kept s mem.old → mem.new ≡ kept (with_inputs s (on_inputs deed inputs)) mem.old }
 {
     match deed {
         InputsDeed::Keep => {}
@@ -70,8 +70,8 @@ fn put_inputs(deed: InputsDeed, inputs: Triple, mem: &mut [u8])
 
 // Of the parameters received, which were `sets`.
 fn put_parameters(deed: SetDeed, sets: Sets, count: u8, mem: &mut [u8])
-    requires { imageLength ≤ length mem.old }
-    ensures { (s : State) → s.parameters ≡ sets → mem.old ≡ kept s mem.old → mem.new ≡ kept (withParameters s (onSets deed sets count)) mem.old }
+    requires { image_length ≤ length mem.old }
+    ensures { (s : State) → s.parameters ≡ sets → mem.old ≡ kept s mem.old → mem.new ≡ kept (with_parameters s (on_sets deed sets count)) mem.old }
 {
     match deed {
         SetDeed::Keep => {}
@@ -83,8 +83,8 @@ fn put_parameters(deed: SetDeed, sets: Sets, count: u8, mem: &mut [u8])
 
 // Of the configuration received, which was `sets`.
 fn put_configuration(deed: SetDeed, sets: Sets, count: u8, mem: &mut [u8])
-    requires { imageLength ≤ length mem.old }
-    ensures { (s : State) → s.configuration ≡ sets → mem.old ≡ kept s mem.old → mem.new ≡ kept (withConfiguration s (onSets deed sets count)) mem.old }
+    requires { image_length ≤ length mem.old }
+    ensures { (s : State) → s.configuration ≡ sets → mem.old ≡ kept s mem.old → mem.new ≡ kept (with_configuration s (on_sets deed sets count)) mem.old }
 {
     match deed {
         SetDeed::Keep => {}
@@ -99,7 +99,7 @@ fn put_configuration(deed: SetDeed, sets: Sets, count: u8, mem: &mut [u8])
 // done.
 pub fn carry_over(mem: &mut [u8], o: Outcome, count: u8)
     requires { Holds mem.old (unpacked mem.old) }
-    ensures { mem.new ≡ packedAfter (carried (unpacked mem.old) mem.old (onChain o (unpacked mem.old).control.chain) count) }
+    ensures { mem.new ≡ packed_after (carried (unpacked mem.old) mem.old (on_chain o (unpacked mem.old).control.chain) count) }
 {
     let on_outputs = o.outputs;
     let on_inputs = o.inputs;

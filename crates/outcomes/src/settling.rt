@@ -1,14 +1,14 @@
 // What waits for the end of the line's business, over the memory that holds the state: nothing is written where nothing comes of it.
 ghost use Rattle.std.specs.Prelude.{◌≤◌, ◌≡◌, length};
 ghost use Rattle.state.specs.declared.state.State.{State};
-ghost use Rattle.state.specs.Layout.{imageLength};
+ghost use Rattle.state.specs.Layout.{image_length};
 ghost use Rattle.state.specs.Memory.{kept, Holds};
 ghost use Rattle.state.specs.Unpack.{unpacked};
-ghost use Rattle.rules.specs.Control.{withChain};
-ghost use Rattle.rules.specs.Line.{clearNoted};
-ghost use Rattle.steps.specs.Stepped.{packedAfter};
+ghost use Rattle.rules.specs.Control.{with_chain};
+ghost use Rattle.rules.specs.Line.{clear_noted};
+ghost use Rattle.steps.specs.Stepped.{packed_after};
 ghost use Rattle.steps.specs.Line.{busy};
-ghost use Rattle.steps.specs.Outcome.{carried, diagnosisChanged, afterReply, settle};
+ghost use Rattle.steps.specs.Outcome.{carried, diagnosis_changed, after_reply, settle};
 
 use crate::line::{busy_in, diagnosis_leaves_in, waits};
 use crate::over::carry_over;
@@ -20,8 +20,8 @@ use state::saving::{save_control, save_swapped};
 
 // The two diagnosis buffers change, with that control part but for its chain.
 pub fn change_diagnosis(mem: &mut [u8], control: Control)
-    requires { imageLength ≤ length mem.old }
-    ensures { (s : State) → unpacked mem.old ≡ s → mem.old ≡ kept s mem.old → mem.new ≡ kept (diagnosisChanged s (withChain control s.control.chain)) mem.old }
+    requires { image_length ≤ length mem.old }
+    ensures { (s : State) → unpacked mem.old ≡ s → mem.old ≡ kept s mem.old → mem.new ≡ kept (diagnosis_changed s (with_chain control s.control.chain)) mem.old }
 {
     let swapped = load::swapped(&mem[..]);
     save_control(control, mem);
@@ -31,7 +31,7 @@ pub fn change_diagnosis(mem: &mut [u8], control: Control)
 // A delayed diagnosis takes effect when the Slave_Diag reply ended or was dropped.
 fn catch_up(mem: &mut [u8])
     requires { Holds mem.old (unpacked mem.old) }
-    ensures { mem.new ≡ kept (afterReply (unpacked mem.old)) mem.old }
+    ensures { mem.new ≡ kept (after_reply (unpacked mem.old)) mem.old }
 {
     let delayed = is_delayed(load::diagnosis(&mem[..]));
     if delayed & !diagnosis_leaves_in(&mem[..]) {
@@ -42,7 +42,7 @@ fn catch_up(mem: &mut [u8])
 // A noted clear is carried out when the line is idle.
 fn clear_noted_in(mem: &mut [u8])
     requires { Holds mem.old (unpacked mem.old) }
-    ensures { mem.new ≡ packedAfter (carried (unpacked mem.old) mem.old (clearNoted (busy (unpacked mem.old)) (unpacked mem.old).control) 0) }
+    ensures { mem.new ≡ packed_after (carried (unpacked mem.old) mem.old (clear_noted (busy (unpacked mem.old)) (unpacked mem.old).control) 0) }
 {
     let noted = load::noted(&mem[..]);
     if noted & !busy_in(&mem[..]) {
@@ -53,7 +53,7 @@ fn clear_noted_in(mem: &mut [u8])
 // The line settled, where something waits: the diagnosis first.
 pub fn settle_waiting(mem: &mut [u8])
     requires { Holds mem.old (unpacked mem.old) }
-    ensures { mem.new ≡ packedAfter (settle (unpacked mem.old) mem.old) }
+    ensures { mem.new ≡ packed_after (settle (unpacked mem.old) mem.old) }
 {
     catch_up(mem);
     clear_noted_in(mem);
@@ -62,7 +62,7 @@ pub fn settle_waiting(mem: &mut [u8])
 // The line settled. Nearly always nothing waits.
 pub fn settle_over(mem: &mut [u8])
     requires { Holds mem.old (unpacked mem.old) }
-    ensures { mem.new ≡ packedAfter (settle (unpacked mem.old) mem.old) }
+    ensures { mem.new ≡ packed_after (settle (unpacked mem.old) mem.old) }
 {
     if waits(&mem[..]) {
         settle_waiting(mem);

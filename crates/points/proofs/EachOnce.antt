@@ -26,16 +26,16 @@ stands GetCfg = refl
 stands GlobalControl = refl
 
 -- and nowhere else
-stands-there : (k : ℕ) (p : Point) → Kth table k p → k ≡ place_of p
-stands-there zero p a = absurd a
-stands-there (suc zero) p a = ap place_of a
-stands-there (suc (suc zero)) p a = ap place_of a
-stands-there (suc (suc (suc zero))) p a = ap place_of a
-stands-there (suc (suc (suc (suc zero)))) p a = ap place_of a
-stands-there (suc (suc (suc (suc (suc zero))))) p a = ap place_of a
-stands-there (suc (suc (suc (suc (suc (suc zero)))))) p a = ap place_of a
-stands-there (suc (suc (suc (suc (suc (suc (suc zero))))))) p a = ap place_of a
-stands-there (suc (suc (suc (suc (suc (suc (suc (suc k)))))))) p a = absurd a
+stands_there : (k : ℕ) (p : Point) → Kth table k p → k ≡ place_of p
+stands_there zero p a = absurd a
+stands_there (suc zero) p a = ap place_of a
+stands_there (suc (suc zero)) p a = ap place_of a
+stands_there (suc (suc (suc zero))) p a = ap place_of a
+stands_there (suc (suc (suc (suc zero)))) p a = ap place_of a
+stands_there (suc (suc (suc (suc (suc zero))))) p a = ap place_of a
+stands_there (suc (suc (suc (suc (suc (suc zero)))))) p a = ap place_of a
+stands_there (suc (suc (suc (suc (suc (suc (suc zero))))))) p a = ap place_of a
+stands_there (suc (suc (suc (suc (suc (suc (suc (suc k)))))))) p a = absurd a
 
 -- the point with the number 56 + n, for n up to 6
 abbrev named : ℕ → Point
@@ -58,34 +58,34 @@ named_by SetPrm = (refl, omega arith, omega arith)
 named_by ChkCfg = (refl, omega arith, omega arith)
 
 -- each of these numbers names a point
-has-number : (n : ℕ) → n ≤ 6 → number_of (named n) ≡ 56 + n
-has-number zero h = refl
-has-number (suc zero) h = refl
-has-number (suc (suc zero)) h = refl
-has-number (suc (suc (suc zero))) h = refl
-has-number (suc (suc (suc (suc zero)))) h = refl
-has-number (suc (suc (suc (suc (suc zero))))) h = refl
-has-number (suc (suc (suc (suc (suc (suc zero)))))) h = refl
-has-number (suc (suc (suc (suc (suc (suc (suc n))))))) h = absurd (omega arith)
+has_number : (n : ℕ) → n ≤ 6 → number_of (named n) ≡ 56 + n
+has_number zero h = refl
+has_number (suc zero) h = refl
+has_number (suc (suc zero)) h = refl
+has_number (suc (suc (suc zero))) h = refl
+has_number (suc (suc (suc (suc zero)))) h = refl
+has_number (suc (suc (suc (suc (suc zero))))) h = refl
+has_number (suc (suc (suc (suc (suc (suc zero)))))) h = refl
+has_number (suc (suc (suc (suc (suc (suc (suc n))))))) h = absurd (omega arith)
 
 -- one number, one point
 same_point : (p q : Point) → number_of p ≡ number_of q → p ≡ q
 same_point p q e = sym (named_by p).0 ∙ ap (λ n. named (n - 56)) e ∙ (named_by q).0
 
-pub each-once : EachOnce
-each-once =
+pub each_once : EachOnce
+each_once =
     record {
       these = λ number. (
         λ (p, k, s). subst (λ n. (56 ≤ n) × (n ≤ 62)) s.1 ((named_by p).1, (named_by p).2),
         λ (low, high).
             let p = named (number - 56) in
-            (p, place_of p, (stands p, has-number (number - 56) (omega arith) ∙ omega arith)),
+            (p, place_of p, (stands p, has_number (number - 56) (omega arith) ∙ omega arith)),
       );
       once = λ number p q j k a b.
           let e = same_point p q (a.1 ∙ sym b.1) in
-          (e, stands-there j p a.0 ∙ ap place_of e ∙ sym (stands-there k q b.0));
+          (e, stands_there j p a.0 ∙ ap place_of e ∙ sym (stands_there k q b.0));
       seven = refl;
     }
 
-pub slave-diag-first : SlaveDiagFirst
-slave-diag-first = stands SlaveDiag
+pub slave_diag_first : SlaveDiagFirst
+slave_diag_first = stands SlaveDiag

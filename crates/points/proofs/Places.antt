@@ -19,15 +19,15 @@ standing ps blank n h =
     subst (λ k. Kth ps k (get_or ps n blank)) e (from_zero ps blank n h)
 
 -- a place has one entry
-pub place-has-one : (ps : List Point) (k : ℕ) (p q : Point) → Kth ps k p → Kth ps k q → p ≡ q
-place-has-one [] k p q a b = absurd a
-place-has-one (r ∷ rs) zero p q a b = absurd a
-place-has-one (r ∷ rs) (suc zero) p q a b = sym a ∙ b
-place-has-one (r ∷ rs) (suc (suc k)) p q a b = place-has-one rs (suc k) p q a b
+pub place_has_one : (ps : List Point) (k : ℕ) (p q : Point) → Kth ps k p → Kth ps k q → p ≡ q
+place_has_one [] k p q a b = absurd a
+place_has_one (r ∷ rs) zero p q a b = absurd a
+place_has_one (r ∷ rs) (suc zero) p q a b = sym a ∙ b
+place_has_one (r ∷ rs) (suc (suc k)) p q a b = place_has_one rs (suc k) p q a b
 
 -- the places are 1 to the length
-pub place-within : (ps : List Point) (k : ℕ) (p : Point) → Kth ps k p → k ≤ length ps
-place-within [] k p a = absurd a
-place-within (r ∷ rs) zero p a = absurd a
-place-within (r ∷ rs) (suc zero) p a = omega arith
-place-within (r ∷ rs) (suc (suc k)) p a = let h = place-within rs (suc k) p a in omega arith
+pub place_within : (ps : List Point) (k : ℕ) (p : Point) → Kth ps k p → k ≤ length ps
+place_within [] k p a = absurd a
+place_within (r ∷ rs) zero p a = absurd a
+place_within (r ∷ rs) (suc zero) p a = omega arith
+place_within (r ∷ rs) (suc (suc k)) p a = let h = place_within rs (suc k) p a in omega arith

@@ -8,43 +8,43 @@ use Rattle.points.specs.declared.Found.TheVariants.{Hit, None}
 use Rattle.points.specs.declared.Lookup.{Lookup}
 use Rattle.points.specs.Points.{number_of, table, Stands}
 use Rattle.points.specs.Lookup.{Promised, OneAnswer}
-use Rattle.points.proofs.EachOnce.{place_of, stands, each-once}
+use Rattle.points.proofs.EachOnce.{place_of, stands, each_once}
 
 -- found: this point, at this place
 abbrev pub found_at : Point → ℕ → Lookup
 found_at p k = record { found = Hit p; looked_at = k }
 
 -- none found among n
-abbrev pub noneAfter : ℕ → Lookup
-noneAfter n = record { found = None; looked_at = n }
+abbrev pub none_after : ℕ → Lookup
+none_after n = record { found = None; looked_at = n }
 
 -- what tells a hit from none, and which point is hit
 abbrev IsHit : Found → Type 0
 IsHit (Hit p) = Unit
 IsHit None = ⊥
 
-abbrev pointIn : Found → Point → Point
-pointIn (Hit p) otherwise = p
-pointIn None otherwise = otherwise
+abbrev point_in : Found → Point → Point
+point_in (Hit p) otherwise = p
+point_in None otherwise = otherwise
 
-hit-is-not-none : (p : Point) (j k : ℕ) → ¬ (found_at p j ≡ noneAfter k)
-hit-is-not-none p j k e = subst (λ l. IsHit l.found) e tt
+hit_is_not_none : (p : Point) (j k : ℕ) → ¬ (found_at p j ≡ none_after k)
+hit_is_not_none p j k e = subst (λ l. IsHit l.found) e tt
 
-pub promised-hit : (dsap : ℕ) (p : Point) (k : ℕ) → Stands dsap p k → Promised dsap (found_at p k)
-promised-hit dsap p k s =
+pub promised_hit : (dsap : ℕ) (p : Point) (k : ℕ) → Stands dsap p k → Promised dsap (found_at p k)
+promised_hit dsap p k s =
     record {
       hit = λ q j. (
-        λ e. subst (λ r. Stands dsap r j) (ap (λ l. pointIn l.found p) e) (subst (Stands dsap p) (ap (λ l. l.looked_at) e) s),
-        λ t. let same = each-once.once dsap p q k j s t in ap (λ r. found_at r k) same.0 ∙ ap (found_at q) same.1,
+        λ e. subst (λ r. Stands dsap r j) (ap (λ l. point_in l.found p) e) (subst (Stands dsap p) (ap (λ l. l.looked_at) e) s),
+        λ t. let same = each_once.once dsap p q k j s t in ap (λ r. found_at r k) same.0 ∙ ap (found_at q) same.1,
       );
-      none = (λ e. absurd (hit-is-not-none p k _ e), λ absent. absurd (absent p k s));
+      none = (λ e. absurd (hit_is_not_none p k _ e), λ absent. absurd (absent p k s));
     }
 
-pub promised-none : (dsap : ℕ) {n : ℕ} → length table ≡ n → ((p : Point) (k : ℕ) → ¬ Stands dsap p k) → Promised dsap (noneAfter n)
-promised-none dsap all absent =
+pub promised_none : (dsap : ℕ) {n : ℕ} → length table ≡ n → ((p : Point) (k : ℕ) → ¬ Stands dsap p k) → Promised dsap (none_after n)
+promised_none dsap all absent =
     record {
-      hit = λ q j. (λ e. absurd (hit-is-not-none q j _ (sym e)), λ t. absurd (absent q j t));
-      none = (λ e. absent, λ a. ap noneAfter (sym all));
+      hit = λ q j. (λ e. absurd (hit_is_not_none q j _ (sym e)), λ t. absurd (absent q j t));
+      none = (λ e. absent, λ a. ap none_after (sym all));
     }
 
 -- the point found has the number that was looked for

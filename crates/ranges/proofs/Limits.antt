@@ -60,18 +60,18 @@ cut k a s top p q =
     ∙ mod-eq_of_lt (lt_of_le_of_lt (and_le_r (bit_or a s) top) q)
 
 -- no octet, and no sum of an octet and 127 - limit, has bit 7 set exactly if each octet is at most its limit
-pub above-is : (k x y : ℕ) → y ≤ rep k 255
+pub above_is : (k x y : ℕ) → y ≤ rep k 255
     → eqb (bit_and (bit_or x (x + bit_and (rep k 255 - y) (rep k 127))) (rep k 128)) 0 ≡ at_most (octets k x) (lows (octets k y))
 unfolding rep octets lows at_most
-above-is zero x y h = ap (λ z. eqb z 0) (and_zero_r (bit_or x (x + bit_and (0 - y) 0)))
-above-is (suc k) x y h =
+above_is zero x y h = ap (λ z. eqb z 0) (and_zero_r (bit_or x (x + bit_and (0 - y) 0)))
+above_is (suc k) x y h =
     let n = rep k 255 * 256 + 255 - y in
     let high : n / 256 ≡ rep k 255 - y / 256 = omega arith in
     let low : n % 256 % 128 ≡ 127 - y₀ % 128 = omega arith in
     let room : bit_and n (rep k 127 * 256 + 127) ≡ C * 256 + (127 - y₀ % 128) =
     low_bits k n ∙ ap₂ (λ a b. bit_and a (rep k 127) * 256 + b) high low in
     ap (λ z. eqb (bit_and (bit_or x (x + z)) (rep k 128 * 256 + 128)) 0) room
-    ∙ go (ltb x₀ 128) refl (above-is k (x / 256) (y / 256) (omega arith))
+    ∙ go (ltb x₀ 128) refl (above_is k (x / 256) (y / 256) (omega arith))
   where
     x₀ : ℕ
     x₀ = x % 256
@@ -147,18 +147,18 @@ low_word (suc k) x y p h =
     omega arith
 
 -- then no difference 127 + least - octet has bit 7 set exactly if each octet is at least its least
-below-is : (k x y l : ℕ) → x ≤ rep k 255 → at_most (octets k x) (lows (octets k y)) ≡ true
+below_is : (k x y l : ℕ) → x ≤ rep k 255 → at_most (octets k x) (lows (octets k y)) ≡ true
     → eqb (bit_and (rep k 127 + bit_and l (rep k 127) - x) (rep k 128)) 0 ≡ at_most (lows (octets k l)) (octets k x)
 unfolding rep octets lows at_most
-below-is zero x y l p h = ap (λ z. eqb z 0) (and_zero_r (0 + bit_and l 0 - x))
-below-is (suc k) x y l p h =
+below_is zero x y l p h = ap (λ z. eqb z 0) (and_zero_r (0 + bit_and l 0 - x))
+below_is (suc k) x y l p h =
     let (first, others) = lowest k x y h in
     let up : x / 256 ≤ rep k 127 = low_word k (x / 256) (y / 256) (omega arith) others in
     let apart : rep k 127 * 256 + 127 + (B * 256 + l₀) - x ≡ (rep k 127 + B - x / 256) * 256 + s = omega arith in
     let bit : bit_and s 128 ≡ s / 128 * 128 = and_high s 1 7 ∙ omega arith in
     ap (λ z. eqb (bit_and z (rep k 128 * 256 + 128)) 0) (ap (λ z. rep k 127 * 256 + 127 + z - x) (low_bits k l) ∙ apart)
     ∙ ap (λ z. eqb z 0) (and_block 8 (rep k 127 + B - x / 256) (rep k 128) s 128 (omega arith) (lit< tt) ∙ ap (λ z. A * 256 + z) bit)
-    ∙ one_more A s l₀ x₀ _ (λ q. omega arith) (λ q. omega arith) (below-is k (x / 256) (y / 256) (l / 256) (omega arith) others)
+    ∙ one_more A s l₀ x₀ _ (λ q. omega arith) (λ q. omega arith) (below_is k (x / 256) (y / 256) (l / 256) (omega arith) others)
   where
     x₀ : ℕ
     x₀ = x % 256
@@ -180,15 +180,15 @@ unwrapped : (r x a : ℕ) → r < 2 ^ 64 → (r + x) % 2 ^ 64 ≡ a → x ≤ a 
 unwrapped r x a p e h = omega arith
 
 -- the difference r of whole words is tested where the test of the mosts passes, and else does not matter
-pub both-are : (x y l r : ℕ) → x ≤ rep 8 255 → r < 2 ^ 64 → (r + x) % 2 ^ 64 ≡ rep 8 127 + bit_and l (rep 8 127)
+pub both_are : (x y l r : ℕ) → x ≤ rep 8 255 → r < 2 ^ 64 → (r + x) % 2 ^ 64 ≡ rep 8 127 + bit_and l (rep 8 127)
     → (at_most (octets 8 x) (lows (octets 8 y)) && eqb (bit_and r (rep 8 128)) 0)
     ≡ (at_most (octets 8 x) (lows (octets 8 y)) && at_most (lows (octets 8 l)) (octets 8 x))
-both-are x y l r p q e = go (at_most (octets 8 x) (lows (octets 8 y))) refl
+both_are x y l r p q e = go (at_most (octets 8 x) (lows (octets 8 y))) refl
   where
     go : (t : Bool) → at_most (octets 8 x) (lows (octets 8 y)) ≡ t
         → (t && eqb (bit_and r (rep 8 128)) 0) ≡ (t && at_most (lows (octets 8 l)) (octets 8 x))
     go true h =
         let fits : x ≤ rep 8 127 = low_word 8 x y p h in
         ap (λ z. eqb (bit_and z (rep 8 128)) 0) (unwrapped r x (rep 8 127 + bit_and l (rep 8 127)) q e (omega arith))
-        ∙ below-is 8 x y l p h
+        ∙ below_is 8 x y l p h
     go false h = refl

@@ -15,10 +15,10 @@ put : (w k v b : ℕ) {u : ℕ} → u ≡ v → v < 2 ^ k → b < 256 → k + 8 
 put w k v b e p q r = ap₂ bit_or e (shl_exact 8 k w q (omega arith)) ∙ or_shifted_r b k v p ∙ omega arith
 
 -- four of them
-pub joined-half : (a b c d : ℕ) → a < 256 → b < 256 → c < 256 → d < 256
+pub joined_half : (a b c d : ℕ) → a < 256 → b < 256 → c < 256 → d < 256
     → bit_or (bit_or (bit_or a ((b * 2 ^ 8) % 2 ^ 32)) ((c * 2 ^ 16) % 2 ^ 32)) ((d * 2 ^ 24) % 2 ^ 32) ≡ number (a ∷ b ∷ c ∷ d ∷ [])
 unfolding number
-joined-half a b c d a< b< c< d< =
+joined_half a b c d a< b< c< d< =
     let s1 = put 32 8 a b refl a< b< (lit≤ tt) in
     let s2 = put 32 16 (a + b * 2 ^ 8) c s1 (omega arith) c< (lit≤ tt) in
     let s3 = put 32 24 (a + b * 2 ^ 8 + c * 2 ^ 16) d s2 (omega arith) d< (lit≤ tt) in
@@ -44,14 +44,14 @@ joined a b c d e f g h a< b< c< d< e< f< g< h< =
 -- ---- a part of a memory
 
 -- its first octet and the rest
-pub part-cons : (m : List ℕ) (at k : ℕ) → at < length m → part m at (suc k) ≡ get_or m at 0 ∷ part m (at + 1) k
-part-cons m at k h = ap (take (suc k)) (drop-cons m at 0 h) ∙ ap (λ n. get_or m at 0 ∷ take k (drop n m)) (sym (add-one at))
+pub part_cons : (m : List ℕ) (at k : ℕ) → at < length m → part m at (suc k) ≡ get_or m at 0 ∷ part m (at + 1) k
+part_cons m at k h = ap (take (suc k)) (drop-cons m at 0 h) ∙ ap (λ n. get_or m at 0 ∷ take k (drop n m)) (sym (add-one at))
 
 -- the same from a place that is counted on
-part-from : (m : List ℕ) (at j k : ℕ) → at + j < length m → part m (at + j) (suc k) ≡ get_or m (at + j) 0 ∷ part m (at + suc j) k
-part-from m at j k h =
+part_from : (m : List ℕ) (at j k : ℕ) → at + j < length m → part m (at + j) (suc k) ≡ get_or m (at + j) 0 ∷ part m (at + suc j) k
+part_from m at j k h =
     let next : at + j + 1 ≡ at + suc j = omega arith in
-    part-cons m (at + j) k h ∙ ap (λ n. get_or m (at + j) 0 ∷ part m n k) next
+    part_cons m (at + j) k h ∙ ap (λ n. get_or m (at + j) 0 ∷ part m n k) next
 
 -- a word of eight octets that were read one by one is the part's
 pub eight : (m : List ℕ) (at r : ℕ) → at + 8 ≤ length m
@@ -60,68 +60,68 @@ pub eight : (m : List ℕ) (at r : ℕ) → at + 8 ≤ length m
     → r ≡ number (part m at 8)
 eight m at r h e =
     e
-    ∙ ap number (sym (part-cons m at 7 (omega arith)
-    ∙ ap (λ l. get_or m at 0 ∷ l) (part-from m at 1 6 (omega arith)
-    ∙ ap (λ l. get_or m (at + 1) 0 ∷ l) (part-from m at 2 5 (omega arith)
-    ∙ ap (λ l. get_or m (at + 2) 0 ∷ l) (part-from m at 3 4 (omega arith)
-    ∙ ap (λ l. get_or m (at + 3) 0 ∷ l) (part-from m at 4 3 (omega arith)
-    ∙ ap (λ l. get_or m (at + 4) 0 ∷ l) (part-from m at 5 2 (omega arith)
-    ∙ ap (λ l. get_or m (at + 5) 0 ∷ l) (part-from m at 6 1 (omega arith)
-    ∙ ap (λ l. get_or m (at + 6) 0 ∷ l) (part-from m at 7 0 (omega arith))))))))))
+    ∙ ap number (sym (part_cons m at 7 (omega arith)
+    ∙ ap (λ l. get_or m at 0 ∷ l) (part_from m at 1 6 (omega arith)
+    ∙ ap (λ l. get_or m (at + 1) 0 ∷ l) (part_from m at 2 5 (omega arith)
+    ∙ ap (λ l. get_or m (at + 2) 0 ∷ l) (part_from m at 3 4 (omega arith)
+    ∙ ap (λ l. get_or m (at + 3) 0 ∷ l) (part_from m at 4 3 (omega arith)
+    ∙ ap (λ l. get_or m (at + 4) 0 ∷ l) (part_from m at 5 2 (omega arith)
+    ∙ ap (λ l. get_or m (at + 5) 0 ∷ l) (part_from m at 6 1 (omega arith)
+    ∙ ap (λ l. get_or m (at + 6) 0 ∷ l) (part_from m at 7 0 (omega arith))))))))))
 
 -- and half a word of four
 pub quarter : (m : List ℕ) (at r : ℕ) → at + 4 ≤ length m
     → r ≡ number (get_or m at 0 ∷ get_or m (at + 1) 0 ∷ get_or m (at + 2) 0 ∷ get_or m (at + 3) 0 ∷ []) → r ≡ number (part m at 4)
 quarter m at r h e =
     e
-    ∙ ap number (sym (part-cons m at 3 (omega arith)
-    ∙ ap (λ l. get_or m at 0 ∷ l) (part-from m at 1 2 (omega arith)
-    ∙ ap (λ l. get_or m (at + 1) 0 ∷ l) (part-from m at 2 1 (omega arith)
-    ∙ ap (λ l. get_or m (at + 2) 0 ∷ l) (part-from m at 3 0 (omega arith))))))
+    ∙ ap number (sym (part_cons m at 3 (omega arith)
+    ∙ ap (λ l. get_or m at 0 ∷ l) (part_from m at 1 2 (omega arith)
+    ∙ ap (λ l. get_or m (at + 1) 0 ∷ l) (part_from m at 2 1 (omega arith)
+    ∙ ap (λ l. get_or m (at + 2) 0 ∷ l) (part_from m at 3 0 (omega arith))))))
 
 -- a word has the octets that it was made of
-pub octets-part : (m : List ℕ) → ((i : ℕ) → get_or m i 0 < 256) → (k at : ℕ) → at + k ≤ length m → octets k (number (part m at k)) ≡ part m at k
+pub octets_part : (m : List ℕ) → ((i : ℕ) → get_or m i 0 < 256) → (k at : ℕ) → at + k ≤ length m → octets k (number (part m at k)) ≡ part m at k
 unfolding octets number
-octets-part m small zero at h = refl
-octets-part m small (suc k) at h =
+octets_part m small zero at h = refl
+octets_part m small (suc k) at h =
     let rest = part m (at + 1) k in
     let x = get_or m at 0 in
     let x< : x < 256 = small at in
     let low : (number rest * 256 + x) % 256 ≡ x = omega arith in
     let high : (number rest * 256 + x) / 256 ≡ number rest = omega arith in
-    ap (λ l. octets (suc k) (number l)) (part-cons m at k (omega arith))
+    ap (λ l. octets (suc k) (number l)) (part_cons m at k (omega arith))
     ∙ ap₂ (λ a b. a ∷ octets k b) low high
-    ∙ ap (λ l. x ∷ l) (octets-part m small k (at + 1) (omega arith))
-    ∙ sym (part-cons m at k (omega arith))
+    ∙ ap (λ l. x ∷ l) (octets_part m small k (at + 1) (omega arith))
+    ∙ sym (part_cons m at k (omega arith))
 
 -- ---- two words one behind the other
 
 -- lists that are put together, held to limits that are put together in the same place
-at-most-append : (xs ls ys ms : List ℕ) → length xs ≡ length ls → at_most (xs ++ ys) (ls ++ ms) ≡ (at_most xs ls && at_most ys ms)
+at_most_append : (xs ls ys ms : List ℕ) → length xs ≡ length ls → at_most (xs ++ ys) (ls ++ ms) ≡ (at_most xs ls && at_most ys ms)
 unfolding at_most
-at-most-append [] [] ys ms h = refl
-at-most-append [] (l ∷ ls) ys ms h = absurd (let z : 0 ≡ suc (length ls) = h in omega arith)
-at-most-append (x ∷ xs) [] ys ms h = absurd (let z : suc (length xs) ≡ 0 = h in omega arith)
-at-most-append (x ∷ xs) (l ∷ ls) ys ms h =
+at_most_append [] [] ys ms h = refl
+at_most_append [] (l ∷ ls) ys ms h = absurd (let z : 0 ≡ suc (length ls) = h in omega arith)
+at_most_append (x ∷ xs) [] ys ms h = absurd (let z : suc (length xs) ≡ 0 = h in omega arith)
+at_most_append (x ∷ xs) (l ∷ ls) ys ms h =
     let h' : suc (length xs) ≡ suc (length ls) = h in
-    ap (λ t. leb x l && t) (at-most-append xs ls ys ms (omega arith)) ∙ sym (and_assoc (leb x l) (at_most xs ls) (at_most ys ms))
+    ap (λ t. leb x l && t) (at_most_append xs ls ys ms (omega arith)) ∙ sym (and_assoc (leb x l) (at_most xs ls) (at_most ys ms))
 
 -- sixteen octets of a memory held to two words of limits
-pub two-words : (m : List ℕ) (at a b : ℕ) → at + 8 ≤ length m
+pub two_words : (m : List ℕ) (at a b : ℕ) → at + 8 ≤ length m
     → at_most (part m at 16) (lows (octets 8 a) ++ lows (octets 8 b))
     ≡ (at_most (part m at 8) (lows (octets 8 a)) && at_most (part m (at + 8) 8) (lows (octets 8 b)))
 unfolding octets lows
-two-words m at a b h =
+two_words m at a b h =
     ap (λ l. at_most l (lows (octets 8 a) ++ lows (octets 8 b)))
     (take-add 8 8 (drop at m) ∙ ap (λ l. part m at 8 ++ take 8 l) (drop-drop 8 at m))
-    ∙ at-most-append (part m at 8) (lows (octets 8 a)) (part m (at + 8) 8) (lows (octets 8 b)) (part_length m at 8 h)
+    ∙ at_most_append (part m at 8) (lows (octets 8 a)) (part m (at + 8) 8) (lows (octets 8 b)) (part_length m at 8 h)
 
 -- ---- words that are 0
 
 -- an or is 0 exactly if both its sides are
-pub or-zero : (a b : ℕ) → eqb (bit_or a b) 0 ≡ (eqb a 0 && eqb b 0)
-or-zero zero b = refl
-or-zero (suc a) b =
+pub or_zero : (a b : ℕ) → eqb (bit_or a b) 0 ≡ (eqb a 0 && eqb b 0)
+or_zero zero b = refl
+or_zero (suc a) b =
     ne_eqb (bit_or (suc a) b) 0 (λ z. omega (arith, or_add_and (suc a) b, and_le_r (suc a) b))
     ∙ ap (λ t. t && eqb b 0) (sym (ne_eqb (suc a) 0 (λ z. omega arith)))
 
@@ -131,70 +131,70 @@ shifted zero = refl
 shifted (suc n) = ne_eqb (suc n * 256 + 0) 0 (λ z. omega arith) ∙ sym (ne_eqb (suc n) 0 (λ z. omega arith))
 
 -- a word is 0 exactly if each of its octets is
-all-zero : (xs : List ℕ) → eqb (number xs) 0 ≡ at_most xs (replicate (length xs) 0)
+all_zero : (xs : List ℕ) → eqb (number xs) 0 ≡ at_most xs (replicate (length xs) 0)
 unfolding number at_most
-all-zero [] = refl
-all-zero (zero ∷ xs) = shifted (number xs) ∙ all-zero xs
-all-zero (suc x ∷ xs) =
+all_zero [] = refl
+all_zero (zero ∷ xs) = shifted (number xs) ∙ all_zero xs
+all_zero (suc x ∷ xs) =
     ne_eqb (number xs * 256 + suc x) 0 (λ z. omega arith)
     ∙ ap (λ t. t && at_most xs (replicate (length xs) 0)) (sym (lt-leb (suc x) 0 (omega arith)))
 
 -- a word is below 256 exactly if it is 0 above its lowest octet
-below-256 : (n x : ℕ) → x < 256 → ltb (n * 256 + x) 256 ≡ eqb n 0
-below-256 zero x h = lt-ltb (0 * 256 + x) 256 (omega arith)
-below-256 (suc n) x h = le-ltb (suc n * 256 + x) 256 (omega arith) ∙ sym (ne_eqb (suc n) 0 (λ z. omega arith))
+below_256 : (n x : ℕ) → x < 256 → ltb (n * 256 + x) 256 ≡ eqb n 0
+below_256 zero x h = lt-ltb (0 * 256 + x) 256 (omega arith)
+below_256 (suc n) x h = le-ltb (suc n * 256 + x) 256 (omega arith) ∙ sym (ne_eqb (suc n) 0 (λ z. omega arith))
 
 -- so a part's word is below 256 exactly if the octets behind the first are 0
-pub behind-first : (m : List ℕ) (at k : ℕ) → get_or m at 0 < 256 → at + suc k ≤ length m
+pub behind_first : (m : List ℕ) (at k : ℕ) → get_or m at 0 < 256 → at + suc k ≤ length m
     → ltb (number (part m at (suc k))) 256 ≡ at_most (part m (at + 1) k) (replicate k 0)
 unfolding number
-behind-first m at k small h =
+behind_first m at k small h =
     let rest = part m (at + 1) k in
-    ap (λ l. ltb (number l) 256) (part-cons m at k (omega arith))
-    ∙ below-256 (number rest) (get_or m at 0) small
-    ∙ all-zero rest
+    ap (λ l. ltb (number l) 256) (part_cons m at k (omega arith))
+    ∙ below_256 (number rest) (get_or m at 0) small
+    ∙ all_zero rest
     ∙ ap (λ n. at_most rest (replicate n 0)) (part_length m (at + 1) k (omega arith))
 
 -- ---- octets that are 0
 
 -- half a word of a memory is 0 exactly if its octets are
-pub half-none : (m : List ℕ) (at r : ℕ) → at + 4 ≤ length m → r ≡ number (part m at 4) → eqb r 0 ≡ at_most (part m at 4) (replicate 4 0)
-half-none m at r h e = ap (λ x. eqb x 0) e ∙ all-zero (part m at 4) ∙ ap (λ n. at_most (part m at 4) (replicate n 0)) (part_length m at 4 h)
+pub half_none : (m : List ℕ) (at r : ℕ) → at + 4 ≤ length m → r ≡ number (part m at 4) → eqb r 0 ≡ at_most (part m at 4) (replicate 4 0)
+half_none m at r h e = ap (λ x. eqb x 0) e ∙ all_zero (part m at 4) ∙ ap (λ n. at_most (part m at 4) (replicate n 0)) (part_length m at 4 h)
 
 -- two parts of a memory, one behind the other, are 0 exactly if the part that they make is
-pub none-joined : (m : List ℕ) (at j k : ℕ) → at + j ≤ length m
+pub none_joined : (m : List ℕ) (at j k : ℕ) → at + j ≤ length m
     → (at_most (part m at j) (replicate j 0) && at_most (part m (at + j) k) (replicate k 0)) ≡ at_most (part m at (j + k)) (replicate (j + k) 0)
-none-joined m at j k h =
-    sym (at-most-append (part m at j) (replicate j 0) (part m (at + j) k) (replicate k 0) (part_length m at j h ∙ sym (length-replicate {A = ℕ} j 0)))
+none_joined m at j k h =
+    sym (at_most_append (part m at j) (replicate j 0) (part m (at + j) k) (replicate k 0) (part_length m at j h ∙ sym (length-replicate {A = ℕ} j 0)))
     ∙ ap₂ at_most (sym (take-add j k (drop at m) ∙ ap (λ l. part m at j ++ take k l) (drop-drop j at m))) (replicate-append-replicate {A = ℕ} j k 0)
 
 -- and so are words that are 0 exactly if these are
-pub joined-none : (m : List ℕ) (at j k x y : ℕ) → at + j ≤ length m
+pub joined_none : (m : List ℕ) (at j k x y : ℕ) → at + j ≤ length m
     → eqb x 0 ≡ at_most (part m at j) (replicate j 0)
     → eqb y 0 ≡ at_most (part m (at + j) k) (replicate k 0)
     → eqb (bit_or x y) 0 ≡ at_most (part m at (j + k)) (replicate (j + k) 0)
-joined-none m at j k x y h p q =
-    or-zero x y
+joined_none m at j k x y h p q =
+    or_zero x y
     ∙ ap₂ ◌&&◌ p q
-    ∙ none-joined m at j k h
+    ∙ none_joined m at j k h
 
 -- and so are four for parts of one length
-pub four-none : (m : List ℕ) (at n w x y z : ℕ) → at + (n + n + n) ≤ length m
+pub four_none : (m : List ℕ) (at n w x y z : ℕ) → at + (n + n + n) ≤ length m
     → eqb w 0 ≡ at_most (part m at n) (replicate n 0)
     → eqb x 0 ≡ at_most (part m (at + n) n) (replicate n 0)
     → eqb y 0 ≡ at_most (part m (at + (n + n)) n) (replicate n 0)
     → eqb z 0 ≡ at_most (part m (at + (n + n + n)) n) (replicate n 0)
     → eqb (bit_or (bit_or (bit_or w x) y) z) 0 ≡ at_most (part m at (n + n + n + n)) (replicate (n + n + n + n) 0)
-four-none m at n w x y z h p q r s = joined-none m at (n + n + n) n (bit_or (bit_or w x) y) z h three s
+four_none m at n w x y z h p q r s = joined_none m at (n + n + n) n (bit_or (bit_or w x) y) z h three s
   where
     three : eqb (bit_or (bit_or w x) y) 0 ≡ at_most (part m at (n + n + n)) (replicate (n + n + n) 0)
-    three = joined-none m at (n + n) n (bit_or w x) y (omega arith) (joined-none m at n n w x (omega arith) p q) r
+    three = joined_none m at (n + n) n (bit_or w x) y (omega arith) (joined_none m at n n w x (omega arith) p q) r
 
 -- an or of four is 0 exactly if each of them is
-pub or-four : (w x y z : ℕ) {p q r s : Bool} → eqb w 0 ≡ p → eqb x 0 ≡ q → eqb y 0 ≡ r → eqb z 0 ≡ s
+pub or_four : (w x y z : ℕ) {p q r s : Bool} → eqb w 0 ≡ p → eqb x 0 ≡ q → eqb y 0 ≡ r → eqb z 0 ≡ s
     → eqb (bit_or (bit_or (bit_or w x) y) z) 0 ≡ (p && (q && (r && s)))
-or-four w x y z {p = p} {q = q} {r = r} {s = s} a b c d =
-    or-zero (bit_or (bit_or w x) y) z
-    ∙ ap₂ ◌&&◌ (or-zero (bit_or w x) y ∙ ap₂ ◌&&◌ (or-zero w x ∙ ap₂ ◌&&◌ a b) c) d
+or_four w x y z {p = p} {q = q} {r = r} {s = s} a b c d =
+    or_zero (bit_or (bit_or w x) y) z
+    ∙ ap₂ ◌&&◌ (or_zero (bit_or w x) y ∙ ap₂ ◌&&◌ (or_zero w x ∙ ap₂ ◌&&◌ a b) c) d
     ∙ and_assoc (p && q) r s
     ∙ and_assoc p q (r && s)

@@ -24,8 +24,8 @@ lows [] = []
 lows (x ∷ xs) = x % 128 ∷ lows xs
 
 -- the four octets from a place on are 0
-unfoldable pub nothingAt : List ℕ → ℕ → Bool
-nothingAt m at = at_most (part m at 4) (replicate 4 0)
+unfoldable pub nothing_at : List ℕ → ℕ → Bool
+nothing_at m at = at_most (part m at 4) (replicate 4 0)
 
 -- both are 0, or both are at least 4
 abbrev pub pair : ℕ → ℕ → Bool
@@ -38,9 +38,9 @@ paired (x ∷ xs) [] = true
 paired (x ∷ xs) (y ∷ ys) = pair x y && paired xs ys
 
 -- an eighth of each, rounded up
-unfoldable pub eighthsOf : List ℕ → List ℕ
-eighthsOf [] = []
-eighthsOf (x ∷ xs) = (x + 7) / 8 ∷ eighthsOf xs
+unfoldable pub eighths_of : List ℕ → List ℕ
+eighths_of [] = []
+eighths_of (x ∷ xs) = (x + 7) / 8 ∷ eighths_of xs
 
 unfoldable pub total : List ℕ → ℕ
 total [] = 0

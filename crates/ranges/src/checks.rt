@@ -1,7 +1,7 @@
 // Octets of a memory held to limits below 128, by words.
 ghost use Rattle.std.specs.Prelude.{◌≡◌, ◌+◌, ◌*◌, ◌≤◌, ◌&&◌, ◌++◌, length, replicate, ◌==◌};
 ghost use Rattle.octets.specs.Part.{part};
-ghost use Rattle.ranges.specs.Octets.{octets, at_most, lows, nothingAt};
+ghost use Rattle.ranges.specs.Octets.{octets, at_most, lows, nothing_at};
 
 use crate::word;
 
@@ -56,7 +56,7 @@ pub fn nothing_in(mem: &[u8], at: usize) -> bool
 // Whether the four octets at each of four places are 0, of which the first is given and each other lies a step behind the one before it.
 pub fn nothing_across(mem: &[u8], at: usize, step: usize) -> bool
     requires { (at + 3 * step + 4 ≤ length mem.now) × (step ≤ 65536) }
-    ensures { result ≡ (nothingAt mem.now at && (nothingAt mem.now (at + step) && (nothingAt mem.now (at + 2 * step) && nothingAt mem.now (at + 3 * step)))) }
+    ensures { result ≡ (nothing_at mem.now at && (nothing_at mem.now (at + step) && (nothing_at mem.now (at + 2 * step) && nothing_at mem.now (at + 3 * step)))) }
 {
     (word::half(mem, at)
         | word::half(mem, at + step)

@@ -1,7 +1,7 @@
 // Octets in a word, eight of them, or four in half a word, the lowest first: held octet by octet to limits or to others, and summed.
 ghost use Rattle.std.specs.Prelude.{◌≡◌, ◌+◌, ◌≤◌, true, ◌&&◌, [], ◌∷◌, length, replicate, ◌==◌};
 ghost use Rattle.octets.specs.Part.{part};
-ghost use Rattle.ranges.specs.Octets.{number, octets, at_most, lows, paired, eighthsOf, total};
+ghost use Rattle.ranges.specs.Octets.{number, octets, at_most, lows, paired, eighths_of, total};
 
 // The word with these octets. Written with | and << in one expression the compiler makes one load of it.
 fn join(a: u8, b: u8, c: u8, d: u8, e: u8, f: u8, g: u8, h: u8) -> u64
@@ -101,7 +101,7 @@ pub fn unpaired(x: u32, y: u32) -> u32
 // An eighth of each octet, rounded up.
 pub fn eighths(x: u32) -> u32
     requires { at_most (octets 4 x) (replicate 4 248) ≡ true }
-    ensures { (result ≡ number (eighthsOf (octets 4 x))) × (result ≤ 522133279) }
+    ensures { (result ≡ number (eighths_of (octets 4 x))) × (result ≤ 522133279) }
 {
     (x + 0x0707_0707) / 8 & 0x1f1f_1f1f
 }

@@ -12,9 +12,9 @@ use mir.Facts.{to_z-of_z, Fits-nat_abs}
 use Rattle.telegram.proofs.Run.{no_true}
 
 -- not below 0
-pub not-below : (z : ℤ) → le_z (pos 0) z ≡ true → T (non_neg z)
-not-below (pos n) e = tt
-not-below (negsuc k) e = no_true e
+pub not_below : (z : ℤ) → le_z (pos 0) z ≡ true → T (non_neg z)
+not_below (pos n) e = tt
+not_below (negsuc k) e = no_true e
 
 -- so it is cast
 pub casts : (z : ℤ) → SFits w64 z → T (non_neg z) → T (non_neg (to_z w64 (of_z w64 z))) × Fits w64 (nat_abs (to_z w64 (of_z w64 z)))

@@ -11,7 +11,7 @@ use Rattle.state.specs.declared.control.Control.{Control}
 use Rattle.state.specs.declared.state.Drawn.TheVariants as drawn
 use Rattle.state.specs.Sound.{Within}
 use Rattle.state.specs.Well.{within}
-use Rattle.state.proofs.Tests.{within-true}
+use Rattle.state.proofs.Tests.{within_true}
 use Rattle.rules.specs.declared.request.Request.{Request}
 use Rattle.rules.specs.declared.request.Data.{Data}
 use Rattle.rules.specs.declared.request.Occupied.{Occupied}
@@ -20,15 +20,15 @@ use Rattle.rules.specs.declared.request.Service.{Service}
 use Rattle.rules.specs.declared.request.Service.TheVariants.{Nothing, Status, Reject, GlobalControl, DataExchange, SetPrm, ChkCfg, SlaveDiag, GetCfg, ReadInputs, ReadOutputs}
 use Rattle.rules.specs.Control.{bit}
 use Rattle.rules.specs.Phases.{drawing}
-use Rattle.rules.specs.Requests.{refilled, serviceOf}
-use Rattle.rules.specs.Retries.{isRepeat, chained, repeated}
-use Rattle.rules.specs.Services.{parametrized, setPrm, exchanges, controls, obeyed, globalControl, serve, outcomeBy}
-use Rattle.rules.specs.Watchdog.{fastBase}
+use Rattle.rules.specs.Requests.{refilled, service_of}
+use Rattle.rules.specs.Retries.{is_repeat, chained, repeated}
+use Rattle.rules.specs.Services.{parametrized, set_prm, exchanges, controls, obeyed, global_control, serve, outcome_by}
+use Rattle.rules.specs.Watchdog.{fast_base}
 use Rattle.rules.proofs.Headed.{To, Headed, headed}
 
 -- with another octet 7
-abbrev withBase : Prm → ℕ → Prm
-withBase p x =
+abbrev with_base : Prm → ℕ → Prm
+with_base p x =
     record {
       status = p.status;
       factor1 = p.factor1;
@@ -41,11 +41,11 @@ withBase p x =
 
 -- Set_Prm's octets are the same, but that octet 7 need only mean the same base
 pub record SamePrm (count : ℕ) (p q : Prm) : Type 0 where
-  pub others : p ≡ withBase q p.base
-  pub base : fastBase count p ≡ fastBase count q
+  pub others : p ≡ with_base q p.base
+  pub base : fast_base count p ≡ fast_base count q
 
 -- as it does if its bit 2 is the same where it is there
-pub same_base : (count : ℕ) (p q : Prm) → (8 ≤ count → bit p.base 2 ≡ bit q.base 2) → fastBase count p ≡ fastBase count q
+pub same_base : (count : ℕ) (p q : Prm) → (8 ≤ count → bit p.base 2 ≡ bit q.base 2) → fast_base count p ≡ fast_base count q
 same_base count p q f = go (leb 8 count) refl
   where
     go : (t : Bool) → leb 8 count ≡ t → t && bit p.base 2 ≡ t && bit q.base 2
@@ -54,25 +54,25 @@ same_base count p q f = go (leb 8 count) refl
 
 module _ (g : Setup) (c : Control) (r : Request) where
   -- nothing but the base is looked at of octet 7
-  base-seen : (opened : Bool) (p : Prm) (x : ℕ) → fastBase r.count (withBase p x) ≡ fastBase r.count p → setPrm g c opened r (withBase p x) ≡ setPrm g c opened r p
-  unfolding setPrm parametrized
-  base-seen opened p x e = rw e
+  base_seen : (opened : Bool) (p : Prm) (x : ℕ) → fast_base r.count (with_base p x) ≡ fast_base r.count p → set_prm g c opened r (with_base p x) ≡ set_prm g c opened r p
+  unfolding set_prm parametrized
+  base_seen opened p x e = rw e
 
-  right-count : (opened : Bool) (p q : Prm) → SamePrm r.count p q → setPrm g c opened r p ≡ setPrm g c opened r q
-  right-count opened p q h = ap (setPrm g c opened r) h.others ∙ base-seen opened q p.base h.base
+  right_count : (opened : Bool) (p q : Prm) → SamePrm r.count p q → set_prm g c opened r p ≡ set_prm g c opened r q
+  right_count opened p q h = ap (set_prm g c opened r) h.others ∙ base_seen opened q p.base h.base
 
-  setPrm-same : (opened : Bool) (p q : Prm) → (Within 7 r.count g.parameter_len → SamePrm r.count p q) → setPrm g c opened r p ≡ setPrm g c opened r q
-  unfolding setPrm
-  setPrm-same opened p q f = go (within 7 r.count g.parameter_len) refl
+  set_prm_same : (opened : Bool) (p q : Prm) → (Within 7 r.count g.parameter_len → SamePrm r.count p q) → set_prm g c opened r p ≡ set_prm g c opened r q
+  unfolding set_prm
+  set_prm_same opened p q f = go (within 7 r.count g.parameter_len) refl
     where
-      go : (t : Bool) → within 7 r.count g.parameter_len ≡ t → setPrm g c opened r p ≡ setPrm g c opened r q
-      go true e = right-count opened p q (f (within-true 7 r.count g.parameter_len e))
+      go : (t : Bool) → within 7 r.count g.parameter_len ≡ t → set_prm g c opened r p ≡ set_prm g c opened r q
+      go true e = right_count opened p q (f (within_true 7 r.count g.parameter_len e))
       go false e = rw e
 
-  globalControl-same : (withheld : Bool) (first second first' second' : ℕ) → (r.count ≡ 2 → (first ≡ first') × (second ≡ second'))
-      → globalControl c withheld r first second ≡ globalControl c withheld r first' second'
-  unfolding globalControl
-  globalControl-same withheld first second first' second' f = go (eqb r.count 2) refl
+  global_control_same : (withheld : Bool) (first second first' second' : ℕ) → (r.count ≡ 2 → (first ≡ first') × (second ≡ second'))
+      → global_control c withheld r first second ≡ global_control c withheld r first' second'
+  unfolding global_control
+  global_control_same withheld first second first' second' f = go (eqb r.count 2) refl
     where
       neither : (a y : Bool) → a && false && y ≡ false
       neither true y = refl
@@ -81,32 +81,32 @@ module _ (g : Setup) (c : Control) (r : Request) where
       off : (x : ℕ) → eqb r.count 2 ≡ false → controls c r x ≡ false
       off x e = rw e (neither (exchanges c r) (eqb x 0 || not (eqb (bit_and x c.group) 0)))
 
-      go : (t : Bool) → eqb r.count 2 ≡ t → globalControl c withheld r first second ≡ globalControl c withheld r first' second'
-      go true e = let w = f (eqb-true _ _ e) in λ i. globalControl c withheld r (w.0 i) (w.1 i)
+      go : (t : Bool) → eqb r.count 2 ≡ t → global_control c withheld r first second ≡ global_control c withheld r first' second'
+      go true e = let w = f (eqb-true _ _ e) in λ i. global_control c withheld r (w.0 i) (w.1 i)
       go false e =
           ap (λ (t : Bool). cond t (obeyed c withheld first) (drawing c drawn.Nothing)) (off second e)
           ∙ sym (ap (λ (t : Bool). cond t (obeyed c withheld first') (drawing c drawn.Nothing)) (off second' e))
 
   module _ (b : Occupied) (x y : Data) (e : To r 61 → Within 7 r.count g.parameter_len → SamePrm r.count x.prm y.prm)
       (f : r.count ≡ 2 → (x.first ≡ y.first) × (x.second ≡ y.second)) where
-    by-service : (v : Service) → Headed v r → serve v g c b r x ≡ serve v g c b r y
-    by-service Nothing h = refl
-    by-service Status h = refl
-    by-service Reject h = refl
-    by-service GlobalControl h = globalControl-same b.outputs x.first x.second y.first y.second f
-    by-service DataExchange h = refl
-    by-service SetPrm h = setPrm-same b.parameters x.prm y.prm (e h)
-    by-service ChkCfg h = refl
-    by-service SlaveDiag h = refl
-    by-service GetCfg h = refl
-    by-service ReadInputs h = refl
-    by-service ReadOutputs h = refl
+    by_service : (v : Service) → Headed v r → serve v g c b r x ≡ serve v g c b r y
+    by_service Nothing h = refl
+    by_service Status h = refl
+    by_service Reject h = refl
+    by_service GlobalControl h = global_control_same b.outputs x.first x.second y.first y.second f
+    by_service DataExchange h = refl
+    by_service SetPrm h = set_prm_same b.parameters x.prm y.prm (e h)
+    by_service ChkCfg h = refl
+    by_service SlaveDiag h = refl
+    by_service GetCfg h = refl
+    by_service ReadInputs h = refl
+    by_service ReadOutputs h = refl
 
 -- data that is the same there has the same outcome
 pub same_outcome : (g : Setup) (c : Control) (b : Occupied) (r : Request) (x y : Data)
     → (To r 61 → Within 7 r.count g.parameter_len → SamePrm r.count x.prm y.prm)
     → (r.count ≡ 2 → (x.first ≡ y.first) × (x.second ≡ y.second))
-    → outcomeBy g c b r x ≡ outcomeBy g c b r y
+    → outcome_by g c b r x ≡ outcome_by g c b r y
 same_outcome g c b r x y e f =
-    let served = by-service g (refilled g c r) r b x y e f (serviceOf g r) (headed r g) in
-    λ i. cond (isRepeat g c r) (repeated g c r) (chained g r (served i))
+    let served = by_service g (refilled g c r) r b x y e f (service_of g r) (headed r g) in
+    λ i. cond (is_repeat g c r) (repeated g c r) (chained g r (served i))

@@ -3,21 +3,21 @@ use mathlib.Core.Bool.{Bool, true, false, ◌||◌}
 use Rattle.state.specs.declared.control.Control.{Control}
 use Rattle.state.specs.declared.state.Drawn.{Drawn}
 use Rattle.state.specs.declared.state.Drawn.TheVariants.{Nothing, Acknowledge, Status, Rejected, Exchange, Inputs, Outputs, Configuration, Diagnosis}
-use Rattle.state.specs.Chain.{drawnIn}
-use Rattle.rules.specs.Control.{inExchange}
+use Rattle.state.specs.Chain.{drawn_in}
+use Rattle.rules.specs.Control.{in_exchange}
 
 -- the held outputs are drawn
-abbrev pub isOutputs : Drawn → Bool
-isOutputs Nothing = false
-isOutputs Acknowledge = false
-isOutputs Status = false
-isOutputs Rejected = false
-isOutputs Exchange = false
-isOutputs Inputs = false
-isOutputs Outputs = true
-isOutputs Configuration = false
-isOutputs Diagnosis = false
+abbrev pub is_outputs : Drawn → Bool
+is_outputs Nothing = false
+is_outputs Acknowledge = false
+is_outputs Status = false
+is_outputs Rejected = false
+is_outputs Exchange = false
+is_outputs Inputs = false
+is_outputs Outputs = true
+is_outputs Configuration = false
+is_outputs Diagnosis = false
 
 -- they may be, with this control part
-abbrev pub mayDrawOutputs : Control → Bool
-mayDrawOutputs c = inExchange c || isOutputs (drawnIn c.chain)
+abbrev pub may_draw_outputs : Control → Bool
+may_draw_outputs c = in_exchange c || is_outputs (drawn_in c.chain)

@@ -13,34 +13,34 @@ use Rattle.rules.specs.declared.request.Service.TheVariants.{Reject, SetPrm, Chk
 use Rattle.rules.specs.Requests.{point_of}
 
 -- a service that expects no data
-abbrev withoutData : ℕ → Service → Service
-withoutData count s = cond (not (eqb count 0)) Reject s
+abbrev without_data : ℕ → Service → Service
+without_data count s = cond (not (eqb count 0)) Reject s
 
 -- by the point and the count of data octets
 abbrev pub asked : Point → ℕ → Service
 asked point.SetPrm count = SetPrm
 asked point.ChkCfg count = ChkCfg
-asked point.SlaveDiag count = withoutData count SlaveDiag
-asked point.GetCfg count = withoutData count GetCfg
-asked point.ReadInputs count = withoutData count ReadInputs
-asked point.ReadOutputs count = withoutData count ReadOutputs
+asked point.SlaveDiag count = without_data count SlaveDiag
+asked point.GetCfg count = without_data count GetCfg
+asked point.ReadInputs count = without_data count ReadInputs
+asked point.ReadOutputs count = without_data count ReadOutputs
 asked point.GlobalControl count = Reject
 
-rejected-anyway : (wrong : Bool) → Reject ≡ cond wrong Reject Reject
-rejected-anyway true = refl
-rejected-anyway false = refl
+rejected_anyway : (wrong : Bool) → Reject ≡ cond wrong Reject Reject
+rejected_anyway true = refl
+rejected_anyway false = refl
 
-pub asked-at-point : (p : Point) (r : Request) → number_of p ≡ r.dsap → asked p r.count ≡ point_of r
-asked-at-point point.SetPrm r e = rw (sym e)
-asked-at-point point.ChkCfg r e = rw (sym e)
-asked-at-point point.SlaveDiag r e = rw (sym e)
-asked-at-point point.GetCfg r e = rw (sym e)
-asked-at-point point.ReadInputs r e = rw (sym e)
-asked-at-point point.ReadOutputs r e = rw (sym e)
-asked-at-point point.GlobalControl r e = rw (sym e) (rejected-anyway (not (eqb r.count 0)))
+pub asked_at_point : (p : Point) (r : Request) → number_of p ≡ r.dsap → asked p r.count ≡ point_of r
+asked_at_point point.SetPrm r e = rw (sym e)
+asked_at_point point.ChkCfg r e = rw (sym e)
+asked_at_point point.SlaveDiag r e = rw (sym e)
+asked_at_point point.GetCfg r e = rw (sym e)
+asked_at_point point.ReadInputs r e = rw (sym e)
+asked_at_point point.ReadOutputs r e = rw (sym e)
+asked_at_point point.GlobalControl r e = rw (sym e) (rejected_anyway (not (eqb r.count 0)))
 
-pub asked-nowhere : (r : Request) → ((p : Point) → ¬ (number_of p ≡ r.dsap)) → Reject ≡ point_of r
-asked-nowhere r none =
+pub asked_nowhere : (r : Request) → ((p : Point) → ¬ (number_of p ≡ r.dsap)) → Reject ≡ point_of r
+asked_nowhere r none =
     let differs : (p : Point) → eqb r.dsap (number_of p) ≡ false = λ p. ne_eqb _ _ (λ e. none p (sym e)) in
     rw (
       differs point.SetPrm,
@@ -50,4 +50,4 @@ asked-nowhere r none =
       differs point.ReadInputs,
       differs point.ReadOutputs,
     )
-    (rejected-anyway (not (eqb r.count 0)))
+    (rejected_anyway (not (eqb r.count 0)))

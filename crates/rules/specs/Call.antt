@@ -10,10 +10,10 @@ pub data Call : Type 0 where
   take : Call
   read : (kind index : ℕ) → Call
   write : (kind index value : ℕ) → Call
-  hand-over : Call
-  new-diagnosis : (count flags : ℕ) → Call
-  judge-parameters : (judgement : ℕ) → Call
-  judge-configuration : (judgement : ℕ) → Call
+  hand_over_lem : Call
+  new_diagnosis_lem : (count flags : ℕ) → Call
+  judge_parameters_lem : (judgement : ℕ) → Call
+  judge_configuration_lem : (judgement : ℕ) → Call
   events : Call
   acknowledge : (mask : ℕ) → Call
   pending : Call

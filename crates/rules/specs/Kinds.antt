@@ -4,8 +4,8 @@ use Rattle.std.specs.Prelude.{ℕ, Bool, cond, ◌&&◌, ◌||◌, eqb, leb, ltb
 use Rattle.state.specs.declared.setup.Setup.{Setup}
 
 -- what each kind is set to hold at most; 0 where there is no such kind
-abbrev pub kindLength : Setup → ℕ → ℕ
-kindLength s kind =
+abbrev pub kind_length : Setup → ℕ → ℕ
+kind_length s kind =
     cond (eqb kind 1) s.output_len
     (cond (eqb kind 2) s.parameter_len
     (cond (eqb kind 3) s.configuration_len
@@ -18,4 +18,4 @@ writable kind = eqb kind 4 || eqb kind 5
 
 -- index from 0, for 5 from 6, below the kind's set length
 abbrev pub in_range : Setup → ℕ → ℕ → Bool
-in_range s kind index = leb (cond (eqb kind 5) 6 0) index && ltb index (kindLength s kind)
+in_range s kind index = leb (cond (eqb kind 5) 6 0) index && ltb index (kind_length s kind)

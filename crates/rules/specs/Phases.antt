@@ -1,7 +1,7 @@
 -- Entering and leaving the phases (document 01, Services, last paragraph; document 02, Req 01).
 use Rattle.std.specs.Prelude.{cond}
 use Rattle.buffers.specs.declared.events.Events.{Events}
-use Rattle.buffers.specs.Events.{raised, cleared, dataExchangeEvent, configurationEvent, parametersEvent, outputsEvent}
+use Rattle.buffers.specs.Events.{raised, cleared, data_exchange_event, configuration_event, parameters_event, outputs_event}
 use Rattle.state.specs.declared.control.Phase.TheVariants.{WaitPrm, WaitCfg, DataExch}
 use Rattle.state.specs.declared.control.Control.{Control}
 use Rattle.state.specs.declared.state.Drawn.{Drawn}
@@ -10,9 +10,9 @@ use Rattle.rules.specs.declared.outcome.OutputsDeed.TheVariants as outputs-deed
 use Rattle.rules.specs.declared.outcome.InputsDeed.TheVariants as inputs-deed
 use Rattle.rules.specs.declared.outcome.SetDeed.TheVariants as set-deed
 use Rattle.rules.specs.declared.outcome.Outcome.{Outcome}
-use Rattle.state.specs.Start.{noOwner}
-use Rattle.rules.specs.Control.{inExchange, withPhase, withEvents, withModes, raise}
-use Rattle.rules.specs.Modes.{endedModes}
+use Rattle.state.specs.Start.{no_owner}
+use Rattle.rules.specs.Control.{in_exchange, with_phase, with_events, with_modes, raise}
+use Rattle.rules.specs.Modes.{ended_modes}
 
 -- nothing but a reply comes of it
 abbrev pub drawing : Control → Drawn → Outcome
@@ -27,31 +27,31 @@ drawing c d =
     }
 
 -- event 1: DATA_EXCH is left
-abbrev pub leftExchange : Control → Events
-leftExchange c = cond (inExchange c) (raised c.events dataExchangeEvent) c.events
+abbrev pub left_exchange : Control → Events
+left_exchange c = cond (in_exchange c) (raised c.events data_exchange_event) c.events
 
 -- WAIT_PRM entered, even from itself: no owner, watchdog off, group and stored control 0, no set open, zeros published, both modes ended
-unfoldable pub waitPrm : Control → Control
-waitPrm c =
+unfoldable pub wait_prm : Control → Control
+wait_prm c =
     record {
       phase = WaitPrm;
-      owner = noOwner;
+      owner = no_owner;
       group = 0;
       stored = 0;
       watchdog = record { reload = 0; remaining = 0 };
       flags = c.flags;
-      events = raised (cleared (cleared (leftExchange c) configurationEvent) parametersEvent) outputsEvent;
+      events = raised (cleared (cleared (left_exchange c) configuration_event) parameters_event) outputs_event;
       noted = c.noted;
       diagnosis = c.diagnosis;
-      modes = endedModes c.modes;
+      modes = ended_modes c.modes;
       chain = c.chain;
     }
 
 -- with what becomes of the buffers: zeros published, which empties what is held back, parameter and configuration sets dropped
-abbrev pub enteringWaitPrm : Control → Drawn → Outcome
-enteringWaitPrm c d =
+abbrev pub entering_wait_prm : Control → Drawn → Outcome
+entering_wait_prm c d =
     record {
-      control = waitPrm c;
+      control = wait_prm c;
       outputs = outputs-deed.Zeros;
       inputs = inputs-deed.Keep;
       parameters = set-deed.Drop;
@@ -61,16 +61,16 @@ enteringWaitPrm c d =
 
 -- DATA_EXCH left: event 1, zeros published, both modes ended
 abbrev pub left : Control → Control
-left c = withModes (withEvents c (raised (leftExchange c) outputsEvent)) (endedModes c.modes)
+left c = with_modes (with_events c (raised (left_exchange c) outputs_event)) (ended_modes c.modes)
 
 -- WAIT_CFG entered
-unfoldable pub waitCfg : Control → Control
-waitCfg c = withPhase (cond (inExchange c) (left c) c) WaitCfg
+unfoldable pub wait_cfg : Control → Control
+wait_cfg c = with_phase (cond (in_exchange c) (left c) c) WaitCfg
 
 -- what becomes of the outputs then
-abbrev pub zerosIfLeft : Control → OutputsDeed
-zerosIfLeft c = cond (inExchange c) outputs-deed.Zeros outputs-deed.Keep
+abbrev pub zeros_if_left : Control → OutputsDeed
+zeros_if_left c = cond (in_exchange c) outputs-deed.Zeros outputs-deed.Keep
 
 -- DATA_EXCH entered, event 1
-unfoldable pub dataExch : Control → Control
-dataExch c = raise (withPhase c DataExch) dataExchangeEvent
+unfoldable pub data_exch : Control → Control
+data_exch c = raise (with_phase c DataExch) data_exchange_event

@@ -4,12 +4,12 @@ use Rattle.state.specs.declared.answer.Answer.{Answer}
 
 -- what a list of calls leaves; next: what the call e leaves of s
 module _ {S E : Type 0} (next : S → E → S) where
-  abbrev pub leftBy : S → List E → S
-  leftBy s [] = s
-  leftBy s (e ∷ es) = leftBy (next s e) es
+  abbrev pub left_by : S → List E → S
+  left_by s [] = s
+  left_by s (e ∷ es) = left_by (next s e) es
 
 -- the answers to it; answer: what the call e answers on s
 module _ {S E : Type 0} (answer : S → E → Answer) (next : S → E → S) where
-  abbrev pub answersTo : S → List E → List Answer
-  answersTo s [] = []
-  answersTo s (e ∷ es) = answer s e ∷ answersTo (next s e) es
+  abbrev pub answers_to : S → List E → List Answer
+  answers_to s [] = []
+  answers_to s (e ∷ es) = answer s e ∷ answers_to (next s e) es

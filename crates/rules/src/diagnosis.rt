@@ -1,6 +1,6 @@
 // The diagnosis octets that the station makes, and a new diagnosis of the user's.
 ghost use Rattle.std.specs.Prelude.{◌≤◌, ◌≡◌};
-ghost use Rattle.rules.specs.Diagnosis.{one, status1, status2, status3, headerOf, presentFlags, isDelayed, diagnosed, delaying, caughtUp};
+ghost use Rattle.rules.specs.Diagnosis.{one, status1, status2, status3, header_of, present_flags, is_delayed, diagnosed, delaying, caught_up};
 
 use crate::phases::{in_exchange, in_wait_prm};
 use buffers::events::Events;
@@ -55,7 +55,7 @@ fn status3(control: Control) -> u8
 
 // Octets 0 to 3; octet 3 is the owner or FF.
 pub fn header_of(control: Control) -> Header
-    ensures { result ≡ headerOf control }
+    ensures { result ≡ header_of control }
 {
     Header {
         status1: status1(control),
@@ -67,14 +67,14 @@ pub fn header_of(control: Control) -> Header
 
 // The flags in force, in the bits that a new diagnosis takes them in.
 pub fn present_flags(flags: Flags) -> u8
-    ensures { result ≡ presentFlags flags }
+    ensures { result ≡ present_flags flags }
 {
     one(flags.ext_diag) + 2 * one(flags.stat_diag) + 4 * one(flags.overflow)
 }
 
 // A new diagnosis is delayed.
 pub fn is_delayed(diagnosis: Diagnosis) -> bool
-    ensures { result ≡ isDelayed diagnosis }
+    ensures { result ≡ is_delayed diagnosis }
 {
     diagnosis.delayed_count != 0
 }
@@ -112,7 +112,7 @@ pub fn delaying(mut control: Control, count: u8, flags: u8) -> Control
 
 // What waited takes effect.
 pub fn caught_up(control: Control) -> Control
-    ensures { result ≡ caughtUp control }
+    ensures { result ≡ caught_up control }
 {
     diagnosed(
         control,

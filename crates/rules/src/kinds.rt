@@ -1,12 +1,12 @@
 // The kinds of octets that the vat program reads and writes.
 ghost use Rattle.std.specs.Prelude.{cond, ◌≡◌, eqb};
-ghost use Rattle.rules.specs.Kinds.{kindLength, in_range};
+ghost use Rattle.rules.specs.Kinds.{kind_length, in_range};
 
 use state::setup::Setup;
 
 // What each kind is set to hold at most; 0 where there is no such kind.
 fn kind_length(setup: Setup, kind: u32) -> u8
-    ensures { result ≡ kindLength setup kind }
+    ensures { result ≡ kind_length setup kind }
 {
     if kind == 1 {
         return setup.output_len;

@@ -1,8 +1,8 @@
 // The clear, the watchdog and the Tick.
 ghost use Rattle.std.specs.Prelude.{◌≡◌};
-ghost use Rattle.buffers.specs.Events.{watchdogEvent};
+ghost use Rattle.buffers.specs.Events.{watchdog_event};
 ghost use Rattle.rules.specs.Control.{raise};
-ghost use Rattle.rules.specs.Line.{clearing, clearOn, clearNoted, counts, withRemaining, ticked};
+ghost use Rattle.rules.specs.Line.{clearing, clear_on, clear_noted, counts, with_remaining, ticked};
 
 use crate::outcome::Outcome;
 use crate::phases::{drawing, entering_wait_prm, in_wait_prm};
@@ -20,7 +20,7 @@ pub fn clearing(mut control: Control) -> Outcome
 
 // On a busy line a clear is noted.
 pub fn clear_on(busy: bool, mut control: Control) -> Outcome
-    ensures { result ≡ clearOn busy control }
+    ensures { result ≡ clear_on busy control }
 {
     if busy {
         control.noted = true;
@@ -31,7 +31,7 @@ pub fn clear_on(busy: bool, mut control: Control) -> Outcome
 
 // A noted clear is carried out when the line is idle.
 pub fn clear_noted(busy: bool, control: Control) -> Outcome
-    ensures { result ≡ clearNoted busy control }
+    ensures { result ≡ clear_noted busy control }
 {
     if control.noted & !busy {
         return clearing(control);
@@ -50,7 +50,7 @@ pub fn counts(control: Control) -> bool
 
 // The watchdog at 0: event 3 and a clear.
 fn expired(busy: bool, mut control: Control) -> Outcome
-    ensures { result ≡ clearOn busy (raise (withRemaining control 0) watchdogEvent) }
+    ensures { result ≡ clear_on busy (raise (with_remaining control 0) watchdog_event) }
 {
     let events = control.events.raise(Events::WATCHDOG);
     control.events = events;

@@ -1,6 +1,6 @@
 // Sync and freeze: what the modes make of a Data_Exchange, what Global_Control commands, and where they end.
 ghost use Rattle.std.specs.Prelude.{◌≡◌};
-ghost use Rattle.rules.specs.Modes.{endedModes, allowedModes, exchangeOutputs, exchangeInputs, switched, commandedModes, commandsSync, commandsFreeze, commandedOutputs, commandedInputs, announced};
+ghost use Rattle.rules.specs.Modes.{ended_modes, allowed_modes, exchange_outputs, exchange_inputs, switched, commanded_modes, commands_sync, commands_freeze, commanded_outputs, commanded_inputs, announced};
 
 use crate::outcome::{InputsDeed, OutputsDeed};
 use buffers::events::Events;
@@ -8,7 +8,7 @@ use state::control::Modes;
 
 // Both modes end; what Set_Prm allowed stays until the next good one.
 pub fn ended(m: Modes) -> Modes
-    ensures { result ≡ endedModes m }
+    ensures { result ≡ ended_modes m }
 {
     Modes {
         sync: false,
@@ -20,7 +20,7 @@ pub fn ended(m: Modes) -> Modes
 
 // Bits 5 and 4 of octet 0 of a good Set_Prm allow sync and freeze.
 pub fn allowed(m: Modes, status: u8) -> Modes
-    ensures { result ≡ allowedModes m status }
+    ensures { result ≡ allowed_modes m status }
 {
     Modes {
         sync: m.sync,
@@ -32,7 +32,7 @@ pub fn allowed(m: Modes, status: u8) -> Modes
 
 // A Data_Exchange in sync: its outputs are held back.
 pub fn exchange_outputs(m: Modes) -> OutputsDeed
-    ensures { result ≡ exchangeOutputs m }
+    ensures { result ≡ exchange_outputs m }
 {
     if m.sync {
         return OutputsDeed::HoldBack;
@@ -42,7 +42,7 @@ pub fn exchange_outputs(m: Modes) -> OutputsDeed
 
 // A Data_Exchange while frozen: the inputs stay.
 pub fn exchange_inputs(m: Modes) -> InputsDeed
-    ensures { result ≡ exchangeInputs m }
+    ensures { result ≡ exchange_inputs m }
 {
     if m.freeze {
         return InputsDeed::Keep;
@@ -68,7 +68,7 @@ fn switched(allowed: bool, on: bool, ending: bool, beginning: bool) -> bool
 
 // Global_Control: the modes after octet 0.
 pub fn commanded(m: Modes, first: u8) -> Modes
-    ensures { result ≡ commandedModes m first }
+    ensures { result ≡ commanded_modes m first }
 {
     let unsyncs = first / 16 % 2 == 1;
     let syncs = first / 32 % 2 == 1;
@@ -84,21 +84,21 @@ pub fn commanded(m: Modes, first: u8) -> Modes
 
 // Sync or unsync, where allowed.
 fn commands_sync(m: Modes, first: u8) -> bool
-    ensures { result ≡ commandsSync m first }
+    ensures { result ≡ commands_sync m first }
 {
     m.sync_allowed & ((first / 32 % 2 == 1) | (first / 16 % 2 == 1))
 }
 
 // Freeze or unfreeze, where allowed.
 fn commands_freeze(m: Modes, first: u8) -> bool
-    ensures { result ≡ commandsFreeze m first }
+    ensures { result ≡ commands_freeze m first }
 {
     m.freeze_allowed & ((first / 8 % 2 == 1) | (first / 4 % 2 == 1))
 }
 
 // Global_Control: clear publishes zeros; else sync and unsync publish what is held back, if something is.
 pub fn commanded_outputs(m: Modes, withheld: bool, first: u8) -> OutputsDeed
-    ensures { result ≡ commandedOutputs m withheld first }
+    ensures { result ≡ commanded_outputs m withheld first }
 {
     if first / 2 % 2 == 1 {
         return OutputsDeed::Zeros;
@@ -111,7 +111,7 @@ pub fn commanded_outputs(m: Modes, withheld: bool, first: u8) -> OutputsDeed
 
 // Global_Control: freeze and unfreeze bring new inputs.
 pub fn commanded_inputs(m: Modes, first: u8) -> InputsDeed
-    ensures { result ≡ commandedInputs m first }
+    ensures { result ≡ commanded_inputs m first }
 {
     if commands_freeze(m, first) {
         return InputsDeed::Bring;

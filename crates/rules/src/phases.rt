@@ -1,7 +1,7 @@
 // Entering and leaving the phases.
 ghost use Rattle.std.specs.Prelude.{◌≡◌};
-ghost use Rattle.rules.specs.Control.{exchanging, withPhase, inWaitPrm};
-ghost use Rattle.rules.specs.Phases.{drawing, leftExchange, left, waitPrm, enteringWaitPrm, waitCfg, zerosIfLeft, dataExch};
+ghost use Rattle.rules.specs.Control.{exchanging, with_phase, in_wait_prm};
+ghost use Rattle.rules.specs.Phases.{drawing, left_exchange, left, wait_prm, entering_wait_prm, wait_cfg, zeros_if_left, data_exch};
 
 use crate::modes::ended;
 use crate::outcome::{InputsDeed, Outcome, OutputsDeed, SetDeed};
@@ -22,7 +22,7 @@ pub fn in_exchange(phase: Phase) -> bool
 
 // Whether the phase is WAIT_PRM.
 pub fn in_wait_prm(phase: Phase) -> bool
-    ensures { result ≡ inWaitPrm phase }
+    ensures { result ≡ in_wait_prm phase }
 {
     match phase {
         Phase::WaitPrm => true,
@@ -47,7 +47,7 @@ pub fn drawing(control: Control, drawn: Drawn) -> Outcome
 
 // The same control part in another phase.
 fn with_phase(control: Control, phase: Phase) -> Control
-    ensures { result ≡ withPhase control phase }
+    ensures { result ≡ with_phase control phase }
 {
     let watchdog = control.watchdog;
     let flags = control.flags;
@@ -72,7 +72,7 @@ fn with_phase(control: Control, phase: Phase) -> Control
 
 // Event 1 where DATA_EXCH is left.
 fn left_exchange(control: Control) -> Events
-    ensures { result ≡ leftExchange control }
+    ensures { result ≡ left_exchange control }
 {
     let events = control.events;
     let phase = control.phase;
@@ -85,7 +85,7 @@ fn left_exchange(control: Control) -> Events
 // WAIT_PRM entered, even from itself: no owner, watchdog off, group and stored control 0, no set open, zeros published, both modes
 // ended.
 pub fn wait_prm(control: Control) -> Control
-    ensures { result ≡ waitPrm control }
+    ensures { result ≡ wait_prm control }
 {
     let left = left_exchange(control);
     let dropped = left.clear(Events::CONFIGURATION).clear(Events::PARAMETERS);
@@ -115,7 +115,7 @@ pub fn wait_prm(control: Control) -> Control
 // WAIT_PRM entered, with what becomes of the buffers: zeros published, which empties what is held back, parameter and configuration
 // sets dropped.
 pub fn entering_wait_prm(control: Control, drawn: Drawn) -> Outcome
-    ensures { result ≡ enteringWaitPrm control drawn }
+    ensures { result ≡ entering_wait_prm control drawn }
 {
     let entered = wait_prm(control);
     Outcome {
@@ -141,7 +141,7 @@ fn left(mut control: Control) -> Control
 
 // WAIT_CFG entered.
 pub fn wait_cfg(control: Control) -> Control
-    ensures { result ≡ waitCfg control }
+    ensures { result ≡ wait_cfg control }
 {
     let phase = control.phase;
     if in_exchange(phase) {
@@ -152,7 +152,7 @@ pub fn wait_cfg(control: Control) -> Control
 
 // What becomes of the outputs: leaving DATA_EXCH publishes zeros.
 pub fn zeros_if_left(control: Control) -> OutputsDeed
-    ensures { result ≡ zerosIfLeft control }
+    ensures { result ≡ zeros_if_left control }
 {
     let phase = control.phase;
     if in_exchange(phase) {
@@ -163,7 +163,7 @@ pub fn zeros_if_left(control: Control) -> OutputsDeed
 
 // DATA_EXCH entered, event 1.
 pub fn data_exch(control: Control) -> Control
-    ensures { result ≡ dataExch control }
+    ensures { result ≡ data_exch control }
 {
     let mut entered = with_phase(control, Phase::DataExch);
     let events = entered.events.raise(Events::DATA_EXCHANGE);

@@ -1,6 +1,6 @@
 // What the rules say of a reply beside its octets.
 ghost use Rattle.std.specs.Prelude.{◌≡◌};
-ghost use Rattle.rules.specs.Replies.{exchangeFc, repliesE5, isExchange, diagnoses};
+ghost use Rattle.rules.specs.Replies.{exchange_fc, replies_e5, is_exchange, diagnoses};
 
 use state::control::Control;
 use state::setup::Setup;
@@ -8,7 +8,7 @@ use state::state::Drawn;
 
 // FC 08, or 0A while Diag_Flag.
 pub fn exchange_fc(control: Control) -> u8
-    ensures { result ≡ exchangeFc control }
+    ensures { result ≡ exchange_fc control }
 {
     if control.flags.diag_flag {
         return 0x0A;
@@ -18,14 +18,14 @@ pub fn exchange_fc(control: Control) -> u8
 
 // A Data_Exchange is replied to by E5: there are no inputs, and no Diag_Flag to tell of.
 pub fn replies_e5(setup: Setup, control: Control) -> bool
-    ensures { result ≡ repliesE5 setup control }
+    ensures { result ≡ replies_e5 setup control }
 {
     (setup.input_len == 0) & !control.flags.diag_flag
 }
 
 // The reply to Data_Exchange.
 pub fn is_exchange(drawn: Drawn) -> bool
-    ensures { result ≡ isExchange drawn }
+    ensures { result ≡ is_exchange drawn }
 {
     match drawn {
         Drawn::Nothing => false,

@@ -2,7 +2,7 @@
 ghost use Rattle.std.specs.Prelude.{◌≡◌, cond, not, eqb};
 ghost use Rattle.points.specs.Points.{number_of};
 ghost use Rattle.rules.specs.declared.request.Service.TheVariants.{Reject};
-ghost use Rattle.rules.specs.Requests.{masterOf, globalForm, toStation, acts, refilled, statusBy, point_of, requestOf, functionService, serviceOf};
+ghost use Rattle.rules.specs.Requests.{master_of, global_form, to_station, acts, refilled, status_by, point_of, request_of, function_service, service_of};
 
 use crate::request::{Request, Service};
 use points::{Found, Point, look_up};
@@ -12,14 +12,14 @@ use telegram::Kind;
 
 // The master that sent it: SA without its mark of an extension.
 pub fn master_of(r: Request) -> u8
-    ensures { result ≡ masterOf r }
+    ensures { result ≡ master_of r }
 {
     r.sa % 128
 }
 
 // The form of Global_Control: functions 4 and 6, an extension, the service points.
 fn global_form(r: Request) -> bool
-    ensures { result ≡ globalForm r }
+    ensures { result ≡ global_form r }
 {
     let function = r.fc % 16;
     ((function == 4) | (function == 6)) & (128 <= r.da) & (r.dsap == 58) & (r.ssap == 62)
@@ -27,7 +27,7 @@ fn global_form(r: Request) -> bool
 
 // To this station alone.
 fn to_station(setup: Setup, r: Request) -> bool
-    ensures { result ≡ toStation setup r }
+    ensures { result ≡ to_station setup r }
 {
     r.da % 128 == setup.address
 }
@@ -62,7 +62,7 @@ pub fn refilled(setup: Setup, mut control: Control, r: Request) -> Control
 
 // The status request is an SD1.
 fn status_by(kind: Kind) -> Service
-    ensures { result ≡ statusBy kind }
+    ensures { result ≡ status_by kind }
 {
     match kind {
         Kind::Sd1 => Service::Status,
@@ -114,7 +114,7 @@ fn point_of(r: Request) -> Service
 
 // Functions 12 and 13: Data_Exchange without extension, else SSAP is 62 and the point decides.
 fn request_of(r: Request) -> Service
-    ensures { result ≡ requestOf r }
+    ensures { result ≡ request_of r }
 {
     let da = r.da;
     let ssap = r.ssap;
@@ -129,7 +129,7 @@ fn request_of(r: Request) -> Service
 
 // By the function of a telegram that acts; nothing else is answered.
 pub fn function_service(r: Request) -> Service
-    ensures { result ≡ functionService r }
+    ensures { result ≡ function_service r }
 {
     let function = r.fc % 16;
     if function == 9 {
@@ -153,7 +153,7 @@ pub fn function_service(r: Request) -> Service
 
 // What a telegram asks of the station.
 pub fn service_of(setup: Setup, r: Request) -> Service
-    ensures { result ≡ serviceOf setup r }
+    ensures { result ≡ service_of setup r }
 {
     if acts(setup, r) {
         return function_service(r);

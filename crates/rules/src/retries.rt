@@ -1,6 +1,6 @@
 // Retries: which telegrams are requests, which of them repeat the request before, and what a repeat does.
 ghost use Rattle.std.specs.Prelude.{◌≡◌};
-ghost use Rattle.rules.specs.Retries.{asks, same, repeats, chainBy, drew, chained, repeated};
+ghost use Rattle.rules.specs.Retries.{asks, same, repeats, chain_by, drew, chained, repeated};
 
 use crate::outcome::Outcome;
 use crate::phases::drawing;
@@ -43,7 +43,7 @@ pub fn repeats(chain: Chain, r: Request) -> bool
 
 // What a later request is compared with after one that is no repeat: itself, or nothing where bit 4 is clear.
 pub fn chain_by(r: Request, drawn: Drawn) -> Chain
-    ensures { result ≡ chainBy r drawn }
+    ensures { result ≡ chain_by r drawn }
 {
     if r.fc / 16 % 2 == 1 {
         return Chain::new(master_of(r), r.fc / 32 % 2 == 1, drawn);

@@ -1,8 +1,8 @@
 // The services: what comes of each, on the control part. opened: a set of that kind is open.
 ghost use Rattle.std.specs.Prelude.{◌≤◌, ◌≡◌};
-ghost use Rattle.rules.specs.Phases.{enteringWaitPrm};
-ghost use Rattle.rules.specs.Requests.{serviceOf};
-ghost use Rattle.rules.specs.Services.{otherOwns, otherIdent, prmFault, showing, parametrized, goodPrm, setPrm, cfgFault, goodCfg, chkCfg, exchanges, goodExchange, dataExchange, slaveDiag, readInputs, readOutputs, controls, storing, obeyed, globalControl, serve, outcomeBy};
+ghost use Rattle.rules.specs.Phases.{entering_wait_prm};
+ghost use Rattle.rules.specs.Requests.{service_of};
+ghost use Rattle.rules.specs.Services.{other_owns, other_ident, prm_fault, showing, parametrized, good_prm, set_prm, cfg_fault, good_cfg, chk_cfg, exchanges, good_exchange, data_exchange, slave_diag, read_inputs, read_outputs, controls, storing, obeyed, global_control, serve, outcome_by};
 
 use crate::modes::{
     allowed, announced, commanded, commanded_inputs, commanded_outputs, exchange_inputs,
@@ -28,21 +28,21 @@ fn wide(x: u8) -> u16
 
 // Set_Prm: another master owns.
 fn other_owns(control: Control, master: u8) -> bool
-    ensures { result ≡ otherOwns control master }
+    ensures { result ≡ other_owns control master }
 {
     (control.owner != Control::NO_OWNER) & (control.owner != master)
 }
 
 // Set_Prm: octets 4 and 5 are not the ident, high first.
 fn other_ident(setup: Setup, p: Prm) -> bool
-    ensures { result ≡ otherIdent setup p }
+    ensures { result ≡ other_ident setup p }
 {
     256 * wide(p.ident_high) + wide(p.ident_low) != setup.ident
 }
 
 // Set_Prm, fault: E5, Prm_Fault, WAIT_PRM.
 fn prm_fault(mut control: Control) -> Outcome
-    ensures { result ≡ prmFault control }
+    ensures { result ≡ prm_fault control }
 {
     control.flags.prm_fault = true;
     entering_wait_prm(control, Drawn::Acknowledge)
@@ -95,7 +95,7 @@ fn parametrized(control: Control, opened: bool, r: Request, p: Prm) -> Control
 
 // Good Set_Prm: E5, configuration sets dropped, data shown.
 fn good_prm(control: Control, opened: bool, r: Request, p: Prm) -> Outcome
-    ensures { result ≡ goodPrm control opened r p }
+    ensures { result ≡ good_prm control opened r p }
 {
     let outputs = zeros_if_left(control);
     let changed = parametrized(control, opened, r, p);
@@ -111,7 +111,7 @@ fn good_prm(control: Control, opened: bool, r: Request, p: Prm) -> Outcome
 
 // Set_Prm, DSAP 61, its tests in order.
 pub fn set_prm(setup: Setup, control: Control, opened: bool, r: Request, p: Prm) -> Outcome
-    ensures { result ≡ setPrm setup control opened r p }
+    ensures { result ≡ set_prm setup control opened r p }
 {
     let master = master_of(r);
     let other = other_owns(control, master);
@@ -137,7 +137,7 @@ pub fn set_prm(setup: Setup, control: Control, opened: bool, r: Request, p: Prm)
 
 // Cfg_Fault, WAIT_PRM.
 fn cfg_fault(mut control: Control, drawn: Drawn) -> Outcome
-    ensures { result ≡ enteringWaitPrm (cfgFault control) drawn }
+    ensures { result ≡ entering_wait_prm (cfg_fault control) drawn }
 {
     control.flags.cfg_fault = true;
     entering_wait_prm(control, drawn)
@@ -145,7 +145,7 @@ fn cfg_fault(mut control: Control, drawn: Drawn) -> Outcome
 
 // Good Chk_Cfg: E5, WAIT_CFG, data shown.
 fn good_cfg(control: Control, opened: bool) -> Outcome
-    ensures { result ≡ goodCfg control opened }
+    ensures { result ≡ good_cfg control opened }
 {
     let outputs = zeros_if_left(control);
     let mut entered = wait_cfg(control);
@@ -163,7 +163,7 @@ fn good_cfg(control: Control, opened: bool) -> Outcome
 
 // Chk_Cfg, DSAP 62.
 pub fn chk_cfg(setup: Setup, control: Control, opened: bool, r: Request) -> Outcome
-    ensures { result ≡ chkCfg setup control opened r }
+    ensures { result ≡ chk_cfg setup control opened r }
 {
     let master = master_of(r);
     let owns = control.owner == master;
@@ -189,7 +189,7 @@ pub fn exchanges(control: Control, r: Request) -> bool
 
 // The data is published, event 13, or held back in sync; new inputs come unless frozen; the reply to it is drawn.
 fn good_exchange(mut control: Control) -> Outcome
-    ensures { result ≡ goodExchange control }
+    ensures { result ≡ good_exchange control }
 {
     let outputs = exchange_outputs(control.modes);
     let inputs = exchange_inputs(control.modes);
@@ -207,7 +207,7 @@ fn good_exchange(mut control: Control) -> Outcome
 
 // Data_Exchange, functions 12 and 13 without extension.
 pub fn data_exchange(setup: Setup, control: Control, r: Request) -> Outcome
-    ensures { result ≡ dataExchange setup control r }
+    ensures { result ≡ data_exchange setup control r }
 {
     let exchanging = exchanges(control, r);
     let fits = r.count == setup.output_len;
@@ -222,7 +222,7 @@ pub fn data_exchange(setup: Setup, control: Control, r: Request) -> Outcome
 
 // Slave_Diag, DSAP 60: the owner's clears Diag_Flag unless Stat_Diag.
 pub fn slave_diag(mut control: Control, r: Request) -> Outcome
-    ensures { result ≡ slaveDiag control r }
+    ensures { result ≡ slave_diag control r }
 {
     let master = master_of(r);
     let ends = (control.owner == master) & !control.flags.stat_diag;
@@ -235,7 +235,7 @@ pub fn slave_diag(mut control: Control, r: Request) -> Outcome
 
 // Read_Inputs, DSAP 56: RS outside DATA_EXCH.
 pub fn read_inputs(control: Control) -> Outcome
-    ensures { result ≡ readInputs control }
+    ensures { result ≡ read_inputs control }
 {
     let phase = control.phase;
     if in_exchange(phase) {
@@ -246,7 +246,7 @@ pub fn read_inputs(control: Control) -> Outcome
 
 // Read_Outputs, DSAP 57: RS outside DATA_EXCH.
 pub fn read_outputs(control: Control) -> Outcome
-    ensures { result ≡ readOutputs control }
+    ensures { result ≡ read_outputs control }
 {
     let phase = control.phase;
     if in_exchange(phase) {
@@ -305,7 +305,7 @@ pub fn global_control(
     first: u8,
     second: u8,
 ) -> Outcome
-    ensures { result ≡ globalControl control withheld r first second }
+    ensures { result ≡ global_control control withheld r first second }
 {
     if controls(control, r, second) {
         return obeyed(control, withheld, first);
@@ -355,8 +355,8 @@ pub fn outcome_by(
     r: Request,
     octets: Data,
 ) -> Outcome
-    requires { service ≡ serviceOf setup r }
-    ensures { result ≡ outcomeBy setup control occupied r octets }
+    requires { service ≡ service_of setup r }
+    ensures { result ≡ outcome_by setup control occupied r octets }
 {
     if acts(setup, r) & repeats(control.chain, r) {
         return repeated(setup, control, r);

@@ -1,6 +1,6 @@
 // Judging the sets, on the control part.
 ghost use Rattle.std.specs.Prelude.{◌≡◌};
-ghost use Rattle.rules.specs.User.{changingSets, judgedParameters, judgedConfiguration};
+ghost use Rattle.rules.specs.User.{changing_sets, judged_parameters, judged_configuration};
 
 use crate::outcome::{InputsDeed, Outcome, OutputsDeed, SetDeed};
 use crate::phases::{data_exch, entering_wait_prm};
@@ -10,7 +10,7 @@ use state::state::Drawn;
 
 // Only these sets change.
 fn changing_sets(control: Control, parameters: SetDeed, configuration: SetDeed) -> Outcome
-    ensures { result ≡ changingSets control parameters configuration }
+    ensures { result ≡ changing_sets control parameters configuration }
 {
     Outcome {
         control,
@@ -25,7 +25,7 @@ fn changing_sets(control: Control, parameters: SetDeed, configuration: SetDeed) 
 // Judge parameters: a newer set that waits is shown instead; else the set is closed, and bad: Prm_Fault, WAIT_PRM, good:
 // parameter OK.
 pub fn judged_parameters(mut control: Control, waits: bool, good: bool) -> Outcome
-    ensures { result ≡ judgedParameters control waits good }
+    ensures { result ≡ judged_parameters control waits good }
 {
     if waits {
         return changing_sets(control, SetDeed::Advance, SetDeed::Keep);
@@ -42,7 +42,7 @@ pub fn judged_parameters(mut control: Control, waits: bool, good: bool) -> Outco
 
 // Judge configuration: likewise; bad: Cfg_Fault, WAIT_PRM, good: DATA_EXCH.
 pub fn judged_configuration(mut control: Control, waits: bool, good: bool) -> Outcome
-    ensures { result ≡ judgedConfiguration control waits good }
+    ensures { result ≡ judged_configuration control waits good }
 {
     if waits {
         return changing_sets(control, SetDeed::Keep, SetDeed::Advance);

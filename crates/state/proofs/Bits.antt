@@ -35,10 +35,10 @@ bit_in true n h = ap (λ (k : ℕ). eqb k 1) h
 bit_in false n h = ap (λ (k : ℕ). eqb k 1) h
 
 -- and its number from it
-pub mark-coded : (n : ℕ) → n ≤ 1 → bit_of (eqb n 1) ≡ n
-mark-coded zero h = refl
-mark-coded (suc zero) h = refl
-mark-coded (suc (suc n)) h = absurd (omega arith)
+pub mark_coded : (n : ℕ) → n ≤ 1 → bit_of (eqb n 1) ≡ n
+mark_coded zero h = refl
+mark_coded (suc zero) h = refl
+mark_coded (suc (suc n)) h = absurd (omega arith)
 
 -- each mark comes back from the sum
 pub marked : (x : ℕ) (b₀ b₁ b₂ b₃ b₄ b₅ b₆ b₇ : Bool) → x ≡ sum b₀ b₁ b₂ b₃ b₄ b₅ b₆ b₇ → Marked x b₀ b₁ b₂ b₃ b₄ b₅ b₆ b₇
@@ -63,8 +63,8 @@ marked x b₀ b₁ b₂ b₃ b₄ b₅ b₆ b₇ e =
     }
 
 -- bit 0 as a number
-pub odd-bit : (n : ℕ) → bit_of (odd n) ≡ n % 2
-odd-bit n = go (odd n) refl
+pub odd_bit : (n : ℕ) → bit_of (odd n) ≡ n % 2
+odd_bit n = go (odd n) refl
   where
     go : (t : Bool) → odd n ≡ t → bit_of t ≡ n % 2
     go true e = let h = eqb-true (n % 2) 1 e in omega arith
@@ -72,7 +72,7 @@ odd-bit n = go (odd n) refl
 
 -- the lowest mark, and what is left
 halved : (n q : ℕ) → n / 2 ≡ q → n ≡ bit_of (odd n) + 2 * q
-halved n q e = let h = odd-bit n in omega arith
+halved n q e = let h = odd_bit n in omega arith
 
 -- eight halvings
 total : (x q₁ q₂ q₃ q₄ q₅ q₆ q₇ r₀ r₁ r₂ r₃ r₄ r₅ r₆ r₇ : ℕ)
@@ -88,8 +88,8 @@ total : (x q₁ q₂ q₃ q₄ q₅ q₆ q₇ r₀ r₁ r₂ r₃ r₄ r₅ r₆
 total x q₁ q₂ q₃ q₄ q₅ q₆ q₇ r₀ r₁ r₂ r₃ r₄ r₅ r₆ r₇ e₀ e₁ e₂ e₃ e₄ e₅ e₆ e₇ = omega arith
 
 -- an octet is the sum of its marks
-pub sum-marks : (x : ℕ) → x < 256 → sum (odd x) (bit_at x 2) (bit_at x 4) (bit_at x 8) (bit_at x 16) (bit_at x 32) (bit_at x 64) (bit_at x 128) ≡ x
-sum-marks x h =
+pub sum_marks : (x : ℕ) → x < 256 → sum (odd x) (bit_at x 2) (bit_at x 4) (bit_at x 8) (bit_at x 16) (bit_at x 32) (bit_at x 64) (bit_at x 128) ≡ x
+sum_marks x h =
     total x (x / 2) (x / 4) (x / 8) (x / 16) (x / 32) (x / 64) (x / 128)
     _ _ _ _ _ _ _ _
     (halved x (x / 2) refl)

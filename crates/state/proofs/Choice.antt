@@ -13,12 +13,12 @@ module _ {A B : Type 0} (P : A → B → Type 0) where
   both false false x y v w e f g = g refl
 
 -- what holds of both holds of the one that is chosen
-pub by-test : {A : Type 0} (P : A → Type 0) (t : Bool) (x y : A) → (t ≡ true → P x) → (t ≡ false → P y) → P (cond t x y)
-by-test P true x y f g = f refl
-by-test P false x y f g = g refl
+pub by_test : {A : Type 0} (P : A → Type 0) (t : Bool) (x y : A) → (t ≡ true → P x) → (t ≡ false → P y) → P (cond t x y)
+by_test P true x y f g = f refl
+by_test P false x y f g = g refl
 
 pub either : {A : Type 0} (P : A → Type 0) (t : Bool) {x y : A} → P x → P y → P (cond t x y)
-either P t {x} {y} p q = by-test P t x y (λ _. p) (λ _. q)
+either P t {x} {y} p q = by_test P t x y (λ _. p) (λ _. q)
 
 -- two tests in one
 pub and_right : (p q : Bool) → p && q ≡ true → q ≡ true
@@ -38,21 +38,21 @@ or_right true q e = no_true (sym e)
 or_right false q e = e
 
 -- one of two tests holds where the second does if the first fails
-pub or-holds : (p q : Bool) → (p ≡ false → q ≡ true) → p || q ≡ true
-or-holds true q f = refl
-or-holds false q f = f refl
+pub or_holds : (p q : Bool) → (p ≡ false → q ≡ true) → p || q ≡ true
+or_holds true q f = refl
+or_holds false q f = f refl
 
 -- or where one of them does
-pub or-first : (p q : Bool) → p ≡ true → p || q ≡ true
-or-first p q e = or-holds p q (λ f. no_true (sym f ∙ e))
+pub or_first : (p q : Bool) → p ≡ true → p || q ≡ true
+or_first p q e = or_holds p q (λ f. no_true (sym f ∙ e))
 
-pub or-second : (p q : Bool) → q ≡ true → p || q ≡ true
-or-second p q e = or-holds p q (λ _. e)
+pub or_second : (p q : Bool) → q ≡ true → p || q ≡ true
+or_second p q e = or_holds p q (λ _. e)
 
 -- and then one of them does
-pub or-either : (p q : Bool) → p || q ≡ true → (p ≡ true) ⊎ (q ≡ true)
-or-either true q e = inl refl
-or-either false q e = inr e
+pub or_either : (p q : Bool) → p || q ≡ true → (p ≡ true) ⊎ (q ≡ true)
+or_either true q e = inl refl
+or_either false q e = inr e
 
 -- where the first of two tests holds and not both, the second fails
 pub and_second : (p q : Bool) → p && q ≡ false → p ≡ true → q ≡ false

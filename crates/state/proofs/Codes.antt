@@ -7,7 +7,7 @@ use Rattle.state.specs.declared.answer.Answer.{Answer}
 use Rattle.state.specs.declared.answer.Answer.TheVariants.{Value, Refused}
 use Rattle.state.specs.declared.answer.Refusal.{Refusal}
 use Rattle.state.specs.declared.answer.Refusal.TheVariants.{MemoryLength, Address, Length, Room, Damaged, Judging, Range, Absent, Delayed, Cell}
-use Rattle.state.specs.Answer.{answerNumber}
+use Rattle.state.specs.Answer.{answer_number}
 
 -- the refusals in the order of their numbers
 abbrev refusals : List Refusal
@@ -18,18 +18,18 @@ abbrev answer_of : ℤ → Answer
 answer_of (pos n) = Value n
 answer_of (negsuc n) = Refused (get_or refusals n Cell)
 
-code-back : (a : Answer) → answer_of (answerNumber a) ≡ a
-code-back (Value n) = refl
-code-back (Refused MemoryLength) = refl
-code-back (Refused Address) = refl
-code-back (Refused Length) = refl
-code-back (Refused Room) = refl
-code-back (Refused Damaged) = refl
-code-back (Refused Judging) = refl
-code-back (Refused Range) = refl
-code-back (Refused Absent) = refl
-code-back (Refused Delayed) = refl
-code-back (Refused Cell) = refl
+code_back : (a : Answer) → answer_of (answer_number a) ≡ a
+code_back (Value n) = refl
+code_back (Refused MemoryLength) = refl
+code_back (Refused Address) = refl
+code_back (Refused Length) = refl
+code_back (Refused Room) = refl
+code_back (Refused Damaged) = refl
+code_back (Refused Judging) = refl
+code_back (Refused Range) = refl
+code_back (Refused Absent) = refl
+code_back (Refused Delayed) = refl
+code_back (Refused Cell) = refl
 
-pub codes_equal : (a b : Answer) → answerNumber a ≡ answerNumber b → a ≡ b
-codes_equal a b e = sym (code-back a) ∙ ap answer_of e ∙ code-back b
+pub codes_equal : (a b : Answer) → answer_number a ≡ answer_number b → a ≡ b
+codes_equal a b e = sym (code_back a) ∙ ap answer_of e ∙ code_back b

@@ -10,18 +10,18 @@ use lib.Dec.{ltb}
 use borrow.Author.Tests.{ltb-true, ltb-false}
 
 -- as many numbers as asked for, from k on
-abbrev pub countUp : ℕ → ℕ → List ℕ
-countUp k zero = []
-countUp k (suc n) = k ∷ countUp (suc k) n
+abbrev pub count_up : ℕ → ℕ → List ℕ
+count_up k zero = []
+count_up k (suc n) = k ∷ count_up (suc k) n
 
 -- a number for each case, by where it stands; last comes behind the others and answers every number past them
 pub record Counts {A : Type 0} (cases : List A) (last : A) (number : A → ℕ) : Type 0 where
   pub back : (a : A) → get_or cases (number a) last ≡ a
-  pub in_order : map number cases ≡ countUp 0 (length cases)
+  pub in_order : map number cases ≡ count_up 0 (length cases)
   pub behind : number last ≡ length cases
 
 -- what stands at n
-count_at : (k m n d : ℕ) → n < m → get_or (countUp k m) n d ≡ k + n
+count_at : (k m n d : ℕ) → n < m → get_or (count_up k m) n d ≡ k + n
 count_at k zero n d h = absurd (not-suc-le-zero h)
 count_at k (suc m) zero d h = omega arith
 count_at k (suc m) (suc n) d h = let e = count_at (suc k) m n d (le_of_suc-le-suc h) in omega (arith, e)
@@ -42,8 +42,8 @@ module _ {A : Type 0} {cases : List A} {last : A} {number : A → ℕ} (c : Coun
           ap number (get_or-eq_default cases last b) ∙ c.behind ∙ omega arith
 
   -- every case has one
-  pub count-le : (a : A) → number a ≤ length cases
-  count-le a = go (ltb (length cases) (number a)) refl
+  pub count_le : (a : A) → number a ≤ length cases
+  count_le a = go (ltb (length cases) (number a)) refl
     where
       go : (t : Bool) → ltb (length cases) (number a) ≡ t → number a ≤ length cases
       go true e =

@@ -6,22 +6,22 @@ use Rattle.state.specs.declared.answer.Refusal.{Refusal}
 use Rattle.state.specs.declared.answer.Refusal.TheVariants.{MemoryLength, Address, Length, Room, Damaged, Judging, Range, Absent, Delayed, Cell}
 
 -- "Numbers by who causes them"
-abbrev pub refusalNumber : Refusal → ℕ
-refusalNumber MemoryLength = 1
-refusalNumber Address = 2
-refusalNumber Length = 3
-refusalNumber Room = 4
-refusalNumber Damaged = 5
-refusalNumber Judging = 6
-refusalNumber Range = 7
-refusalNumber Absent = 8
-refusalNumber Delayed = 9
-refusalNumber Cell = 10
+abbrev pub refusal_number : Refusal → ℕ
+refusal_number MemoryLength = 1
+refusal_number Address = 2
+refusal_number Length = 3
+refusal_number Room = 4
+refusal_number Damaged = 5
+refusal_number Judging = 6
+refusal_number Range = 7
+refusal_number Absent = 8
+refusal_number Delayed = 9
+refusal_number Cell = 10
 
 -- "a refusal reaches it negated"
-abbrev pub answerNumber : Answer → ℤ
-answerNumber (Value n) = pos n
-answerNumber (Refused why) = neg_ℤ (pos (refusalNumber why))
+abbrev pub answer_number : Answer → ℤ
+answer_number (Value n) = pos n
+answer_number (Refused why) = neg_ℤ (pos (refusal_number why))
 
 -- what a call answers, and the whole memory after it
 pub record Called : Type 0 where

@@ -1,12 +1,12 @@
 -- The image of a state but for its channels: 68 octets.
 use Rattle.std.specs.Prelude.{ℕ, ◌+◌, ◌*◌, ◌/◌, ◌%◌, Bool, true, false, List, [], ◌∷◌}
 use Rattle.buffers.specs.declared.triple.Triple.{Triple}
-use Rattle.buffers.specs.Number.{number_of, numberOf4}
+use Rattle.buffers.specs.Number.{number_of, number_of4}
 use Rattle.state.specs.declared.control.Flags.{Flags}
 use Rattle.state.specs.declared.control.Modes.{Modes}
 use Rattle.state.specs.declared.state.Outputs.{Outputs}
 use Rattle.state.specs.declared.state.State.{State}
-use Rattle.state.specs.Number.{readingNumber, kindNumber, stageNumber, phaseNumber, drawnNumber}
+use Rattle.state.specs.Number.{reading_number, kind_number, stage_number, phase_number, drawn_number}
 
 -- a mark as a number
 abbrev pub bit_of : Bool → ℕ
@@ -22,8 +22,8 @@ abbrev pub high_word : ℕ → ℕ
 high_word x = x / 65536
 
 -- its octets, low first
-abbrev pub doubleOctets : ℕ → List ℕ
-doubleOctets x = low_word x % 256 ∷ low_word x / 256 ∷ high_word x % 256 ∷ high_word x / 256 ∷ []
+abbrev pub double_octets : ℕ → List ℕ
+double_octets x = low_word x % 256 ∷ low_word x / 256 ∷ high_word x % 256 ∷ high_word x / 256 ∷ []
 
 -- the flags and the note of a clear in one octet, bit 0 first
 abbrev pub flags_of : Flags → Bool → ℕ
@@ -38,16 +38,16 @@ flags_of f noted =
     + 128 * bit_of f.parameters_good
 
 -- the modes in one octet, bit 0 first
-abbrev pub modesOf : Modes → ℕ
-modesOf m = bit_of m.sync + 2 * bit_of m.freeze + 4 * bit_of m.sync_allowed + 8 * bit_of m.freeze_allowed
+abbrev pub modes_of : Modes → ℕ
+modes_of m = bit_of m.sync + 2 * bit_of m.freeze + 4 * bit_of m.sync_allowed + 8 * bit_of m.freeze_allowed
 
 -- the marks of the output set in one octet: whether next is new, whether it is zeros by the station, whether something is held back
-abbrev pub marksOf : Outputs → ℕ
-marksOf o = bit_of o.set.fresh + 2 * bit_of o.zeros + 4 * bit_of o.set.withheld
+abbrev pub marks_of : Outputs → ℕ
+marks_of o = bit_of o.set.fresh + 2 * bit_of o.zeros + 4 * bit_of o.set.withheld
 
 -- the input set in one octet: its roles, whether next is new
-abbrev pub inputsCode : Triple → ℕ
-inputsCode t = 2 * number_of t.place + bit_of t.fresh
+abbrev pub inputs_code : Triple → ℕ
+inputs_code t = 2 * number_of t.place + bit_of t.fresh
 
 -- octet by octet from 0 on; among them 62 and 63 are not used
 unfoldable pub image : State → List ℕ
@@ -68,22 +68,22 @@ image s =
     ∷ s.reply.sender.sum
     ∷ s.reply.sender.count
     ∷ s.reply.sender.at
-    ∷ kindNumber s.reply.sender.kind
-    ∷ stageNumber s.reply.sender.stage
-    ∷ drawnNumber s.reply.drawn
+    ∷ kind_number s.reply.sender.kind
+    ∷ stage_number s.reply.sender.stage
+    ∷ drawn_number s.reply.drawn
     ∷ s.reply.place
     ∷ s.setup.address
-    ∷ phaseNumber s.control.phase
-    ∷ numberOf4 s.outputs.set.place
-    ∷ inputsCode s.inputs
+    ∷ phase_number s.control.phase
+    ∷ number_of4 s.outputs.set.place
+    ∷ inputs_code s.inputs
     ∷ number_of s.parameters.set.place
     ∷ number_of s.configuration.set.place
     ∷ s.control.diagnosis.delayed_flags
-    ∷ modesOf s.control.modes
+    ∷ modes_of s.control.modes
     ∷ bit_of s.swapped
-    ∷ marksOf s.outputs
-    ∷ kindNumber s.incoming.reader.kind
-    ∷ readingNumber s.incoming.reader.phase
+    ∷ marks_of s.outputs
+    ∷ kind_number s.incoming.reader.kind
+    ∷ reading_number s.incoming.reader.phase
     ∷ s.incoming.reader.count
     ∷ s.incoming.reader.at
     ∷ s.incoming.reader.da

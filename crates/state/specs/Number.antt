@@ -12,24 +12,24 @@ use Rattle.state.specs.declared.state.Drawn.{Drawn}
 use Rattle.state.specs.declared.state.Drawn.TheVariants as drawn
 
 -- the number of a reader's phase
-abbrev pub readingNumber : Reading → ℕ
-readingNumber reading.Start = 0
-readingNumber reading.Le = 1
-readingNumber reading.LeAgain = 2
-readingNumber reading.SdAgain = 3
-readingNumber reading.Da = 4
-readingNumber reading.Sa = 5
-readingNumber reading.Fc = 6
-readingNumber reading.Dsap = 7
-readingNumber reading.Ssap = 8
-readingNumber reading.Body = 9
-readingNumber reading.End = 10
-readingNumber reading.Done = 11
-readingNumber reading.Off = 12
+abbrev pub reading_number : Reading → ℕ
+reading_number reading.Start = 0
+reading_number reading.Le = 1
+reading_number reading.LeAgain = 2
+reading_number reading.SdAgain = 3
+reading_number reading.Da = 4
+reading_number reading.Sa = 5
+reading_number reading.Fc = 6
+reading_number reading.Dsap = 7
+reading_number reading.Ssap = 8
+reading_number reading.Body = 9
+reading_number reading.End = 10
+reading_number reading.Done = 11
+reading_number reading.Off = 12
 
 -- the cases before the last
-abbrev pub readingCases : List Reading
-readingCases =
+abbrev pub reading_cases : List Reading
+reading_cases =
     reading.Start
     ∷ reading.Le
     ∷ reading.LeAgain
@@ -45,41 +45,41 @@ readingCases =
     ∷ []
 
 -- the case of a number
-unfoldable pub readingNumbered : ℕ → Reading
-readingNumbered n = get_or readingCases n reading.Off
+unfoldable pub reading_numbered : ℕ → Reading
+reading_numbered n = get_or reading_cases n reading.Off
 
 -- the number of a telegram's kind
-abbrev pub kindNumber : Kind → ℕ
-kindNumber kind.Sd1 = 0
-kindNumber kind.Sd2 = 1
-kindNumber kind.Sd3 = 2
-kindNumber kind.Sd4 = 3
+abbrev pub kind_number : Kind → ℕ
+kind_number kind.Sd1 = 0
+kind_number kind.Sd2 = 1
+kind_number kind.Sd3 = 2
+kind_number kind.Sd4 = 3
 
 -- the cases before the last
-abbrev pub kindCases : List Kind
-kindCases = kind.Sd1 ∷ kind.Sd2 ∷ kind.Sd3 ∷ []
+abbrev pub kind_cases : List Kind
+kind_cases = kind.Sd1 ∷ kind.Sd2 ∷ kind.Sd3 ∷ []
 
 -- the case of a number
-unfoldable pub kindNumbered : ℕ → Kind
-kindNumbered n = get_or kindCases n kind.Sd4
+unfoldable pub kind_numbered : ℕ → Kind
+kind_numbered n = get_or kind_cases n kind.Sd4
 
 -- the number of a sender's stage
-abbrev pub stageNumber : Stage → ℕ
-stageNumber stage.Start = 0
-stageNumber stage.Le = 1
-stageNumber stage.LeAgain = 2
-stageNumber stage.SdAgain = 3
-stageNumber stage.Da = 4
-stageNumber stage.Sa = 5
-stageNumber stage.Fc = 6
-stageNumber stage.Body = 7
-stageNumber stage.End = 8
-stageNumber stage.Single = 9
-stageNumber stage.Empty = 10
+abbrev pub stage_number : Stage → ℕ
+stage_number stage.Start = 0
+stage_number stage.Le = 1
+stage_number stage.LeAgain = 2
+stage_number stage.SdAgain = 3
+stage_number stage.Da = 4
+stage_number stage.Sa = 5
+stage_number stage.Fc = 6
+stage_number stage.Body = 7
+stage_number stage.End = 8
+stage_number stage.Single = 9
+stage_number stage.Empty = 10
 
 -- the cases before the last
-abbrev pub stageCases : List Stage
-stageCases =
+abbrev pub stage_cases : List Stage
+stage_cases =
     stage.Start
     ∷ stage.Le
     ∷ stage.LeAgain
@@ -93,38 +93,38 @@ stageCases =
     ∷ []
 
 -- the case of a number
-unfoldable pub stageNumbered : ℕ → Stage
-stageNumbered n = get_or stageCases n stage.Empty
+unfoldable pub stage_numbered : ℕ → Stage
+stage_numbered n = get_or stage_cases n stage.Empty
 
 -- the number of the station's phase
-abbrev pub phaseNumber : Phase → ℕ
-phaseNumber phase.WaitPrm = 0
-phaseNumber phase.WaitCfg = 1
-phaseNumber phase.DataExch = 2
+abbrev pub phase_number : Phase → ℕ
+phase_number phase.WaitPrm = 0
+phase_number phase.WaitCfg = 1
+phase_number phase.DataExch = 2
 
 -- the cases before the last
-abbrev pub phaseCases : List Phase
-phaseCases = phase.WaitPrm ∷ phase.WaitCfg ∷ []
+abbrev pub phase_cases : List Phase
+phase_cases = phase.WaitPrm ∷ phase.WaitCfg ∷ []
 
 -- the case of a number
-unfoldable pub phaseNumbered : ℕ → Phase
-phaseNumbered n = get_or phaseCases n phase.DataExch
+unfoldable pub phase_numbered : ℕ → Phase
+phase_numbered n = get_or phase_cases n phase.DataExch
 
 -- the number of what a telegram draws
-abbrev pub drawnNumber : Drawn → ℕ
-drawnNumber drawn.Nothing = 0
-drawnNumber drawn.Acknowledge = 1
-drawnNumber drawn.Status = 2
-drawnNumber drawn.Rejected = 3
-drawnNumber drawn.Exchange = 4
-drawnNumber drawn.Inputs = 5
-drawnNumber drawn.Outputs = 6
-drawnNumber drawn.Configuration = 7
-drawnNumber drawn.Diagnosis = 8
+abbrev pub drawn_number : Drawn → ℕ
+drawn_number drawn.Nothing = 0
+drawn_number drawn.Acknowledge = 1
+drawn_number drawn.Status = 2
+drawn_number drawn.Rejected = 3
+drawn_number drawn.Exchange = 4
+drawn_number drawn.Inputs = 5
+drawn_number drawn.Outputs = 6
+drawn_number drawn.Configuration = 7
+drawn_number drawn.Diagnosis = 8
 
 -- the cases before the last
-abbrev pub drawnCases : List Drawn
-drawnCases =
+abbrev pub drawn_cases : List Drawn
+drawn_cases =
     drawn.Nothing
     ∷ drawn.Acknowledge
     ∷ drawn.Status
@@ -136,5 +136,5 @@ drawnCases =
     ∷ []
 
 -- the case of a number
-unfoldable pub drawnNumbered : ℕ → Drawn
-drawnNumbered n = get_or drawnCases n drawn.Diagnosis
+unfoldable pub drawn_numbered : ℕ → Drawn
+drawn_numbered n = get_or drawn_cases n drawn.Diagnosis

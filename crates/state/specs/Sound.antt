@@ -20,19 +20,19 @@ pub record Ranged (s : Setup) : Type 0 where
   -- the station address is 0 to 126
   pub address : s.address ≤ 126
   -- outputs are at most 244 octets
-  pub output-len : s.output_len ≤ 244
+  pub output_len : s.output_len ≤ 244
   -- inputs are at most 244 octets
-  pub input-len : s.input_len ≤ 244
+  pub input_len : s.input_len ≤ 244
   -- and not both are 0
-  pub not-both-none : 1 ≤ s.output_len + s.input_len
+  pub not_both_none : 1 ≤ s.output_len + s.input_len
   -- parameters are 7 to 244 octets
-  pub parameter-len : Within 7 s.parameter_len 244
+  pub parameter_len : Within 7 s.parameter_len 244
   -- configuration is 1 to 244 octets
-  pub configuration-len : Within 1 s.configuration_len 244
+  pub configuration_len : Within 1 s.configuration_len 244
   -- diagnosis is 6 to 244 octets
-  pub diagnosis-len : Within 6 s.diagnosis_len 244
+  pub diagnosis_len : Within 6 s.diagnosis_len 244
   -- Get_Cfg sends 1 to 244 octets
-  pub get-cfg-len : Within 1 s.get_cfg_len 244
+  pub get_cfg_len : Within 1 s.get_cfg_len 244
 
 -- the counts of a set of parameters or of configuration that is shown and of one that waits: lo to hi octets, 0 for none
 pub record SetsCounted (lo hi : ℕ) (x : Sets) : Type 0 where
@@ -62,14 +62,14 @@ pub record Sound (s : State) : Type 0 where
   -- and of the configuration set
   pub configuration : Permutation 3 s.configuration.set.place
   -- parameters have 7 octets to the set length
-  pub parameter-counts : SetsCounted 7 s.setup.parameter_len s.parameters
+  pub parameter_counts : SetsCounted 7 s.setup.parameter_len s.parameters
   -- and a configuration 1 to the set length
-  pub configuration-counts : SetsCounted 1 s.setup.configuration_len s.configuration
+  pub configuration_counts : SetsCounted 1 s.setup.configuration_len s.configuration
   -- so many octets has the diagnosis
-  pub diagnosis-counts : DiagnosisCounted s.setup.diagnosis_len s.control.diagnosis
+  pub diagnosis_counts : DiagnosisCounted s.setup.diagnosis_len s.control.diagnosis
   -- the chain's master has an address or there is no chain, and its request drew one of nine things
-  pub chain-master : s.control.chain.master ≤ 127
-  pub chain-code : s.control.chain.code ≤ 17
+  pub chain_master : s.control.chain.master ≤ 127
+  pub chain_code : s.control.chain.code ≤ 17
   -- the telegram that is read counts its data octets and those that were read
   pub reading : ReadCounts s.incoming.reader
   -- the reply counts its data octets and those that were sent

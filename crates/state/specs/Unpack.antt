@@ -18,15 +18,15 @@ use Rattle.state.specs.declared.state.Incoming.{Incoming}
 use Rattle.state.specs.declared.state.Header.{Header}
 use Rattle.state.specs.declared.state.Reply.{Reply}
 use Rattle.state.specs.declared.state.State.{State}
-use Rattle.state.specs.Number.{readingNumbered, kindNumbered, stageNumbered, phaseNumbered, drawnNumbered}
+use Rattle.state.specs.Number.{reading_numbered, kind_numbered, stage_numbered, phase_numbered, drawn_numbered}
 
 -- the word whose low octet stands at i and whose high octet follows
 abbrev pub word_at : List ℕ → ℕ → ℕ
 word_at l i = get_or l i 0 + 256 * get_or l (i + 1) 0
 
 -- the double word whose low octet stands at i: a low word, and a high word behind it
-abbrev pub doubleAt : List ℕ → ℕ → ℕ
-doubleAt l i = word_at l i + 65536 * word_at l (i + 2)
+abbrev pub double_at : List ℕ → ℕ → ℕ
+double_at l i = word_at l i + 65536 * word_at l (i + 2)
 
 -- whether bit 0 is set
 abbrev pub odd : ℕ → Bool
@@ -37,8 +37,8 @@ abbrev pub bit_at : ℕ → ℕ → Bool
 bit_at x worth = odd (x / worth)
 
 -- octet 20 and the lengths from 48 on, the ident number handed in
-abbrev pub setupIn : List ℕ → ℕ → Setup
-setupIn l ident =
+abbrev pub setup_in : List ℕ → ℕ → Setup
+setup_in l ident =
     record {
       address = get_or l 20 0;
       ident = ident;
@@ -51,8 +51,8 @@ setupIn l ident =
     }
 
 -- the flags of an octet
-abbrev pub flagsIn : ℕ → Flags
-flagsIn x =
+abbrev pub flags_in : ℕ → Flags
+flags_in x =
     record {
       prm_fault = odd x;
       cfg_fault = bit_at x 2;
@@ -64,46 +64,46 @@ flagsIn x =
     }
 
 -- the modes of an octet
-abbrev pub modesIn : ℕ → Modes
-modesIn x = record { sync = odd x; freeze = bit_at x 2; sync_allowed = bit_at x 4; freeze_allowed = bit_at x 8 }
+abbrev pub modes_in : ℕ → Modes
+modes_in x = record { sync = odd x; freeze = bit_at x 2; sync_allowed = bit_at x 4; freeze_allowed = bit_at x 8 }
 
 -- octets 56, 57 and 26
-abbrev pub diagnosisIn : List ℕ → Diagnosis
-diagnosisIn l = record { count = get_or l 56 0; delayed_count = get_or l 57 0; delayed_flags = get_or l 26 0 }
+abbrev pub diagnosis_in : List ℕ → Diagnosis
+diagnosis_in l = record { count = get_or l 56 0; delayed_count = get_or l 57 0; delayed_flags = get_or l 26 0 }
 
 -- octets 0 to 5, 21, 27, 44 to 47, 54, 55 and 64 to 67; diagnosis
-abbrev pub controlIn : List ℕ → Control
-controlIn l =
+abbrev pub control_in : List ℕ → Control
+control_in l =
     record {
-      phase = phaseNumbered (get_or l 21 0);
+      phase = phase_numbered (get_or l 21 0);
       owner = get_or l 0 0;
       group = get_or l 1 0;
       stored = get_or l 2 0;
-      watchdog = record { reload = doubleAt l 64; remaining = doubleAt l 44 };
-      flags = flagsIn (get_or l 3 0);
+      watchdog = record { reload = double_at l 64; remaining = double_at l 44 };
+      flags = flags_in (get_or l 3 0);
       events = record { word = word_at l 4 };
       noted = bit_at (get_or l 3 0) 4;
-      diagnosis = diagnosisIn l;
-      modes = modesIn (get_or l 27 0);
+      diagnosis = diagnosis_in l;
+      modes = modes_in (get_or l 27 0);
       chain = record { code = get_or l 54 0; master = get_or l 55 0 };
     }
 
 -- the output set of its roles and its marks
-abbrev pub outputsIn : ℕ → ℕ → Outputs
-outputsIn roles marks = record { set = numbered4 roles (odd marks) (bit_at marks 4); zeros = bit_at marks 2 }
+abbrev pub outputs_in : ℕ → ℕ → Outputs
+outputs_in roles marks = record { set = numbered4 roles (odd marks) (bit_at marks 4); zeros = bit_at marks 2 }
 
 -- the input set of an octet
-abbrev pub inputsIn : ℕ → Triple
-inputsIn x = numbered (x / 2) (odd x)
+abbrev pub inputs_in : ℕ → Triple
+inputs_in x = numbered (x / 2) (odd x)
 
 -- received sets: their roles at octet k, the two counts from octet i on; one waits exactly if its count is not 0
-abbrev pub setsIn : List ℕ → ℕ → ℕ → Sets
-setsIn l k i =
+abbrev pub sets_in : List ℕ → ℕ → ℕ → Sets
+sets_in l k i =
     record { set = numbered (get_or l k 0) (not (eqb (get_or l (i + 1) 0) 0)); shown = get_or l i 0; waiting = get_or l (i + 1) 0 }
 
 -- octets 32 to 39, the phase and the kind handed in
-abbrev pub readerIn : List ℕ → Phase → Kind → Reader
-readerIn l phase kind =
+abbrev pub reader_in : List ℕ → Phase → Kind → Reader
+reader_in l phase kind =
     record {
       phase = phase;
       kind = kind;
@@ -118,17 +118,17 @@ readerIn l phase kind =
     }
 
 -- octets 30 to 41
-abbrev pub incomingIn : List ℕ → Incoming
-incomingIn l =
+abbrev pub incoming_in : List ℕ → Incoming
+incoming_in l =
     record {
-      reader = readerIn l (readingNumbered (get_or l 31 0)) (kindNumbered (get_or l 30 0));
+      reader = reader_in l (reading_numbered (get_or l 31 0)) (kind_numbered (get_or l 30 0));
       first = get_or l 40 0;
       second = get_or l 41 0;
     }
 
 -- octets 10 to 15, the stage and the kind handed in
-abbrev pub senderIn : List ℕ → Stage → Kind → Sender
-senderIn l stage kind =
+abbrev pub sender_in : List ℕ → Stage → Kind → Sender
+sender_in l stage kind =
     record {
       stage = stage;
       kind = kind;
@@ -141,30 +141,30 @@ senderIn l stage kind =
     }
 
 -- octets 6 to 9
-abbrev pub headerIn : List ℕ → Header
-headerIn l = record { status1 = get_or l 6 0; status2 = get_or l 7 0; status3 = get_or l 8 0; master = get_or l 9 0 }
+abbrev pub header_in : List ℕ → Header
+header_in l = record { status1 = get_or l 6 0; status2 = get_or l 7 0; status3 = get_or l 8 0; master = get_or l 9 0 }
 
 -- octets 6 to 19
-abbrev pub replyIn : List ℕ → Reply
-replyIn l =
+abbrev pub reply_in : List ℕ → Reply
+reply_in l =
     record {
-      drawn = drawnNumbered (get_or l 18 0);
-      sender = senderIn l (stageNumbered (get_or l 17 0)) (kindNumbered (get_or l 16 0));
+      drawn = drawn_numbered (get_or l 18 0);
+      sender = sender_in l (stage_numbered (get_or l 17 0)) (kind_numbered (get_or l 16 0));
       place = get_or l 19 0;
-      header = headerIn l;
+      header = header_in l;
     }
 
 -- the state
 unfoldable pub unpacked : List ℕ → State
 unpacked l =
     record {
-      setup = setupIn l (word_at l 42);
-      control = controlIn l;
-      outputs = outputsIn (get_or l 22 0) (get_or l 29 0);
-      inputs = inputsIn (get_or l 23 0);
-      parameters = setsIn l 24 58;
-      configuration = setsIn l 25 60;
+      setup = setup_in l (word_at l 42);
+      control = control_in l;
+      outputs = outputs_in (get_or l 22 0) (get_or l 29 0);
+      inputs = inputs_in (get_or l 23 0);
+      parameters = sets_in l 24 58;
+      configuration = sets_in l 25 60;
       swapped = eqb (get_or l 28 0) 1;
-      incoming = incomingIn l;
-      reply = replyIn l;
+      incoming = incoming_in l;
+      reply = reply_in l;
     }

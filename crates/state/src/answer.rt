@@ -1,6 +1,6 @@
 // What a call answers: a value, or why it is refused.
 ghost use Rattle.std.specs.Prelude.{◌≡◌};
-ghost use Rattle.state.specs.Answer.{refusalNumber, answerNumber};
+ghost use Rattle.state.specs.Answer.{refusal_number, answer_number};
 
 // The refusals, by who causes them.
 #[derive(Drop)]
@@ -29,7 +29,7 @@ pub enum Answer {
 impl Refusal {
     // Its number, 1 to 10.
     pub fn number(self) -> u8
-        ensures { result ≡ refusalNumber self }
+        ensures { result ≡ refusal_number self }
     {
         match self {
             Refusal::MemoryLength => 1,
@@ -49,7 +49,7 @@ impl Refusal {
 impl Answer {
     // As the firmware gets it: a value as itself, a refusal's number negated.
     pub fn code(self) -> i64
-        ensures { result ≡ answerNumber self }
+        ensures { result ≡ answer_number self }
     {
         match self {
             Answer::Value(n) => n as i64,

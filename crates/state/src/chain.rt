@@ -1,7 +1,7 @@
 // The chain of a master's requests: the last one, with which the next is compared. What it drew and its frame count bit are one octet, so
 // that loading the control part decodes nothing of it. Its fields are in the order of the image, so that both move as one half word.
 ghost use Rattle.std.specs.Prelude.{◌≡◌};
-ghost use Rattle.state.specs.Chain.{chainOf, noChain, fcbIn, drawnIn};
+ghost use Rattle.state.specs.Chain.{chain_of, no_chain, fcb_in, drawn_in};
 
 use crate::image::bit;
 use crate::number::{drawn_number, drawn_numbered};
@@ -21,7 +21,7 @@ impl Chain {
 
     // A request of this master, with this frame count bit, that drew this.
     pub fn new(master: u8, fcb: bool, drawn: Drawn) -> Chain
-        ensures { result ≡ chainOf master fcb drawn }
+        ensures { result ≡ chain_of master fcb drawn }
     {
         let code = 2 * drawn_number(drawn) + bit(fcb);
         Chain { code, master }
@@ -29,7 +29,7 @@ impl Chain {
 
     // No request that a telegram could repeat.
     pub fn none() -> Chain
-        ensures { result ≡ noChain }
+        ensures { result ≡ no_chain }
     {
         Chain {
             code: 0,
@@ -39,14 +39,14 @@ impl Chain {
 
     // Its frame count bit.
     pub fn fcb(self) -> bool
-        ensures { result ≡ fcbIn self }
+        ensures { result ≡ fcb_in self }
     {
         self.code % 2 == 1
     }
 
     // What it drew.
     pub fn drawn(self) -> Drawn
-        ensures { result ≡ drawnIn self }
+        ensures { result ≡ drawn_in self }
     {
         drawn_numbered(self.code / 2)
     }

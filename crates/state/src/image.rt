@@ -1,7 +1,7 @@
 // The image of a state: the octets that hold it, laid out one by one.
 ghost use Rattle.std.specs.Prelude.{◌≡◌, ◌++◌, ◌≤◌, ◌/◌, ◌%◌, length, drop};
-ghost use Rattle.state.specs.Layout.{imageLength};
-ghost use Rattle.state.specs.Image.{bit_of, flags_of, modesOf, marksOf, inputsCode, doubleOctets, image};
+ghost use Rattle.state.specs.Layout.{image_length};
+ghost use Rattle.state.specs.Image.{bit_of, flags_of, modes_of, marks_of, inputs_code, double_octets, image};
 
 use crate::control::{Flags, Modes};
 use crate::number::{drawn_number, kind_number, phase_number, reading_number, stage_number};
@@ -31,7 +31,7 @@ pub fn high(word: u16) -> u8
 
 // The octets of a double word, low first: those of its low word, then those of its high word.
 pub fn double_octets(x: u32) -> [u8; 4]
-    ensures { result ≡ doubleOctets x }
+    ensures { result ≡ double_octets x }
 {
     let low_word = (x % 65536) as u16;
     let high_word = (x / 65536) as u16;
@@ -59,21 +59,21 @@ pub fn flags(f: Flags, noted: bool) -> u8
 
 // The modes in one octet.
 pub fn modes(m: Modes) -> u8
-    ensures { result ≡ modesOf m }
+    ensures { result ≡ modes_of m }
 {
     bit(m.sync) + 2 * bit(m.freeze) + 4 * bit(m.sync_allowed) + 8 * bit(m.freeze_allowed)
 }
 
 // The marks of the output set in one octet: whether it is new, whether it is zeros by the station, whether something is held back.
 pub fn output_marks(o: Outputs) -> u8
-    ensures { result ≡ marksOf o }
+    ensures { result ≡ marks_of o }
 {
     bit(o.set.fresh) + 2 * bit(o.zeros) + 4 * bit(o.set.withheld)
 }
 
 // The input set in one octet: its roles, and whether next is new.
 pub fn inputs_code(t: Triple) -> u8
-    ensures { result ≡ inputsCode t }
+    ensures { result ≡ inputs_code t }
 {
     2 * t.number() + bit(t.fresh)
 }
@@ -169,8 +169,8 @@ pub fn octets(s: State) -> [u8; 68]
 
 // The state's octets at the front of the memory; what lies behind them stays.
 pub fn save(s: State, mem: &mut [u8])
-    requires { imageLength ≤ length mem.old }
-    ensures { mem.new ≡ image s ++ drop imageLength mem.old }
+    requires { image_length ≤ length mem.old }
+    ensures { mem.new ≡ image s ++ drop image_length mem.old }
 {
     let a = octets(s);
     octets::copy(&a, mem);

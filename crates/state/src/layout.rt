@@ -1,6 +1,6 @@
 // Where the buffers lie behind the state part. What a channel has in the state part is the crate channels'.
 ghost use Rattle.std.specs.Prelude.{◌≡◌, ◌≤◌, ◌^◌};
-ghost use Rattle.state.specs.Layout.{placeAt, outputsAt, inputsAt, parametersAt, configurationAt, diagnosisAt, getCfgAt, end_of};
+ghost use Rattle.state.specs.Layout.{place_at, outputs_at, inputs_at, parameters_at, configuration_at, diagnosis_at, get_cfg_at, end_of};
 
 use crate::setup::Setup;
 use octets::rounded_up;
@@ -38,42 +38,42 @@ pub const GET_CFG_BUFFERS: u8 = 1;
 // Where buffer k begins, of buffers of n octets that lie one after the other from a base on.
 fn place_at(base: usize, n: u8, k: u8) -> usize
     requires { base ≤ 2 ^ 32 }
-    ensures { result ≡ placeAt base n k }
+    ensures { result ≡ place_at base n k }
 {
     base + rounded_up(n) * (k as usize)
 }
 
 // Where output buffer k begins.
 pub fn outputs_at(s: Setup, k: u8) -> usize
-    ensures { result ≡ outputsAt s k }
+    ensures { result ≡ outputs_at s k }
 {
     place_at(STATE_LENGTH, s.output_len, k)
 }
 
 // Where input buffer k begins.
 pub fn inputs_at(s: Setup, k: u8) -> usize
-    ensures { result ≡ inputsAt s k }
+    ensures { result ≡ inputs_at s k }
 {
     place_at(outputs_at(s, OUTPUT_BUFFERS), s.input_len, k)
 }
 
 // Where parameter buffer k begins.
 pub fn parameters_at(s: Setup, k: u8) -> usize
-    ensures { result ≡ parametersAt s k }
+    ensures { result ≡ parameters_at s k }
 {
     place_at(inputs_at(s, INPUT_BUFFERS), s.parameter_len, k)
 }
 
 // Where configuration buffer k begins.
 pub fn configuration_at(s: Setup, k: u8) -> usize
-    ensures { result ≡ configurationAt s k }
+    ensures { result ≡ configuration_at s k }
 {
     place_at(parameters_at(s, PARAMETER_BUFFERS), s.configuration_len, k)
 }
 
 // Where diagnosis buffer k begins.
 pub fn diagnosis_at(s: Setup, k: u8) -> usize
-    ensures { result ≡ diagnosisAt s k }
+    ensures { result ≡ diagnosis_at s k }
 {
     place_at(
         configuration_at(s, CONFIGURATION_BUFFERS),
@@ -84,7 +84,7 @@ pub fn diagnosis_at(s: Setup, k: u8) -> usize
 
 // Where the buffer for Get_Cfg begins.
 pub fn get_cfg_at(s: Setup) -> usize
-    ensures { result ≡ getCfgAt s }
+    ensures { result ≡ get_cfg_at s }
 {
     diagnosis_at(s, DIAGNOSIS_BUFFERS)
 }

@@ -1,8 +1,8 @@
 // The octets of a memory read straight as a state, as a whole or a part of it alone.
 ghost use Rattle.std.specs.Prelude.{◌≡◌, ◌+◌, ◌≤◌, ◌<◌, length};
-ghost use Rattle.telegram.specs.Reading.{takesData};
-ghost use Rattle.state.specs.Layout.{imageLength};
-ghost use Rattle.state.specs.Unpack.{word_at, doubleAt, setupIn, flagsIn, modesIn, setsIn, readerIn, senderIn, headerIn, unpacked};
+ghost use Rattle.telegram.specs.Reading.{takes_data};
+ghost use Rattle.state.specs.Layout.{image_length};
+ghost use Rattle.state.specs.Unpack.{word_at, double_at, setup_in, flags_in, modes_in, sets_in, reader_in, sender_in, header_in, unpacked};
 
 use crate::chain::Chain;
 use crate::control::{Control, Diagnosis, Flags, Modes, Watchdog};
@@ -37,15 +37,15 @@ fn word_at(mem: &[u8], i: usize) -> u16
 // The double word at i, its low octet first, by one load.
 fn double_at(mem: &[u8], i: usize) -> u32
     requires { i + 4 ≤ length mem.now }
-    ensures { result ≡ doubleAt mem.now i }
+    ensures { result ≡ double_at mem.now i }
 {
     word::half(mem, i)
 }
 
 // What Start was given, the ident number handed in.
 fn setup_in(mem: &[u8], ident: u16) -> Setup
-    requires { imageLength ≤ length mem.now }
-    ensures { result ≡ setupIn mem.now ident }
+    requires { image_length ≤ length mem.now }
+    ensures { result ≡ setup_in mem.now ident }
 {
     Setup {
         address: mem[20],
@@ -61,7 +61,7 @@ fn setup_in(mem: &[u8], ident: u16) -> Setup
 
 // What Start was given.
 pub fn setup(mem: &[u8]) -> Setup
-    requires { imageLength ≤ length mem.now }
+    requires { image_length ≤ length mem.now }
     ensures { result ≡ (unpacked mem.now).setup }
 {
     setup_in(mem, word_at(mem, 42))
@@ -69,7 +69,7 @@ pub fn setup(mem: &[u8]) -> Setup
 
 // The flags of an octet.
 fn flags_in(x: u8) -> Flags
-    ensures { result ≡ flagsIn x }
+    ensures { result ≡ flags_in x }
 {
     Flags {
         prm_fault: x % 2 == 1,
@@ -84,7 +84,7 @@ fn flags_in(x: u8) -> Flags
 
 // The modes of an octet.
 fn modes_in(x: u8) -> Modes
-    ensures { result ≡ modesIn x }
+    ensures { result ≡ modes_in x }
 {
     Modes {
         sync: x % 2 == 1,
@@ -96,7 +96,7 @@ fn modes_in(x: u8) -> Modes
 
 // Diagnosis and the delayed one.
 pub fn diagnosis(mem: &[u8]) -> Diagnosis
-    requires { imageLength ≤ length mem.now }
+    requires { image_length ≤ length mem.now }
     ensures { result ≡ (unpacked mem.now).control.diagnosis }
 {
     Diagnosis {
@@ -108,7 +108,7 @@ pub fn diagnosis(mem: &[u8]) -> Diagnosis
 
 // The event word.
 pub fn events(mem: &[u8]) -> Events
-    requires { imageLength ≤ length mem.now }
+    requires { image_length ≤ length mem.now }
     ensures { result ≡ (unpacked mem.now).control.events }
 {
     let word = word_at(mem, 4);
@@ -117,7 +117,7 @@ pub fn events(mem: &[u8]) -> Events
 
 // Whether a clear is noted.
 pub fn noted(mem: &[u8]) -> bool
-    requires { imageLength ≤ length mem.now }
+    requires { image_length ≤ length mem.now }
     ensures { result ≡ (unpacked mem.now).control.noted }
 {
     mem[3] / 4 % 2 == 1
@@ -125,7 +125,7 @@ pub fn noted(mem: &[u8]) -> bool
 
 // The last request, with which the next is compared.
 pub fn chain(mem: &[u8]) -> Chain
-    requires { imageLength ≤ length mem.now }
+    requires { image_length ≤ length mem.now }
     ensures { result ≡ (unpacked mem.now).control.chain }
 {
     Chain {
@@ -136,7 +136,7 @@ pub fn chain(mem: &[u8]) -> Chain
 
 // The control part.
 pub fn control(mem: &[u8]) -> Control
-    requires { imageLength ≤ length mem.now }
+    requires { image_length ≤ length mem.now }
     ensures { result ≡ (unpacked mem.now).control }
 {
     let remaining = double_at(mem, 44);
@@ -159,7 +159,7 @@ pub fn control(mem: &[u8]) -> Control
 // Received sets, with their roles at k and their counts from i on.
 fn sets_in(mem: &[u8], k: usize, i: usize) -> Sets
     requires { (k < length mem.now) × (i + 1 < length mem.now) }
-    ensures { result ≡ setsIn mem.now k i }
+    ensures { result ≡ sets_in mem.now k i }
 {
     let waiting = mem[i + 1];
     Sets {
@@ -171,7 +171,7 @@ fn sets_in(mem: &[u8], k: usize, i: usize) -> Sets
 
 // The set of output buffers.
 pub fn outputs(mem: &[u8]) -> Outputs
-    requires { imageLength ≤ length mem.now }
+    requires { image_length ≤ length mem.now }
     ensures { result ≡ (unpacked mem.now).outputs }
 {
     let marks = mem[29];
@@ -184,7 +184,7 @@ pub fn outputs(mem: &[u8]) -> Outputs
 
 // The set of input buffers.
 pub fn inputs(mem: &[u8]) -> Triple
-    requires { imageLength ≤ length mem.now }
+    requires { image_length ≤ length mem.now }
     ensures { result ≡ (unpacked mem.now).inputs }
 {
     let code = mem[23];
@@ -193,7 +193,7 @@ pub fn inputs(mem: &[u8]) -> Triple
 
 // The parameters received.
 pub fn parameters(mem: &[u8]) -> Sets
-    requires { imageLength ≤ length mem.now }
+    requires { image_length ≤ length mem.now }
     ensures { result ≡ (unpacked mem.now).parameters }
 {
     sets_in(mem, 24, 58)
@@ -201,7 +201,7 @@ pub fn parameters(mem: &[u8]) -> Sets
 
 // The configuration received.
 pub fn configuration(mem: &[u8]) -> Sets
-    requires { imageLength ≤ length mem.now }
+    requires { image_length ≤ length mem.now }
     ensures { result ≡ (unpacked mem.now).configuration }
 {
     sets_in(mem, 25, 60)
@@ -209,7 +209,7 @@ pub fn configuration(mem: &[u8]) -> Sets
 
 // Whether the controller's diagnosis buffer is the second.
 pub fn swapped(mem: &[u8]) -> bool
-    requires { imageLength ≤ length mem.now }
+    requires { image_length ≤ length mem.now }
     ensures { result ≡ (unpacked mem.now).swapped }
 {
     mem[28] == 1
@@ -217,8 +217,8 @@ pub fn swapped(mem: &[u8]) -> bool
 
 // The reader at a phase.
 fn reader_in(mem: &[u8], phase: reader::Phase, kind: Kind) -> Reader
-    requires { imageLength ≤ length mem.now }
-    ensures { result ≡ readerIn mem.now phase kind }
+    requires { image_length ≤ length mem.now }
+    ensures { result ≡ reader_in mem.now phase kind }
 {
     Reader {
         phase,
@@ -236,7 +236,7 @@ fn reader_in(mem: &[u8], phase: reader::Phase, kind: Kind) -> Reader
 
 // The telegram that is coming.
 pub fn incoming(mem: &[u8]) -> Incoming
-    requires { imageLength ≤ length mem.now }
+    requires { image_length ≤ length mem.now }
     ensures { result ≡ (unpacked mem.now).incoming }
 {
     Incoming {
@@ -248,16 +248,16 @@ pub fn incoming(mem: &[u8]) -> Incoming
 
 // Whether its next octet is data. By the octets as they stand, since most octets are data and nothing else of it is then looked at.
 pub fn takes_data(mem: &[u8]) -> bool
-    requires { imageLength ≤ length mem.now }
-    ensures { result ≡ takesData (unpacked mem.now).incoming.reader }
+    requires { image_length ≤ length mem.now }
+    ensures { result ≡ takes_data (unpacked mem.now).incoming.reader }
 {
     (mem[31] == reading_number(reader::Phase::Body)) & (mem[33] < mem[32])
 }
 
 // The sender at a stage.
 fn sender_in(mem: &[u8], stage: Stage, kind: Kind) -> Sender
-    requires { imageLength ≤ length mem.now }
-    ensures { result ≡ senderIn mem.now stage kind }
+    requires { image_length ≤ length mem.now }
+    ensures { result ≡ sender_in mem.now stage kind }
 {
     Sender {
         stage,
@@ -273,8 +273,8 @@ fn sender_in(mem: &[u8], stage: Stage, kind: Kind) -> Sender
 
 // The first diagnosis octets of the reply.
 fn header_in(mem: &[u8]) -> Header
-    requires { imageLength ≤ length mem.now }
-    ensures { result ≡ headerIn mem.now }
+    requires { image_length ≤ length mem.now }
+    ensures { result ≡ header_in mem.now }
 {
     Header {
         status1: mem[6],
@@ -286,7 +286,7 @@ fn header_in(mem: &[u8]) -> Header
 
 // The reply in progress.
 pub fn reply(mem: &[u8]) -> Reply
-    requires { imageLength ≤ length mem.now }
+    requires { image_length ≤ length mem.now }
     ensures { result ≡ (unpacked mem.now).reply }
 {
     Reply {
@@ -299,7 +299,7 @@ pub fn reply(mem: &[u8]) -> Reply
 
 // The state that the first octets hold.
 pub fn unpack(mem: &[u8]) -> State
-    requires { imageLength ≤ length mem.now }
+    requires { image_length ≤ length mem.now }
     ensures { result ≡ unpacked mem.now }
 {
     State {

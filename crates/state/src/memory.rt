@@ -1,11 +1,11 @@
 // Whether a memory holds a state.
 ghost use Rattle.std.specs.Prelude.{◌≡◌, ◌&&◌, ◌≤◌, leb, length};
-ghost use Rattle.state.specs.Layout.{stateLength, imageLength, end_of, last_end};
-ghost use Rattle.channels.specs.Rules.{wellChannels};
-ghost use Rattle.channels.specs.Places.{lengthsIn};
-ghost use Rattle.state.specs.Memory.{holdsState};
+ghost use Rattle.state.specs.Layout.{state_length, image_length, end_of, last_end};
+ghost use Rattle.channels.specs.Rules.{well_channels};
+ghost use Rattle.channels.specs.Places.{lengths_in};
+ghost use Rattle.state.specs.Memory.{holds_state};
 ghost use Rattle.state.specs.Unpack.{unpacked};
-ghost use Rattle.state.specs.Well.{all, lengthsTests};
+ghost use Rattle.state.specs.Well.{all, lengths_tests};
 
 use crate::{layout, load, well};
 use channels::channel::CHANNELS_AT;
@@ -15,8 +15,8 @@ use ranges::checks;
 // The lengths, and whether the buffers end in the memory where no channel has any. Of short lengths, and in a memory that has room for all,
 // the sum need not be made.
 fn has_room(mem: &[u8]) -> bool
-    requires { imageLength ≤ length mem.now }
-    ensures { result ≡ (all (lengthsTests mem.now) && leb (end_of (unpacked mem.now).setup) (length mem.now)) }
+    requires { image_length ≤ length mem.now }
+    ensures { result ≡ (all (lengths_tests mem.now) && leb (end_of (unpacked mem.now).setup) (length mem.now)) }
 {
     if well::short_lengths(mem) & (layout::SHORT_END <= mem.len()) {
         return true;
@@ -39,8 +39,8 @@ fn has_room(mem: &[u8]) -> bool
 // The channels, and whether the buffers, theirs behind the others, end in the memory. bound: where the others end at most, so that their
 // sum need not be made in a memory that has room for so much.
 fn channels_fit(mem: &[u8], bound: usize) -> bool
-    requires { (stateLength ≤ length mem.now) × (end_of (unpacked mem.now).setup ≤ bound) × (bound ≤ 65536) }
-    ensures { result ≡ (wellChannels mem.now && leb (last_end (lengthsIn mem.now) (unpacked mem.now).setup) (length mem.now)) }
+    requires { (state_length ≤ length mem.now) × (end_of (unpacked mem.now).setup ≤ bound) × (bound ≤ 65536) }
+    ensures { result ≡ (well_channels mem.now && leb (last_end (lengths_in mem.now) (unpacked mem.now).setup) (length mem.now)) }
 {
     let found = survey_of(mem);
     match found {
@@ -57,8 +57,8 @@ fn channels_fit(mem: &[u8], bound: usize) -> bool
 // The lengths, the channels and the room of a station that has channels. It calls `channels_fit` in two places: a function with two callers the
 // compiler leaves outside, so that a call of a station without channels saves no registers for it.
 fn has_room_for_channels(mem: &[u8]) -> bool
-    requires { stateLength ≤ length mem.now }
-    ensures { result ≡ (all (lengthsTests mem.now) && (wellChannels mem.now && leb (last_end (lengthsIn mem.now) (unpacked mem.now).setup) (length mem.now))) }
+    requires { state_length ≤ length mem.now }
+    ensures { result ≡ (all (lengths_tests mem.now) && (well_channels mem.now && leb (last_end (lengths_in mem.now) (unpacked mem.now).setup) (length mem.now))) }
 {
     if well::short_lengths(mem) {
         return channels_fit(mem, layout::SHORT_END);
@@ -74,7 +74,7 @@ fn has_room_for_channels(mem: &[u8]) -> bool
 
 // The image of a state in front, and room for its buffers.
 pub fn holds_state(mem: &[u8]) -> bool
-    ensures { result ≡ holdsState mem.now }
+    ensures { result ≡ holds_state mem.now }
 {
     if mem.len() < layout::STATE_LENGTH {
         return false;

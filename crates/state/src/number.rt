@@ -1,6 +1,6 @@
 // The cases of the state's enums as numbers, in their order, and back.
 ghost use Rattle.std.specs.Prelude.{◌≡◌};
-ghost use Rattle.state.specs.Number.{readingNumber, readingNumbered, kindNumber, kindNumbered, stageNumber, stageNumbered, phaseNumber, phaseNumbered, drawnNumber, drawnNumbered};
+ghost use Rattle.state.specs.Number.{reading_number, reading_numbered, kind_number, kind_numbered, stage_number, stage_numbered, phase_number, phase_numbered, drawn_number, drawn_numbered};
 
 use crate::control;
 use crate::state::Drawn;
@@ -9,7 +9,7 @@ use telegram::{Kind, reader};
 
 // The number of a reader's phase.
 pub fn reading_number(case: reader::Phase) -> u8
-    ensures { result ≡ readingNumber case }
+    ensures { result ≡ reading_number case }
 {
     match case {
         reader::Phase::Start => 0,
@@ -30,7 +30,7 @@ pub fn reading_number(case: reader::Phase) -> u8
 
 // The case of a number; past the last number the last case.
 pub fn reading_numbered(n: u8) -> reader::Phase
-    ensures { result ≡ readingNumbered n }
+    ensures { result ≡ reading_numbered n }
 {
     match n {
         0 => reader::Phase::Start,
@@ -51,7 +51,7 @@ pub fn reading_numbered(n: u8) -> reader::Phase
 
 // The number of a telegram's kind.
 pub fn kind_number(case: Kind) -> u8
-    ensures { result ≡ kindNumber case }
+    ensures { result ≡ kind_number case }
 {
     match case {
         Kind::Sd1 => 0,
@@ -63,7 +63,7 @@ pub fn kind_number(case: Kind) -> u8
 
 // The case of a number; past the last number the last case.
 pub fn kind_numbered(n: u8) -> Kind
-    ensures { result ≡ kindNumbered n }
+    ensures { result ≡ kind_numbered n }
 {
     match n {
         0 => Kind::Sd1,
@@ -75,7 +75,7 @@ pub fn kind_numbered(n: u8) -> Kind
 
 // The number of a sender's stage.
 pub fn stage_number(case: Stage) -> u8
-    ensures { result ≡ stageNumber case }
+    ensures { result ≡ stage_number case }
 {
     match case {
         Stage::Start => 0,
@@ -94,7 +94,7 @@ pub fn stage_number(case: Stage) -> u8
 
 // The case of a number; past the last number the last case.
 pub fn stage_numbered(n: u8) -> Stage
-    ensures { result ≡ stageNumbered n }
+    ensures { result ≡ stage_numbered n }
 {
     match n {
         0 => Stage::Start,
@@ -113,7 +113,7 @@ pub fn stage_numbered(n: u8) -> Stage
 
 // The number of the station's phase.
 pub fn phase_number(case: control::Phase) -> u8
-    ensures { result ≡ phaseNumber case }
+    ensures { result ≡ phase_number case }
 {
     match case {
         control::Phase::WaitPrm => 0,
@@ -124,7 +124,7 @@ pub fn phase_number(case: control::Phase) -> u8
 
 // The case of a number; past the last number the last case.
 pub fn phase_numbered(n: u8) -> control::Phase
-    ensures { result ≡ phaseNumbered n }
+    ensures { result ≡ phase_numbered n }
 {
     match n {
         0 => control::Phase::WaitPrm,
@@ -135,7 +135,7 @@ pub fn phase_numbered(n: u8) -> control::Phase
 
 // The number of what a telegram draws.
 pub fn drawn_number(case: Drawn) -> u8
-    ensures { result ≡ drawnNumber case }
+    ensures { result ≡ drawn_number case }
 {
     match case {
         Drawn::Nothing => 0,
@@ -152,7 +152,7 @@ pub fn drawn_number(case: Drawn) -> u8
 
 // The case of a number; past the last number the last case.
 pub fn drawn_numbered(n: u8) -> Drawn
-    ensures { result ≡ drawnNumbered n }
+    ensures { result ≡ drawn_numbered n }
 {
     match n {
         0 => Drawn::Nothing,

@@ -1,9 +1,9 @@
 // A part of the state packed alone: its octets are written, and no other. Whatever state stands in front of the memory, afterwards it
 // is that state with the part changed.
 ghost use Rattle.std.specs.Prelude.{◌≤◌, length};
-ghost use Rattle.state.specs.Layout.{imageLength};
+ghost use Rattle.state.specs.Layout.{image_length};
 ghost use Rattle.state.specs.Memory.{Changes};
-ghost use Rattle.state.specs.With.{withControlButChain, withStanding, withEventWord, withTicks, withChain, withOutputs, withInputs, withParameters, withConfiguration, withSwapped, withIncoming, withRead, withKept, withSender, withOutline, withReply};
+ghost use Rattle.state.specs.With.{with_control_but_chain, with_standing, with_event_word, with_ticks, with_chain, with_outputs, with_inputs, with_parameters, with_configuration, with_swapped, with_incoming, with_read, with_kept, with_sender, with_outline, with_reply};
 
 use crate::chain::Chain;
 use crate::control::Control;
@@ -16,8 +16,8 @@ use telegram::sender::Sender;
 
 // The telegram that is coming: octets 30 to 41.
 pub fn save_incoming(i: Incoming, mem: &mut [u8])
-    requires { imageLength ≤ length mem.old }
-    ensures { Changes mem.old mem.new (λ s. withIncoming s i) }
+    requires { image_length ≤ length mem.old }
+    ensures { Changes mem.old mem.new (λ s. with_incoming s i) }
 {
     let reader = i.reader;
     let phase = reader.phase;
@@ -38,8 +38,8 @@ pub fn save_incoming(i: Incoming, mem: &mut [u8])
 
 // How many data octets of it were read, and its checksum.
 pub fn save_read(at: u8, sum: u8, mem: &mut [u8])
-    requires { imageLength ≤ length mem.old }
-    ensures { Changes mem.old mem.new (λ s. withRead s at sum) }
+    requires { image_length ≤ length mem.old }
+    ensures { Changes mem.old mem.new (λ s. with_read s at sum) }
 {
     mem[33] = at;
     mem[39] = sum;
@@ -47,8 +47,8 @@ pub fn save_read(at: u8, sum: u8, mem: &mut [u8])
 
 // Its data octet k, if that is one of the first two.
 pub fn keep_octet(k: u8, b: u8, mem: &mut [u8])
-    requires { imageLength ≤ length mem.old }
-    ensures { Changes mem.old mem.new (λ s. withKept s k b) }
+    requires { image_length ≤ length mem.old }
+    ensures { Changes mem.old mem.new (λ s. with_kept s k b) }
 {
     if k < 2 {
         mem[40 + k as usize] = b;
@@ -57,8 +57,8 @@ pub fn keep_octet(k: u8, b: u8, mem: &mut [u8])
 
 // The sender of the reply: octets 10 to 17.
 pub fn save_sender(sender: Sender, mem: &mut [u8])
-    requires { imageLength ≤ length mem.old }
-    ensures { Changes mem.old mem.new (λ s. withSender s sender) }
+    requires { image_length ≤ length mem.old }
+    ensures { Changes mem.old mem.new (λ s. with_sender s sender) }
 {
     let stage = sender.stage;
     let kind = sender.kind;
@@ -74,8 +74,8 @@ pub fn save_sender(sender: Sender, mem: &mut [u8])
 
 // The reply but for its sender: octets 6 to 9, 18 and 19.
 fn save_outline(reply: Reply, mem: &mut [u8])
-    requires { imageLength ≤ length mem.old }
-    ensures { Changes mem.old mem.new (λ s. withOutline s reply) }
+    requires { image_length ≤ length mem.old }
+    ensures { Changes mem.old mem.new (λ s. with_outline s reply) }
 {
     let drawn = reply.drawn;
     mem[18] = drawn_number(drawn);
@@ -88,8 +88,8 @@ fn save_outline(reply: Reply, mem: &mut [u8])
 
 // The reply: octets 6 to 19.
 pub fn save_reply(reply: Reply, mem: &mut [u8])
-    requires { imageLength ≤ length mem.old }
-    ensures { Changes mem.old mem.new (λ s. withReply s reply) }
+    requires { image_length ≤ length mem.old }
+    ensures { Changes mem.old mem.new (λ s. with_reply s reply) }
 {
     save_outline(reply, mem);
     save_sender(reply.sender, mem);
@@ -97,8 +97,8 @@ pub fn save_reply(reply: Reply, mem: &mut [u8])
 
 // The events: octets 4 and 5.
 pub fn save_events(events: Events, mem: &mut [u8])
-    requires { imageLength ≤ length mem.old }
-    ensures { Changes mem.old mem.new (λ s. withEventWord s events) }
+    requires { image_length ≤ length mem.old }
+    ensures { Changes mem.old mem.new (λ s. with_event_word s events) }
 {
     mem[4] = low(events.word);
     mem[5] = high(events.word);
@@ -106,8 +106,8 @@ pub fn save_events(events: Events, mem: &mut [u8])
 
 // The ticks that remain of the watchdog: octets 44 to 47.
 pub fn save_ticks(ticks: u32, mem: &mut [u8])
-    requires { imageLength ≤ length mem.old }
-    ensures { Changes mem.old mem.new (λ s. withTicks s ticks) }
+    requires { image_length ≤ length mem.old }
+    ensures { Changes mem.old mem.new (λ s. with_ticks s ticks) }
 {
     let octets = double_octets(ticks);
     mem[44] = octets[0];
@@ -118,8 +118,8 @@ pub fn save_ticks(ticks: u32, mem: &mut [u8])
 
 // The last request, with which the next is compared: octets 54 and 55.
 pub fn save_chain(chain: Chain, mem: &mut [u8])
-    requires { imageLength ≤ length mem.old }
-    ensures { Changes mem.old mem.new (λ s. withChain s chain) }
+    requires { image_length ≤ length mem.old }
+    ensures { Changes mem.old mem.new (λ s. with_chain s chain) }
 {
     mem[54] = chain.code;
     mem[55] = chain.master;
@@ -127,8 +127,8 @@ pub fn save_chain(chain: Chain, mem: &mut [u8])
 
 // The control part but for the events, the ticks that remain and the chain: octets 0 to 3, 21, 26, 27, 56, 57 and 64 to 67.
 fn save_standing(control: Control, mem: &mut [u8])
-    requires { imageLength ≤ length mem.old }
-    ensures { Changes mem.old mem.new (λ s. withStanding s control) }
+    requires { image_length ≤ length mem.old }
+    ensures { Changes mem.old mem.new (λ s. with_standing s control) }
 {
     let phase = control.phase;
     let packed = flags(control.flags, control.noted);
@@ -151,8 +151,8 @@ fn save_standing(control: Control, mem: &mut [u8])
 
 // The control part but for the chain, which requests alone change: octets 0 to 5, 21, 26, 27, 44 to 47, 56, 57 and 64 to 67.
 pub fn save_control(control: Control, mem: &mut [u8])
-    requires { imageLength ≤ length mem.old }
-    ensures { Changes mem.old mem.new (λ s. withControlButChain s control) }
+    requires { image_length ≤ length mem.old }
+    ensures { Changes mem.old mem.new (λ s. with_control_but_chain s control) }
 {
     save_standing(control, mem);
     save_events(control.events, mem);
@@ -161,8 +161,8 @@ pub fn save_control(control: Control, mem: &mut [u8])
 
 // The output set: octets 22 and 29.
 pub fn save_outputs(outputs: Outputs, mem: &mut [u8])
-    requires { imageLength ≤ length mem.old }
-    ensures { Changes mem.old mem.new (λ s. withOutputs s outputs) }
+    requires { image_length ≤ length mem.old }
+    ensures { Changes mem.old mem.new (λ s. with_outputs s outputs) }
 {
     let marks = output_marks(outputs);
     mem[22] = outputs.set.number();
@@ -171,16 +171,16 @@ pub fn save_outputs(outputs: Outputs, mem: &mut [u8])
 
 // The input set: octet 23.
 pub fn save_inputs(inputs: Triple, mem: &mut [u8])
-    requires { imageLength ≤ length mem.old }
-    ensures { Changes mem.old mem.new (λ s. withInputs s inputs) }
+    requires { image_length ≤ length mem.old }
+    ensures { Changes mem.old mem.new (λ s. with_inputs s inputs) }
 {
     mem[23] = inputs_code(inputs);
 }
 
 // The parameters received: octets 24, 58 and 59.
 pub fn save_parameters(parameters: Sets, mem: &mut [u8])
-    requires { imageLength ≤ length mem.old }
-    ensures { Changes mem.old mem.new (λ s. withParameters s parameters) }
+    requires { image_length ≤ length mem.old }
+    ensures { Changes mem.old mem.new (λ s. with_parameters s parameters) }
 {
     mem[24] = parameters.set.number();
     mem[58] = parameters.shown;
@@ -189,8 +189,8 @@ pub fn save_parameters(parameters: Sets, mem: &mut [u8])
 
 // The configuration received: octets 25, 60 and 61.
 pub fn save_configuration(configuration: Sets, mem: &mut [u8])
-    requires { imageLength ≤ length mem.old }
-    ensures { Changes mem.old mem.new (λ s. withConfiguration s configuration) }
+    requires { image_length ≤ length mem.old }
+    ensures { Changes mem.old mem.new (λ s. with_configuration s configuration) }
 {
     mem[25] = configuration.set.number();
     mem[60] = configuration.shown;
@@ -199,8 +199,8 @@ pub fn save_configuration(configuration: Sets, mem: &mut [u8])
 
 // Which diagnosis buffer is the controller's: octet 28.
 pub fn save_swapped(swapped: bool, mem: &mut [u8])
-    requires { imageLength ≤ length mem.old }
-    ensures { Changes mem.old mem.new (λ s. withSwapped s swapped) }
+    requires { image_length ≤ length mem.old }
+    ensures { Changes mem.old mem.new (λ s. with_swapped s swapped) }
 {
     mem[28] = bit(swapped);
 }

@@ -1,8 +1,8 @@
 // Start: what it asks of a setup, the first state, and what it leaves.
 ghost use Rattle.std.specs.Prelude.{◌≡◌, ◌≤◌, length};
-ghost use Rattle.channels.specs.Setting.{lengthOctets, lengthsGiven};
+ghost use Rattle.channels.specs.Setting.{length_octets, lengths_given};
 ghost use Rattle.state.specs.Layout.{end_of, last_end};
-ghost use Rattle.state.specs.Start.{given, lengthsOk, asked, firstControl, no_sets, noReply, initialState, wiped, laidOut};
+ghost use Rattle.state.specs.Start.{given, lengths_ok, asked, first_control, no_sets, no_reply, initial_state, wiped, laid_out};
 
 use crate::answer::Refusal;
 use crate::chain::Chain;
@@ -33,7 +33,7 @@ fn lengths_ok(
     diagnosis: u32,
     get_cfg: usize,
 ) -> bool
-    ensures { result ≡ lengthsOk (given 0 0 outputs inputs parameters configuration diagnosis get_cfg) }
+    ensures { result ≡ lengths_ok (given 0 0 outputs inputs parameters configuration diagnosis get_cfg) }
 {
     !((outputs == 0) & (inputs == 0))
         & (outputs <= 244)
@@ -88,7 +88,7 @@ pub fn setup_of(
 
 // WAIT_PRM, no owner, no flags, no events, diagnosis count 6, no chain.
 fn first_control() -> Control
-    ensures { result ≡ firstControl }
+    ensures { result ≡ first_control }
 {
     Control {
         phase: Phase::WaitPrm,
@@ -138,7 +138,7 @@ fn no_sets() -> Sets
 
 // Nothing to send.
 pub fn no_reply() -> Reply
-    ensures { result ≡ noReply }
+    ensures { result ≡ no_reply }
 {
     Reply {
         drawn: Drawn::Nothing,
@@ -155,7 +155,7 @@ pub fn no_reply() -> Reply
 
 // The state after Start, which waits for a gap.
 pub fn initial(setup: Setup) -> State
-    ensures { result ≡ initialState setup }
+    ensures { result ≡ initial_state setup }
 {
     State {
         setup: setup,
@@ -188,16 +188,16 @@ fn wipe(mem: &mut [u8], setup: Setup, get_cfg: &[u8], end: usize)
 
 // Where the last buffer ends, that of a channel or another one.
 pub fn last_end(setup: Setup, channels: &[u8]) -> usize
-    requires { length channels.now ≡ lengthOctets }
-    ensures { result ≡ last_end (lengthsGiven channels.now) setup }
+    requires { length channels.now ≡ length_octets }
+    ensures { result ≡ last_end (lengths_given channels.now) setup }
 {
     layout::end_of(setup) + setting::room_for(channels)
 }
 
 // The first state in front of the wiped buffers, and the channels set up, in a memory that has room for them. end: of the last buffer.
 pub fn lay_out(mem: &mut [u8], setup: Setup, get_cfg: &[u8], channels: &[u8], end: usize)
-    requires { (end ≡ last_end (lengthsGiven channels.now) setup) × (end ≤ length mem.old) × (length channels.now ≡ lengthOctets) × (setup.get_cfg_len ≡ length get_cfg.now) }
-    ensures { mem.new ≡ laidOut mem.old setup get_cfg.now channels.now }
+    requires { (end ≡ last_end (lengths_given channels.now) setup) × (end ≤ length mem.old) × (length channels.now ≡ length_octets) × (setup.get_cfg_len ≡ length get_cfg.now) }
+    ensures { mem.new ≡ laid_out mem.old setup get_cfg.now channels.now }
 {
     wipe(mem, setup, get_cfg, end);
     setting::set_up(mem, channels);

@@ -8,22 +8,22 @@ use Rattle.state.specs.Answer.{Meets}
 use Rattle.state.specs.Memory.{Holds}
 use Rattle.state.specs.Unpack.{unpacked}
 use Rattle.rules.specs.Call.{Call}
-use Rattle.steps.specs.Step.{stepOver}
-use Rattle.steps.specs.Calls.{wellMemory, called}
+use Rattle.steps.specs.Step.{step_over}
+use Rattle.steps.specs.Calls.{well_memory, called}
 use Rattle.steps.specs.Demand1.{LengthIn}
-use Rattle.steps.proofs.Guarded.{well-length, well-holds, called-steps, called-damaged}
+use Rattle.steps.proofs.Guarded.{well_length, well_holds, called_steps, called_damaged}
 
 -- r is what the check told of m
 module _ (m : List ℕ) (r : Bool) where
-  pub found : ((i : ℕ) → Fits w8 (get_or m i 0)) → r ≡ wellMemory m → not r ≡ false → Holds m (unpacked m)
-  found octets tells e = well-holds m octets (sym tells ∙ not-false r e)
+  pub found : ((i : ℕ) → Fits w8 (get_or m i 0)) → r ≡ well_memory m → not r ≡ false → Holds m (unpacked m)
+  found octets tells e = well_holds m octets (sym tells ∙ not-false r e)
 
-  pub found-length : r ≡ wellMemory m → not r ≡ false → LengthIn (length m)
-  found-length tells e = well-length m (sym tells ∙ not-false r e)
+  pub found_length : r ≡ well_memory m → not r ≡ false → LengthIn (length m)
+  found_length tells e = well_length m (sym tells ∙ not-false r e)
 
   module _ (c : Call) where
-    pub damaged : r ≡ wellMemory m → not r ≡ true → Meets (called m c) (Refused Damaged) m
-    damaged tells e = rw (called-damaged m c (sym tells ∙ not-true r e)) (record { answers = refl; leaves = refl })
+    pub damaged : r ≡ well_memory m → not r ≡ true → Meets (called m c) (Refused Damaged) m
+    damaged tells e = rw (called_damaged m c (sym tells ∙ not-true r e)) (record { answers = refl; leaves = refl })
 
-    pub passed : {a : Answer} {n : List ℕ} → r ≡ wellMemory m → not r ≡ false → Meets (stepOver m c) a n → Meets (called m c) a n
-    passed tells e h = rw (called-steps m c (sym tells ∙ not-false r e)) h
+    pub passed : {a : Answer} {n : List ℕ} → r ≡ well_memory m → not r ≡ false → Meets (step_over m c) a n → Meets (called m c) a n
+    passed tells e h = rw (called_steps m c (sym tells ∙ not-false r e)) h

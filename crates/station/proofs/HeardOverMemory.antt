@@ -2,42 +2,42 @@
 use Rattle.std.proofs.Common.{◌≡◌, ℕ, ◌+◌, ◌<◌, ◌≤◌, Bool, true, false, cond, not, ◌&&◌, eqb, ltb, List, take, set, sym, refl, ap, ◌∙◌, arith}
 use lib.Seq.{take-set-le}
 use borrow.Author.Tests.{not-true, not-false}
-use Rattle.buffers.specs.Roles.{fillOf}
+use Rattle.buffers.specs.Roles.{fill_of}
 use Rattle.buffers.specs.Roles as role
-use Rattle.octets.specs.Part.{storedIn}
+use Rattle.octets.specs.Part.{stored_in}
 use Rattle.telegram.specs.declared.Datum.{Datum}
 use Rattle.telegram.specs.declared.Datum.TheVariants.{Number}
 use Rattle.telegram.specs.declared.reader.Reader.{Reader}
 use Rattle.telegram.specs.declared.reader.Status.{Status}
 use Rattle.telegram.specs.declared.reader.Status.TheVariants.{Fresh, Inside, Complete, Broken}
-use Rattle.telegram.specs.Reading.{readerStep, readerAfter, status, takesData, datumOf}
+use Rattle.telegram.specs.Reading.{reader_step, reader_after, status, takes_data, datum_of}
 use Rattle.telegram.proofs.Run.{no_true}
-use Rattle.telegram.proofs.Above.{datum-number, datum-nothing, data-inside, data-goes-on, data-changes}
+use Rattle.telegram.proofs.Above.{datum_number, datum_nothing, data_inside, data_goes_on, data_changes}
 use Rattle.state.specs.declared.state.Incoming.{Incoming}
 use Rattle.state.specs.declared.state.State.{State}
-use Rattle.state.specs.Layout.{imageLength, rowCount, start_of, outputRow, parameterRow, configurationRow, outputsAt, parametersAt, configurationAt}
+use Rattle.state.specs.Layout.{image_length, row_count, start_of, output_row, parameter_row, configuration_row, outputs_at, parameters_at, configuration_at}
 use Rattle.state.specs.Memory.{kept, Holds, Changes}
-use Rattle.state.specs.With.{withIncoming, withRead, withKept}
+use Rattle.state.specs.With.{with_incoming, with_read, with_kept}
 use Rattle.state.proofs.Choice.{and_left, and_right}
-use Rattle.state.proofs.Damage.{fronted, fronted-same}
+use Rattle.state.proofs.Damage.{fronted, fronted_same}
 use Rattle.state.proofs.Places.{inside}
 use Rattle.state.proofs.Written.{then}
-use Rattle.steps.specs.Stepped.{unchanged, packedAfter}
-use Rattle.steps.specs.Line.{isInside}
+use Rattle.steps.specs.Stepped.{unchanged, packed_after}
+use Rattle.steps.specs.Line.{is_inside}
 use Rattle.steps.specs.Outcome.{settle}
-use Rattle.steps.specs.Reading.{storedData, keptOctets, storedAs, read_on, read_by, beginning, heardAs, isIgnored, heard}
-use Rattle.steps.proofs.Holding.{holds-safe}
+use Rattle.steps.specs.Reading.{stored_data, kept_octets, stored_as, read_on, read_by, beginning, heard_as, is_ignored, heard}
+use Rattle.steps.proofs.Holding.{holds_safe}
 use Rattle.station.specs.Hearing.{is_plain}
 
-is-inside : (x : Status) → isInside x ≡ true → x ≡ Inside
-is-inside Fresh e = no_true e
-is-inside Inside e = refl
-is-inside Complete e = no_true e
-is-inside Broken e = no_true e
+is_inside_lem : (x : Status) → is_inside x ≡ true → x ≡ Inside
+is_inside_lem Fresh e = no_true e
+is_inside_lem Inside e = refl
+is_inside_lem Complete e = no_true e
+is_inside_lem Broken e = no_true e
 
 -- a data octet that is not heard as good data is bad
-pub must-be-bad : (takes bad : Bool) → takes && not bad ≡ false → takes ≡ true → bad ≡ true
-must-be-bad takes bad e f = not-false bad ((λ i. sym f i && not bad) ∙ e)
+pub must_be_bad : (takes bad : Bool) → takes && not bad ≡ false → takes ≡ true → bad ≡ true
+must_be_bad takes bad e f = not-false bad ((λ i. sym f i && not bad) ∙ e)
 
 -- ---- what an octet does, by the reader before it and after it
 
@@ -46,140 +46,140 @@ module _ (s : State) (m : List ℕ) (b : ℕ) where
   old = s.incoming.reader
 
   -- inside a telegram it is stored if it is data
-  heard-inner : (bad : Bool) → status old ≡ Inside → status (readerAfter old b bad) ≡ Inside
-      → heard s m b bad ≡ storedAs (datumOf old) s m (readerAfter old b bad) b
+  heard_inner : (bad : Bool) → status old ≡ Inside → status (reader_after old b bad) ≡ Inside
+      → heard s m b bad ≡ stored_as (datum_of old) s m (reader_after old b bad) b
   unfolding heard
-  heard-inner bad e f =
-      let next = readerAfter old b bad in
-      (λ i. cond (isIgnored (e i)) (unchanged s m) (heardAs (f i) s m next b))
-      ∙ (λ i. cond (isInside (e i)) (storedAs (datumOf old) s m next b) (settle (beginning s next) m))
+  heard_inner bad e f =
+      let next = reader_after old b bad in
+      (λ i. cond (is_ignored (e i)) (unchanged s m) (heard_as (f i) s m next b))
+      ∙ (λ i. cond (is_inside (e i)) (stored_as (datum_of old) s m next b) (settle (beginning s next) m))
 
   -- data
-  pub heard-data : takesData old ≡ true → heard s m b false ≡ storedAs (Number old.at) s m (readerStep old b) b
-  heard-data e =
-      heard-inner false (data-inside old e) (data-goes-on old b e)
-      ∙ ap (λ (d : Datum). storedAs d s m (readerStep old b) b) (datum-number old e)
+  pub heard_data : takes_data old ≡ true → heard s m b false ≡ stored_as (Number old.at) s m (reader_step old b) b
+  heard_data e =
+      heard_inner false (data_inside old e) (data_goes_on old b e)
+      ∙ ap (λ (d : Datum). stored_as d s m (reader_step old b) b) (datum_number old e)
 
   -- no data
-  heard-plain : (bad : Bool) → is_plain old (readerAfter old b bad) ≡ true
-      → heard s m b bad ≡ record { state = read_by s (readerAfter old b bad); memory = m }
-  heard-plain bad e =
-      let next = readerAfter old b bad in
-      let both = and_left (isInside (status old) && isInside (status next)) (not (takesData old)) e in
-      let none = not-true (takesData old) (and_right (isInside (status old) && isInside (status next)) (not (takesData old)) e) in
-      heard-inner bad
-      (is-inside (status old) (and_left (isInside (status old)) (isInside (status next)) both))
-      (is-inside (status next) (and_right (isInside (status old)) (isInside (status next)) both))
-      ∙ ap (λ (d : Datum). storedAs d s m next b) (datum-nothing old none)
+  heard_plain : (bad : Bool) → is_plain old (reader_after old b bad) ≡ true
+      → heard s m b bad ≡ record { state = read_by s (reader_after old b bad); memory = m }
+  heard_plain bad e =
+      let next = reader_after old b bad in
+      let both = and_left (is_inside (status old) && is_inside (status next)) (not (takes_data old)) e in
+      let none = not-true (takes_data old) (and_right (is_inside (status old) && is_inside (status next)) (not (takes_data old)) e) in
+      heard_inner bad
+      (is_inside_lem (status old) (and_left (is_inside (status old)) (is_inside (status next)) both))
+      (is_inside_lem (status next) (and_right (is_inside (status old)) (is_inside (status next)) both))
+      ∙ ap (λ (d : Datum). stored_as d s m next b) (datum_nothing old none)
 
   -- the others
-  heard-other : (bad : Bool) → isIgnored (status old) ≡ false
-      → heard s m b bad ≡ heardAs (status (readerAfter old b bad)) s m (readerAfter old b bad) b
+  heard_other : (bad : Bool) → is_ignored (status old) ≡ false
+      → heard s m b bad ≡ heard_as (status (reader_after old b bad)) s m (reader_after old b bad) b
   unfolding heard
-  heard-other bad e =
-      ap (λ (t : Bool). cond t (unchanged s m) (heardAs (status (readerAfter old b bad)) s m (readerAfter old b bad) b)) e
+  heard_other bad e =
+      ap (λ (t : Bool). cond t (unchanged s m) (heard_as (status (reader_after old b bad)) s m (reader_after old b bad) b)) e
 
-  heard-ignored : (bad : Bool) → isIgnored (status old) ≡ true → heard s m b bad ≡ unchanged s m
+  heard_ignored : (bad : Bool) → is_ignored (status old) ≡ true → heard s m b bad ≡ unchanged s m
   unfolding heard
-  heard-ignored bad e =
-      ap (λ (t : Bool). cond t (unchanged s m) (heardAs (status (readerAfter old b bad)) s m (readerAfter old b bad) b)) e
+  heard_ignored bad e =
+      ap (λ (t : Bool). cond t (unchanged s m) (heard_as (status (reader_after old b bad)) s m (reader_after old b bad) b)) e
 
 -- ---- a store leaves the state part
 
-stored-behind : (m : List ℕ) (a n k b : ℕ) → imageLength ≤ a → take imageLength (storedIn m a n k b) ≡ take imageLength m
-unfolding storedIn
-stored-behind m a n k b h = go (ltb k n)
+stored_behind : (m : List ℕ) (a n k b : ℕ) → image_length ≤ a → take image_length (stored_in m a n k b) ≡ take image_length m
+unfolding stored_in
+stored_behind m a n k b h = go (ltb k n)
   where
-    go : (t : Bool) → take imageLength (cond t (set m (a + k) b) m) ≡ take imageLength m
-    go true = take-set-le imageLength m (a + k) b (omega arith)
+    go : (t : Bool) → take image_length (cond t (set m (a + k) b) m) ≡ take image_length m
+    go true = take-set-le image_length m (a + k) b (omega arith)
     go false = refl
 
-one_of : (t : Bool) (x y z : List ℕ) → take imageLength x ≡ z → take imageLength y ≡ z → take imageLength (cond t x y) ≡ z
+one_of : (t : Bool) (x y z : List ℕ) → take image_length x ≡ z → take image_length y ≡ z → take image_length (cond t x y) ≡ z
 one_of true x y z e f = e
 one_of false x y z e f = f
 
 module _ (m : List ℕ) (s : State) (h : Holds m s) where
-  behind : (row i : ℕ) → i < rowCount row → imageLength ≤ start_of s.setup row i
+  behind : (row i : ℕ) → i < row_count row → image_length ≤ start_of s.setup row i
   behind row i lt = (inside s.setup row i 0 lt (omega arith)).0
 
-  stored-front : (k b : ℕ) → take imageLength (storedData s m k b) ≡ take imageLength m
-  stored-front k b =
-      let safe = holds-safe m s h in
+  stored_front : (k b : ℕ) → take image_length (stored_data s m k b) ≡ take image_length m
+  stored_front k b =
+      let safe = holds_safe m s h in
       one_of (ltb s.incoming.reader.da 128) _ _ _
-      (stored-behind m (outputsAt s.setup (fillOf s.outputs.set.place)) s.setup.output_len k b
-      (behind outputRow (fillOf s.outputs.set.place) (safe.outputs.within role.fill (omega arith))))
+      (stored_behind m (outputs_at s.setup (fill_of s.outputs.set.place)) s.setup.output_len k b
+      (behind output_row (fill_of s.outputs.set.place) (safe.outputs.within role.fill (omega arith))))
       (one_of (eqb s.incoming.reader.dsap 61) _ _ _
-      (stored-behind m (parametersAt s.setup (fillOf s.parameters.set.place)) s.setup.parameter_len k b
-      (behind parameterRow (fillOf s.parameters.set.place) (safe.parameters.within role.fill (omega arith))))
+      (stored_behind m (parameters_at s.setup (fill_of s.parameters.set.place)) s.setup.parameter_len k b
+      (behind parameter_row (fill_of s.parameters.set.place) (safe.parameters.within role.fill (omega arith))))
       (one_of (eqb s.incoming.reader.dsap 62) _ _ _
-      (stored-behind m (configurationAt s.setup (fillOf s.configuration.set.place)) s.setup.configuration_len k b
-      (behind configurationRow (fillOf s.configuration.set.place) (safe.configuration.within role.fill (omega arith))))
+      (stored_behind m (configuration_at s.setup (fill_of s.configuration.set.place)) s.setup.configuration_len k b
+      (behind configuration_row (fill_of s.configuration.set.place) (safe.configuration.within role.fill (omega arith))))
       refl))
 
   -- ---- what the code leaves
 
   -- of a data octet
-  data-octet : (b : ℕ) (e : takesData s.incoming.reader ≡ true)
+  data_octet : (b : ℕ) (e : takes_data s.incoming.reader ≡ true)
       → let r = s.incoming.reader in
-      kept (withKept (withRead s (readerStep r b).at (readerStep r b).sum) r.at b) (storedData s m r.at b)
-      ≡ packedAfter (heard s m b false)
-  data-octet b e =
+      kept (with_kept (with_read s (reader_step r b).at (reader_step r b).sum) r.at b) (stored_data s m r.at b)
+      ≡ packed_after (heard s m b false)
+  data_octet b e =
       let r = s.incoming.reader in
-      (λ i. kept (withIncoming s (keptOctets s.incoming (data-changes r b e i) r.at b)) (storedData s m r.at b))
-      ∙ sym (ap packedAfter (heard-data s m b e))
+      (λ i. kept (with_incoming s (kept_octets s.incoming (data_changes r b e i) r.at b)) (stored_data s m r.at b))
+      ∙ sym (ap packed_after (heard_data s m b e))
 
   -- of an inner one that is no data
-  plain-octet : (b : ℕ) (bad : Bool) → is_plain s.incoming.reader (readerAfter s.incoming.reader b bad) ≡ true
-      → kept (read_by s (readerAfter s.incoming.reader b bad)) m ≡ packedAfter (heard s m b bad)
-  plain-octet b bad e = sym (ap packedAfter (heard-plain s m b bad e))
+  plain_octet : (b : ℕ) (bad : Bool) → is_plain s.incoming.reader (reader_after s.incoming.reader b bad) ≡ true
+      → kept (read_by s (reader_after s.incoming.reader b bad)) m ≡ packed_after (heard s m b bad)
+  plain_octet b bad e = sym (ap packed_after (heard_plain s m b bad e))
 
   -- of one that is ignored
-  ignored-octet : (b : ℕ) (bad : Bool) → isIgnored (status s.incoming.reader) ≡ true → m ≡ packedAfter (heard s m b bad)
-  ignored-octet b bad e = fronted-same m s h ∙ sym (ap packedAfter (heard-ignored s m b bad e))
+  ignored_octet : (b : ℕ) (bad : Bool) → is_ignored (status s.incoming.reader) ≡ true → m ≡ packed_after (heard s m b bad)
+  ignored_octet b bad e = fronted_same m s h ∙ sym (ap packed_after (heard_ignored s m b bad e))
 
   -- ---- the same of the values that the code has
 
   module _ (b : ℕ) (i : Incoming) (same : i ≡ s.incoming) where
     -- a data octet: n₀ after it was stored, n₁ after it was counted
-    pub leaves-data : takesData s.incoming.reader ≡ true → (n₀ n₁ : List ℕ) (x : Reader) (out : List ℕ)
-        → n₀ ≡ storedData s m i.reader.at b → x ≡ readerStep i.reader b
-        → Changes n₀ n₁ (λ u. withRead u x.at x.sum) → Changes n₁ out (λ u. withKept u i.reader.at b)
-        → out ≡ packedAfter (heard s m b false)
-    leaves-data e n₀ n₁ x out en ex k₁ k₂ =
-        let stored : n₀ ≡ storedData s m s.incoming.reader.at b = en ∙ (λ t. storedData s m (same t).reader.at b) in
-        let read : x ≡ readerStep s.incoming.reader b = ex ∙ (λ t. readerStep (same t).reader b) in
-        then n₀ n₁ out _ _ k₁ k₂ s (fronted m n₀ s h (ap (take imageLength) stored ∙ stored-front s.incoming.reader.at b))
-        ∙ (λ t. kept (withKept (withRead s (read t).at (read t).sum) (same t).reader.at b) (stored t))
-        ∙ data-octet b e
+    pub leaves_data : takes_data s.incoming.reader ≡ true → (n₀ n₁ : List ℕ) (x : Reader) (out : List ℕ)
+        → n₀ ≡ stored_data s m i.reader.at b → x ≡ reader_step i.reader b
+        → Changes n₀ n₁ (λ u. with_read u x.at x.sum) → Changes n₁ out (λ u. with_kept u i.reader.at b)
+        → out ≡ packed_after (heard s m b false)
+    leaves_data e n₀ n₁ x out en ex k₁ k₂ =
+        let stored : n₀ ≡ stored_data s m s.incoming.reader.at b = en ∙ (λ t. stored_data s m (same t).reader.at b) in
+        let read : x ≡ reader_step s.incoming.reader b = ex ∙ (λ t. reader_step (same t).reader b) in
+        then n₀ n₁ out _ _ k₁ k₂ s (fronted m n₀ s h (ap (take image_length) stored ∙ stored_front s.incoming.reader.at b))
+        ∙ (λ t. kept (with_kept (with_read s (read t).at (read t).sum) (same t).reader.at b) (stored t))
+        ∙ data_octet b e
 
     module _ (bad : Bool) where
       -- one that is ignored
-      pub leaves-ignored : (x : Status) (p : Bool) → x ≡ status i.reader → p ≡ isIgnored x → p ≡ true → m ≡ packedAfter (heard s m b bad)
-      leaves-ignored x p ex ep e =
-          ignored-octet b bad (sym (ep ∙ ap isIgnored ex ∙ (λ t. isIgnored (status (same t).reader))) ∙ e)
+      pub leaves_ignored : (x : Status) (p : Bool) → x ≡ status i.reader → p ≡ is_ignored x → p ≡ true → m ≡ packed_after (heard s m b bad)
+      leaves_ignored x p ex ep e =
+          ignored_octet b bad (sym (ep ∙ ap is_ignored ex ∙ (λ t. is_ignored (status (same t).reader))) ∙ e)
 
       -- next is the reader after the octet
-      module _ (next : Reader) (goes : next ≡ readerAfter i.reader b bad) where
-        after : next ≡ readerAfter s.incoming.reader b bad
-        after = goes ∙ (λ t. readerAfter (same t).reader b bad)
+      module _ (next : Reader) (goes : next ≡ reader_after i.reader b bad) where
+        after : next ≡ reader_after s.incoming.reader b bad
+        after = goes ∙ (λ t. reader_after (same t).reader b bad)
 
         -- an inner one that is no data
-        pub leaves-plain : (p : Bool) (j : Incoming) (out : List ℕ) → p ≡ is_plain i.reader next → p ≡ true → j ≡ read_on i next
-            → Changes m out (λ u. withIncoming u j) → out ≡ packedAfter (heard s m b bad)
-        leaves-plain p j out ep e ej k =
-            k s (fronted-same m s h)
-            ∙ (λ t. kept (withIncoming s (ej t)) m)
-            ∙ (λ t. kept (withIncoming s (read_on (same t) (after t))) m)
-            ∙ plain-octet b bad (sym (ep ∙ (λ t. is_plain (same t).reader (after t))) ∙ e)
+        pub leaves_plain : (p : Bool) (j : Incoming) (out : List ℕ) → p ≡ is_plain i.reader next → p ≡ true → j ≡ read_on i next
+            → Changes m out (λ u. with_incoming u j) → out ≡ packed_after (heard s m b bad)
+        leaves_plain p j out ep e ej k =
+            k s (fronted_same m s h)
+            ∙ (λ t. kept (with_incoming s (ej t)) m)
+            ∙ (λ t. kept (with_incoming s (read_on (same t) (after t))) m)
+            ∙ plain_octet b bad (sym (ep ∙ (λ t. is_plain (same t).reader (after t))) ∙ e)
 
         -- the octet is not ignored; y: what the octets are with it
-        module _ (x : Status) (p : Bool) (ex : x ≡ status i.reader) (ep : p ≡ isIgnored x) (e : p ≡ false) (y : Status) (ey : y ≡ status next) where
+        module _ (x : Status) (p : Bool) (ex : x ≡ status i.reader) (ep : p ≡ is_ignored x) (e : p ≡ false) (y : Status) (ey : y ≡ status next) where
           -- that decides
-          heard-so : heardAs y s m next b ≡ heard s m b bad
-          heard-so =
-              (λ r. heardAs ((ey ∙ ap status after) r) s m (after r) b)
-              ∙ sym (heard-other s m b bad (sym (ep ∙ ap isIgnored ex ∙ (λ r. isIgnored (status (same r).reader))) ∙ e))
+          heard_so : heard_as y s m next b ≡ heard s m b bad
+          heard_so =
+              (λ r. heard_as ((ey ∙ ap status after) r) s m (after r) b)
+              ∙ sym (heard_other s m b bad (sym (ep ∙ ap is_ignored ex ∙ (λ r. is_ignored (status (same r).reader))) ∙ e))
 
           -- what becomes of it
-          pub leaves-turn : (out : List ℕ) → ((b : ℕ) → out ≡ packedAfter (heardAs y s m next b)) → out ≡ packedAfter (heard s m b bad)
-          leaves-turn out k = k b ∙ ap packedAfter heard-so
+          pub leaves_turn : (out : List ℕ) → ((b : ℕ) → out ≡ packed_after (heard_as y s m next b)) → out ≡ packed_after (heard s m b bad)
+          leaves_turn out k = k b ∙ ap packed_after heard_so

@@ -11,19 +11,19 @@ use Rattle.state.specs.declared.state.State.{State}
 use Rattle.state.specs.Answer.{Meets}
 use Rattle.state.specs.Memory.{kept}
 use Rattle.state.specs.Well.{within}
-use Rattle.state.specs.With.{withControl, withControlButChain, withOutputs}
+use Rattle.state.specs.With.{with_control, with_control_but_chain, with_outputs}
 use Rattle.rules.specs.declared.outcome.Outcome.{Outcome}
-use Rattle.rules.specs.Control.{withChain}
+use Rattle.rules.specs.Control.{with_chain}
 use Rattle.rules.specs.Diagnosis.{delayed, diagnosed, delaying}
-use Rattle.rules.specs.Line.{clearOn}
-use Rattle.rules.specs.User.{judgedParameters, judgedConfiguration}
-use Rattle.rules.specs.Retries.{onChain}
-use Rattle.rules.proofs.Served.{Quiet, clear-quiet, parameters-quiet, configuration-quiet, chain-stays}
-use Rattle.steps.specs.Stepped.{packedAfter, told, toldOf}
-use Rattle.steps.specs.Line.{busy, diagnosisLeaves}
-use Rattle.steps.specs.Outcome.{isOpen, diagnosisChanged, carried}
+use Rattle.rules.specs.Line.{clear_on}
+use Rattle.rules.specs.User.{judged_parameters, judged_configuration}
+use Rattle.rules.specs.Retries.{on_chain}
+use Rattle.rules.proofs.Served.{Quiet, clear_quiet, parameters_quiet, configuration_quiet, chain_stays}
+use Rattle.steps.specs.Stepped.{packed_after, told, told_of}
+use Rattle.steps.specs.Line.{busy, diagnosis_leaves}
+use Rattle.steps.specs.Outcome.{is_open, diagnosis_changed, carried}
 use Rattle.steps.specs.Step.{packed}
-use Rattle.steps.specs.User.{takeOutputs, newDiagnosis, judgeParameters, judgeConfiguration, leaveMaster}
+use Rattle.steps.specs.User.{take_outputs, new_diagnosis, judge_parameters, judge_configuration, leave_master}
 
 module _ (s : State) (m : List ℕ) where
   -- ---- take outputs
@@ -34,20 +34,20 @@ module _ (s : State) (m : List ℕ) where
     seen e = (λ i. not (sym same i).set.fresh) ∙ e
 
     -- they are not new
-    pub takes_none : not outputs.set.fresh ≡ true → m ≡ kept s m → Meets (packed m (takeOutputs s m)) (Value 0) m
-    unfolding takeOutputs
+    pub takes_none : not outputs.set.fresh ≡ true → m ≡ kept s m → Meets (packed m (take_outputs s m)) (Value 0) m
+    unfolding take_outputs
     takes_none e front = rw (seen e) (record { answers = refl; leaves = front })
 
     -- they are
-    pub takes-new : not outputs.set.fresh ≡ false → {set : Quad} {k : ℕ} {n : List ℕ} → set ≡ taken outputs.set
-        → k ≡ cond outputs.zeros 2 1 → n ≡ kept (withOutputs s (record { set = set; zeros = outputs.zeros })) m
-        → Meets (packed m (takeOutputs s m)) (Value k) n
-    unfolding takeOutputs
-    takes-new e f g h =
+    pub takes_new : not outputs.set.fresh ≡ false → {set : Quad} {k : ℕ} {n : List ℕ} → set ≡ taken outputs.set
+        → k ≡ cond outputs.zeros 2 1 → n ≡ kept (with_outputs s (record { set = set; zeros = outputs.zeros })) m
+        → Meets (packed m (take_outputs s m)) (Value k) n
+    unfolding take_outputs
+    takes_new e f g h =
         rw (seen e)
         (record {
           answers = ap Value (g ∙ (λ i. cond (same i).zeros 2 1));
-          leaves = h ∙ (λ i. kept (withOutputs s (record { set = (f ∙ (λ j. taken (same j).set)) i; zeros = (same i).zeros })) m);
+          leaves = h ∙ (λ i. kept (with_outputs s (record { set = (f ∙ (λ j. taken (same j).set)) i; zeros = (same i).zeros })) m);
         })
 
   module _ {control : Control} (same : control ≡ s.control) where
@@ -57,77 +57,77 @@ module _ (s : State) (m : List ℕ) where
     module _ {setup : Setup} (same-setup : setup ≡ s.setup) (count flags : ℕ)
         (ranged : not (within 6 count setup.diagnosis_len && leb flags 7) ≡ false)
         {waits : Bool} (tested : waits ≡ delayed control) (none : waits ≡ false)
-        {leaves : Bool} (leaving : leaves ≡ diagnosisLeaves s) where
+        {leaves : Bool} (leaving : leaves ≡ diagnosis_leaves s) where
       -- so it is given
       given : {t : Bool} → leaves ≡ t
-          → newDiagnosis s m count flags
-          ≡ cond t (told 0 (withControl s (delaying s.control count flags)) m)
-          (told 0 (diagnosisChanged s (diagnosed s.control count flags)) m)
-      unfolding newDiagnosis
+          → new_diagnosis s m count flags
+          ≡ cond t (told 0 (with_control s (delaying s.control count flags)) m)
+          (told 0 (diagnosis_changed s (diagnosed s.control count flags)) m)
+      unfolding new_diagnosis
       given e =
-          let in-range : not (within 6 count s.setup.diagnosis_len && leb flags 7) ≡ false =
+          let in_range_lem : not (within 6 count s.setup.diagnosis_len && leb flags 7) ≡ false =
           (λ i. not (within 6 count (sym same-setup i).diagnosis_len && leb flags 7)) ∙ ranged
           in
-          rw (in-range, sym (tested ∙ ap delayed same) ∙ none, sym leaving ∙ e)
+          rw (in_range_lem, sym (tested ∙ ap delayed same) ∙ none, sym leaving ∙ e)
 
       -- it waits while a Slave_Diag reply is unfinished
-      pub delays-diagnosis : leaves ≡ true → {new : Control} {n : List ℕ} → new ≡ delaying control count flags → n ≡ kept (withControlButChain s new) m
-          → Meets (packed m (newDiagnosis s m count flags)) (Value 0) n
+      pub delays_diagnosis : leaves ≡ true → {new : Control} {n : List ℕ} → new ≡ delaying control count flags → n ≡ kept (with_control_but_chain s new) m
+          → Meets (packed m (new_diagnosis s m count flags)) (Value 0) n
       unfolding delaying
-      delays-diagnosis e f g =
+      delays_diagnosis e f g =
           rw (given e)
-          (record { answers = refl; leaves = g ∙ (λ i. kept (withControlButChain s ((f ∙ (λ j. delaying (same j) count flags)) i)) m) })
+          (record { answers = refl; leaves = g ∙ (λ i. kept (with_control_but_chain s ((f ∙ (λ j. delaying (same j) count flags)) i)) m) })
 
       -- else it takes effect
-      pub changes-diagnosis : leaves ≡ false → {new : Control} {n : List ℕ} → new ≡ diagnosed control count flags → n ≡ kept (diagnosisChanged s (withChain new s.control.chain)) m
-          → Meets (packed m (newDiagnosis s m count flags)) (Value 0) n
+      pub changes_diagnosis : leaves ≡ false → {new : Control} {n : List ℕ} → new ≡ diagnosed control count flags → n ≡ kept (diagnosis_changed s (with_chain new s.control.chain)) m
+          → Meets (packed m (new_diagnosis s m count flags)) (Value 0) n
       unfolding diagnosed
-      changes-diagnosis e f g =
+      changes_diagnosis e f g =
           rw (given e)
           (record {
             answers = refl;
-            leaves = g ∙ (λ i. kept (diagnosisChanged s (withChain ((f ∙ (λ j. diagnosed (same j) count flags)) i) s.control.chain)) m);
+            leaves = g ∙ (λ i. kept (diagnosis_changed s (with_chain ((f ∙ (λ j. diagnosed (same j) count flags)) i) s.control.chain)) m);
           })
 
     -- ---- an outcome carried out
 
-    module _ {o : Outcome} {n : List ℕ} (left : n ≡ packedAfter (carried s m (onChain o s.control.chain) 0)) where
+    module _ {o : Outcome} {n : List ℕ} (left : n ≡ packed_after (carried s m (on_chain o s.control.chain) 0)) where
       -- the outcome p, which leaves the chain, and j is told
-      tells-carried : (j : ℕ) (p : Outcome) {k : ℕ} → k ≡ j → o ≡ p → Quiet s.setup s.control Unit p
-          → Meets (packed m (toldOf j (carried s m p 0))) (Value k) n
-      tells-carried j p e f q =
+      tells_carried : (j : ℕ) (p : Outcome) {k : ℕ} → k ≡ j → o ≡ p → Quiet s.setup s.control Unit p
+          → Meets (packed m (told_of j (carried s m p 0))) (Value k) n
+      tells_carried j p e f q =
           record {
             answers = ap Value e;
-            leaves = left ∙ ap (λ (x : Outcome). packedAfter (carried s m x 0)) (ap (λ (x : Outcome). onChain x s.control.chain) f ∙ chain-stays q);
+            leaves = left ∙ ap (λ (x : Outcome). packed_after (carried s m x 0)) (ap (λ (x : Outcome). on_chain x s.control.chain) f ∙ chain_stays q);
           }
 
       -- leave master
-      pub leaves-master : {b : Bool} → b ≡ busy s → o ≡ clearOn b control → Meets (packed m (leaveMaster s m)) (Value 0) n
-      unfolding leaveMaster
-      leaves-master e f =
-          tells-carried 0 _ refl (f ∙ (λ i. clearOn (e i) (same i))) (clear-quiet s.setup s.control (busy s) (λ _. tt))
+      pub leaves_master : {b : Bool} → b ≡ busy s → o ≡ clear_on b control → Meets (packed m (leave_master s m)) (Value 0) n
+      unfolding leave_master
+      leaves_master e f =
+          tells_carried 0 _ refl (f ∙ (λ i. clear_on (e i) (same i))) (clear_quiet s.setup s.control (busy s) (λ _. tt))
 
       -- a set that is open is judged
-      module _ (j : ℕ) (known : not (leb j 1) ≡ false) {sets : Sets} {b : Bool} (tested : b ≡ isOpen sets)
+      module _ (j : ℕ) (known : not (leb j 1) ≡ false) {sets : Sets} {b : Bool} (tested : b ≡ is_open sets)
           {k : ℕ} (tells : k ≡ cond sets.set.fresh 1 0) where
-        pub judges-parameters : sets ≡ s.parameters → not b ≡ false → o ≡ judgedParameters control sets.set.fresh (eqb j 1)
-            → Meets (packed m (judgeParameters s m j)) (Value k) n
-        unfolding judgeParameters
-        judges-parameters e f g =
-            rw (ap not (sym (tested ∙ ap isOpen e)) ∙ f, known)
-            (tells-carried _ _ (tells ∙ (λ i. cond (e i).set.fresh 1 0))
-            (g ∙ (λ i. judgedParameters (same i) (e i).set.fresh (eqb j 1)))
-            (parameters-quiet s.setup s.control s.parameters.set.fresh (eqb j 1) tt))
+        pub judges_parameters : sets ≡ s.parameters → not b ≡ false → o ≡ judged_parameters control sets.set.fresh (eqb j 1)
+            → Meets (packed m (judge_parameters s m j)) (Value k) n
+        unfolding judge_parameters
+        judges_parameters e f g =
+            rw (ap not (sym (tested ∙ ap is_open e)) ∙ f, known)
+            (tells_carried _ _ (tells ∙ (λ i. cond (e i).set.fresh 1 0))
+            (g ∙ (λ i. judged_parameters (same i) (e i).set.fresh (eqb j 1)))
+            (parameters_quiet s.setup s.control s.parameters.set.fresh (eqb j 1) tt))
 
         -- configuration not before good parameters
-        pub judges-configuration : sets ≡ s.configuration → not (b && control.flags.parameters_good) ≡ false
-            → o ≡ judgedConfiguration control sets.set.fresh (eqb j 1) → Meets (packed m (judgeConfiguration s m j)) (Value k) n
-        unfolding judgeConfiguration
-        judges-configuration e f g =
-            let open-good : not (isOpen s.configuration && s.control.flags.parameters_good) ≡ false =
-            (λ i. not (sym (tested ∙ ap isOpen e) i && (sym same i).flags.parameters_good)) ∙ f
+        pub judges_configuration : sets ≡ s.configuration → not (b && control.flags.parameters_good) ≡ false
+            → o ≡ judged_configuration control sets.set.fresh (eqb j 1) → Meets (packed m (judge_configuration s m j)) (Value k) n
+        unfolding judge_configuration
+        judges_configuration e f g =
+            let open-good : not (is_open s.configuration && s.control.flags.parameters_good) ≡ false =
+            (λ i. not (sym (tested ∙ ap is_open e) i && (sym same i).flags.parameters_good)) ∙ f
             in
             rw (open-good, known)
-            (tells-carried _ _ (tells ∙ (λ i. cond (e i).set.fresh 1 0))
-            (g ∙ (λ i. judgedConfiguration (same i) (e i).set.fresh (eqb j 1)))
-            (configuration-quiet s.setup s.control s.configuration.set.fresh (eqb j 1) tt))
+            (tells_carried _ _ (tells ∙ (λ i. cond (e i).set.fresh 1 0))
+            (g ∙ (λ i. judged_configuration (same i) (e i).set.fresh (eqb j 1)))
+            (configuration_quiet s.setup s.control s.configuration.set.fresh (eqb j 1) tt))

@@ -2,14 +2,14 @@
 ghost use Rattle.std.specs.Prelude.{◌≡◌};
 ghost use Rattle.state.specs.Memory.{Holds};
 ghost use Rattle.state.specs.Unpack.{unpacked};
-ghost use Rattle.state.specs.Start.{noReply};
-ghost use Rattle.state.specs.With.{withReply};
+ghost use Rattle.state.specs.Start.{no_reply};
+ghost use Rattle.state.specs.With.{with_reply};
 ghost use Rattle.steps.specs.Safe.{Safe};
-ghost use Rattle.steps.specs.Stepped.{Steps, packedAfter};
+ghost use Rattle.steps.specs.Stepped.{Steps, packed_after};
 ghost use Rattle.steps.specs.Line.{begun};
 ghost use Rattle.steps.specs.Outcome.{settle};
 ghost use Rattle.steps.specs.Reading.{read_by};
-ghost use Rattle.steps.specs.Bus.{paused, sendTold, sendLeft, silencedReader, elapsed};
+ghost use Rattle.steps.specs.Bus.{paused, send_told, send_left, silenced_reader, elapsed};
 
 use crate::hearing::drop_reply;
 use crate::reading::{read_by, read_on};
@@ -36,7 +36,7 @@ pub fn pause(s: State, mem: &mut [u8]) -> State
 // A gap over the memory: the reader is packed, and what waited is settled.
 pub fn gap(mem: &mut [u8])
     requires { Holds mem.old (unpacked mem.old) }
-    ensures { mem.new ≡ packedAfter (paused (unpacked mem.old) mem.old) }
+    ensures { mem.new ≡ packed_after (paused (unpacked mem.old) mem.old) }
 {
     let old = load::incoming(&mem[..]);
     save_incoming(read_on(old, Reader::start()), mem);
@@ -46,7 +46,7 @@ pub fn gap(mem: &mut [u8])
 // Send answers the next octet of the reply, 256 when no octet is left.
 pub fn send(mem: &mut [u8]) -> u16
     requires { Holds mem.old (unpacked mem.old) }
-    ensures { (result ≡ sendTold (unpacked mem.old) mem.old) × (mem.new ≡ packedAfter (sendLeft (unpacked mem.old) mem.old)) }
+    ensures { (result ≡ send_told (unpacked mem.old) mem.old) × (mem.new ≡ packed_after (send_left (unpacked mem.old) mem.old)) }
 {
     let reply = load::reply(&mem[..]);
     let sender = reply.sender;
@@ -62,7 +62,7 @@ pub fn send(mem: &mut [u8]) -> u16
 
 // The reading that a Tick leaves: a telegram that is coming is dropped.
 fn silenced_reader(inside: bool, reader: Reader) -> Reader
-    ensures { result ≡ silencedReader inside reader }
+    ensures { result ≡ silenced_reader inside reader }
 {
     if inside {
         return Reader::off();
@@ -73,7 +73,7 @@ fn silenced_reader(inside: bool, reader: Reader) -> Reader
 // The next Tick after a clear was noted drops telegram or reply, so that the clear is carried out.
 fn silence(s: State, mem: &mut [u8]) -> State
     requires { Safe s mem.old }
-    ensures { Steps (settle (withReply (read_by s (silencedReader (begun s) s.incoming.reader)) noReply) mem.old) result mem.new }
+    ensures { Steps (settle (with_reply (read_by s (silenced_reader (begun s) s.incoming.reader)) no_reply) mem.old) result mem.new }
 {
     let reader = silenced_reader(begun(s), s.incoming.reader);
     let mut t = read_by(s, reader);
@@ -84,7 +84,7 @@ fn silence(s: State, mem: &mut [u8]) -> State
 // The same over the memory. The clear waits, so that the line is settled without a look whether something does.
 fn silence_over(mem: &mut [u8])
     requires { Holds mem.old (unpacked mem.old) }
-    ensures { mem.new ≡ packedAfter (settle (withReply (read_by (unpacked mem.old) (silencedReader (begun (unpacked mem.old)) (unpacked mem.old).incoming.reader)) noReply) mem.old) }
+    ensures { mem.new ≡ packed_after (settle (with_reply (read_by (unpacked mem.old) (silenced_reader (begun (unpacked mem.old)) (unpacked mem.old).incoming.reader)) no_reply) mem.old) }
 {
     let old = load::incoming(&mem[..]);
     let reader = old.reader;
@@ -116,7 +116,7 @@ pub fn elapse(mut s: State, mem: &mut [u8]) -> State
 // A Tick over the memory, whatever comes of it.
 fn tick_whole(mem: &mut [u8])
     requires { Holds mem.old (unpacked mem.old) }
-    ensures { mem.new ≡ packedAfter (elapsed (unpacked mem.old) mem.old) }
+    ensures { mem.new ≡ packed_after (elapsed (unpacked mem.old) mem.old) }
 {
     let control = load::control(&mem[..]);
     if control.noted {
@@ -130,7 +130,7 @@ fn tick_whole(mem: &mut [u8])
 // what is called at one the compiler takes in, and every Tick would save the registers that it needs.
 pub fn tick(mem: &mut [u8])
     requires { Holds mem.old (unpacked mem.old) }
-    ensures { mem.new ≡ packedAfter (elapsed (unpacked mem.old) mem.old) }
+    ensures { mem.new ≡ packed_after (elapsed (unpacked mem.old) mem.old) }
 {
     let control = load::control(&mem[..]);
     if control.noted {

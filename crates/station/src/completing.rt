@@ -3,16 +3,16 @@
 // the line, Slave_Diag, which a master sends more often than the rest, and a repeat, which changes the watchdog alone, have ways of
 // their own.
 ghost use Rattle.std.specs.Prelude.{◌≡◌, ◌≤◌, true, false, length, if◌then◌else◌};
-ghost use Rattle.state.specs.Layout.{imageLength};
+ghost use Rattle.state.specs.Layout.{image_length};
 ghost use Rattle.state.specs.Memory.{Holds, Changes};
 ghost use Rattle.state.specs.Unpack.{unpacked};
-ghost use Rattle.state.specs.With.{withReply, withChain};
+ghost use Rattle.state.specs.With.{with_reply, with_chain};
 ghost use Rattle.rules.specs.declared.request.Service.TheVariants.{SlaveDiag};
-ghost use Rattle.rules.specs.Requests.{masterOf, acts, serviceOf};
-ghost use Rattle.rules.specs.Retries.{asks, chainBy};
-ghost use Rattle.steps.specs.Reading.{requestBy, prmIn};
-ghost use Rattle.steps.specs.Replies.{exchangeSender};
-ghost use Rattle.station.specs.Completing.{completedBy, served, answeredBy, isRepeatIn, isDataExchange, isGoodExchange, exchangeDrew, repliedWith};
+ghost use Rattle.rules.specs.Requests.{master_of, acts, service_of};
+ghost use Rattle.rules.specs.Retries.{asks, chain_by};
+ghost use Rattle.steps.specs.Reading.{request_by, prm_in};
+ghost use Rattle.steps.specs.Replies.{exchange_sender};
+ghost use Rattle.station.specs.Completing.{completed_by, served, answered_by, is_repeat_in, is_data_exchange, is_good_exchange, exchange_drew, replied_with};
 
 use crate::reading::{prm_at, request_by};
 use crate::replies::draw;
@@ -41,7 +41,7 @@ use telegram::sender::Sender;
 // The octets of Set_Prm in the parameters' fill buffer.
 fn prm_in(mem: &[u8]) -> Prm
     requires { Holds mem.now (unpacked mem.now) }
-    ensures { result ≡ prmIn (unpacked mem.now) mem.now }
+    ensures { result ≡ prm_in (unpacked mem.now) mem.now }
 {
     let setup = load::setup(mem);
     let parameters = load::parameters(mem);
@@ -50,7 +50,7 @@ fn prm_in(mem: &[u8]) -> Prm
 
 // What comes of the service that a telegram asks for.
 fn served_in(mem: &[u8], r: Request, service: Service) -> Outcome
-    requires { (Holds mem.now (unpacked mem.now)) × (service ≡ serviceOf (unpacked mem.now).setup r) }
+    requires { (Holds mem.now (unpacked mem.now)) × (service ≡ service_of (unpacked mem.now).setup r) }
     ensures { result ≡ served (unpacked mem.now) mem.now r }
 {
     let setup = load::setup(mem);
@@ -72,8 +72,8 @@ fn served_in(mem: &[u8], r: Request, service: Service) -> Outcome
 
 // If the telegram is a request, the next one is compared with it, or with none where its frame count bit does not count.
 fn keep_request(mem: &mut [u8], r: Request, drawn: Drawn)
-    requires { imageLength ≤ length mem.old }
-    ensures { Changes mem.old mem.new (λ s. withChain s (if asks r then chainBy r drawn else s.control.chain)) }
+    requires { image_length ≤ length mem.old }
+    ensures { Changes mem.old mem.new (λ s. with_chain s (if asks r then chain_by r drawn else s.control.chain)) }
 {
     if asks(r) {
         save_chain(chain_by(r, drawn), mem);
@@ -84,7 +84,7 @@ fn keep_request(mem: &mut [u8], r: Request, drawn: Drawn)
 // chain as it is.
 fn answer(mem: &mut [u8], o: Outcome, i: Incoming, r: Request)
     requires { (Holds mem.old (unpacked mem.old)) × (acts (unpacked mem.old).setup r ≡ true) }
-    ensures { mem.new ≡ answeredBy mem.old i r o }
+    ensures { mem.new ≡ answered_by mem.old i r o }
 {
     let drawn = o.drawn;
     let deed = o.outputs;
@@ -99,7 +99,7 @@ fn answer(mem: &mut [u8], o: Outcome, i: Incoming, r: Request)
 
 // Whether a service is Data_Exchange.
 fn is_data_exchange(service: Service) -> bool
-    ensures { result ≡ isDataExchange service }
+    ensures { result ≡ is_data_exchange service }
 {
     match service {
         Service::Nothing => false,
@@ -118,8 +118,8 @@ fn is_data_exchange(service: Service) -> bool
 
 // Whether a telegram is a good Data_Exchange.
 fn is_good_exchange(mem: &[u8], r: Request, service: Service) -> bool
-    requires { (Holds mem.now (unpacked mem.now)) × (service ≡ serviceOf (unpacked mem.now).setup r) }
-    ensures { result ≡ isGoodExchange (unpacked mem.now) r }
+    requires { (Holds mem.now (unpacked mem.now)) × (service ≡ service_of (unpacked mem.now).setup r) }
+    ensures { result ≡ is_good_exchange (unpacked mem.now) r }
 {
     let setup = load::setup(mem);
     is_data_exchange(service) & exchanges(load::control(mem), r) & (r.count == setup.output_len)
@@ -127,7 +127,7 @@ fn is_good_exchange(mem: &[u8], r: Request, service: Service) -> bool
 
 // The reply to Data_Exchange with this sender.
 fn exchange_reply(sender: Sender, held: u8, header: Header) -> Reply
-    ensures { result ≡ repliedWith sender held header }
+    ensures { result ≡ replied_with sender held header }
 {
     Reply {
         drawn: Drawn::Exchange,
@@ -148,8 +148,8 @@ fn reply_exchange(
     held: u8,
     header: Header,
 )
-    requires { imageLength ≤ length mem.old }
-    ensures { Changes mem.old mem.new (λ s. withReply (withChain s (chainBy r (exchangeDrew setup control))) (repliedWith (exchangeSender setup control (masterOf r)) held header)) }
+    requires { image_length ≤ length mem.old }
+    ensures { Changes mem.old mem.new (λ s. with_reply (with_chain s (chain_by r (exchange_drew setup control))) (replied_with (exchange_sender setup control (master_of r)) held header)) }
 {
     let master = master_of(r);
     let fc = exchange_fc(control);
@@ -171,8 +171,8 @@ fn reply_exchange(
 
 // A good Data_Exchange: its data is published, or held back in sync.
 fn exchange(mem: &mut [u8], i: Incoming, r: Request)
-    requires { (Holds mem.old (unpacked mem.old)) × (isGoodExchange (unpacked mem.old) r ≡ true) × (isRepeatIn (unpacked mem.old) r ≡ false) }
-    ensures { mem.new ≡ completedBy mem.old i r }
+    requires { (Holds mem.old (unpacked mem.old)) × (is_good_exchange (unpacked mem.old) r ≡ true) × (is_repeat_in (unpacked mem.old) r ≡ false) }
+    ensures { mem.new ≡ completed_by mem.old i r }
 {
     let setup = load::setup(&mem[..]);
     let control = refilled(setup, load::control(&mem[..]), r);
@@ -191,8 +191,8 @@ fn exchange(mem: &mut [u8], i: Incoming, r: Request)
 
 // Slave_Diag: of the station's own parts it changes the control part alone.
 fn diagnose(mem: &mut [u8], i: Incoming, r: Request)
-    requires { (Holds mem.old (unpacked mem.old)) × (serviceOf (unpacked mem.old).setup r ≡ SlaveDiag) × (isRepeatIn (unpacked mem.old) r ≡ false) }
-    ensures { mem.new ≡ completedBy mem.old i r }
+    requires { (Holds mem.old (unpacked mem.old)) × (service_of (unpacked mem.old).setup r ≡ SlaveDiag) × (is_repeat_in (unpacked mem.old) r ≡ false) }
+    ensures { mem.new ≡ completed_by mem.old i r }
 {
     let setup = load::setup(&mem[..]);
     let o = slave_diag(refilled(setup, load::control(&mem[..]), r), r);
@@ -212,8 +212,8 @@ fn diagnose(mem: &mut [u8], i: Incoming, r: Request)
 
 // A repeat draws the reply again: of the station's own parts it changes the owner's watchdog alone.
 fn repeat(mem: &mut [u8], i: Incoming, r: Request)
-    requires { (Holds mem.old (unpacked mem.old)) × (isRepeatIn (unpacked mem.old) r ≡ true) }
-    ensures { mem.new ≡ completedBy mem.old i r }
+    requires { (Holds mem.old (unpacked mem.old)) × (is_repeat_in (unpacked mem.old) r ≡ true) }
+    ensures { mem.new ≡ completed_by mem.old i r }
 {
     let setup = load::setup(&mem[..]);
     let control = refilled(setup, load::control(&mem[..]), r);
@@ -233,8 +233,8 @@ fn repeat(mem: &mut [u8], i: Incoming, r: Request)
 
 // A telegram that acts and is no repeat, by the service that it asks for.
 fn apply(mem: &mut [u8], i: Incoming, r: Request, service: Service)
-    requires { (Holds mem.old (unpacked mem.old)) × (service ≡ serviceOf (unpacked mem.old).setup r) × (acts (unpacked mem.old).setup r ≡ true) × (isRepeatIn (unpacked mem.old) r ≡ false) }
-    ensures { mem.new ≡ completedBy mem.old i r }
+    requires { (Holds mem.old (unpacked mem.old)) × (service ≡ service_of (unpacked mem.old).setup r) × (acts (unpacked mem.old).setup r ≡ true) × (is_repeat_in (unpacked mem.old) r ≡ false) }
+    ensures { mem.new ≡ completed_by mem.old i r }
 {
     if is_good_exchange(&mem[..], r, service) {
         exchange(mem, i, r);
@@ -250,7 +250,7 @@ fn apply(mem: &mut [u8], i: Incoming, r: Request, service: Service)
 // A telegram that does not act draws nothing.
 fn pass_by(mem: &mut [u8], i: Incoming, r: Request)
     requires { (Holds mem.old (unpacked mem.old)) × (acts (unpacked mem.old).setup r ≡ false) }
-    ensures { mem.new ≡ completedBy mem.old i r }
+    ensures { mem.new ≡ completed_by mem.old i r }
 {
     let control = load::control(&mem[..]);
     let outputs = load::outputs(&mem[..]);
@@ -268,7 +268,7 @@ fn pass_by(mem: &mut [u8], i: Incoming, r: Request)
 // A last octet applies Services; octets are ignored until a gap. i: the telegram, read to its end.
 pub fn complete(mem: &mut [u8], i: Incoming)
     requires { Holds mem.old (unpacked mem.old) }
-    ensures { mem.new ≡ completedBy mem.old i (requestBy i.reader) }
+    ensures { mem.new ≡ completed_by mem.old i (request_by i.reader) }
 {
     let reader = i.reader;
     let r = request_by(reader);

@@ -1,14 +1,14 @@
 // The bus's octet over the memory that holds the state: an octet reads and writes only the parts of the state that it needs.
 // Every step leaves the memory as the step on the unpacked state (`reading`) would leave it, packed again.
 ghost use Rattle.std.specs.Prelude.{◌≡◌, ℕ, ◌≤◌, true, false, length};
-ghost use Rattle.telegram.specs.Reading.{takesData};
-ghost use Rattle.state.specs.Layout.{imageLength};
+ghost use Rattle.telegram.specs.Reading.{takes_data};
+ghost use Rattle.state.specs.Layout.{image_length};
 ghost use Rattle.state.specs.Memory.{Holds, Changes};
-ghost use Rattle.state.specs.Start.{noReply};
+ghost use Rattle.state.specs.Start.{no_reply};
 ghost use Rattle.state.specs.Unpack.{unpacked};
-ghost use Rattle.state.specs.With.{withIncoming, withReply};
-ghost use Rattle.steps.specs.Stepped.{packedAfter};
-ghost use Rattle.steps.specs.Reading.{storedData, heardAs, heard};
+ghost use Rattle.state.specs.With.{with_incoming, with_reply};
+ghost use Rattle.steps.specs.Stepped.{packed_after};
+ghost use Rattle.steps.specs.Reading.{stored_data, heard_as, heard};
 ghost use Rattle.station.specs.Hearing.{is_plain, Turns};
 
 use crate::completing::complete;
@@ -25,7 +25,7 @@ use telegram::reader::{Reader, Status};
 // A data octet into the fill buffer of the set that the header names; no other set is read.
 fn store_received(mem: &mut [u8], k: u8, b: u8)
     requires { Holds mem.old (unpacked mem.old) }
-    ensures { mem.new ≡ storedData (unpacked mem.old) mem.old k b }
+    ensures { mem.new ≡ stored_data (unpacked mem.old) mem.old k b }
 {
     let setup = load::setup(&mem[..]);
     let incoming = load::incoming(&mem[..]);
@@ -50,8 +50,8 @@ fn store_received(mem: &mut [u8], k: u8, b: u8)
 
 // A data octet: it is stored, and the reader counts it.
 fn hear_data(mem: &mut [u8], b: u8)
-    requires { (Holds mem.old (unpacked mem.old)) × (takesData (unpacked mem.old).incoming.reader ≡ true) }
-    ensures { mem.new ≡ packedAfter (heard (unpacked mem.old) mem.old b false) }
+    requires { (Holds mem.old (unpacked mem.old)) × (takes_data (unpacked mem.old).incoming.reader ≡ true) }
+    ensures { mem.new ≡ packed_after (heard (unpacked mem.old) mem.old b false) }
 {
     let old = load::incoming(&mem[..]);
     let reader = old.reader;
@@ -71,8 +71,8 @@ fn is_plain(reader: Reader, next: Reader) -> bool
 
 // The telegram that is coming, with an unfinished reply dropped.
 pub fn drop_reply(mem: &mut [u8], i: Incoming)
-    requires { imageLength ≤ length mem.old }
-    ensures { Changes mem.old mem.new (λ s. withReply (withIncoming s i) noReply) }
+    requires { image_length ≤ length mem.old }
+    ensures { Changes mem.old mem.new (λ s. with_reply (with_incoming s i) no_reply) }
 {
     save_incoming(i, mem);
     save_reply(no_reply(), mem);
@@ -81,7 +81,7 @@ pub fn drop_reply(mem: &mut [u8], i: Incoming)
 // Octets that begin, end or break off a telegram; next: the reader after the octet. A beginning drops an unfinished reply.
 fn turn(status: Status, mem: &mut [u8], old: Incoming, next: Reader)
     requires { Turns mem.old old next status }
-    ensures { (b : ℕ) → mem.new ≡ packedAfter (heardAs status (unpacked mem.old) mem.old next b) }
+    ensures { (b : ℕ) → mem.new ≡ packed_after (heard_as status (unpacked mem.old) mem.old next b) }
 {
     match status {
         Status::Fresh => {}
@@ -102,8 +102,8 @@ fn turn(status: Status, mem: &mut [u8], old: Incoming, next: Reader)
 
 // Any octet but good data: one that is ignored changes nothing, an inner one only the reader.
 fn hear_other(mem: &mut [u8], b: u8, bad: bool)
-    requires { (Holds mem.old (unpacked mem.old)) × (takesData (unpacked mem.old).incoming.reader ≡ true → bad ≡ true) }
-    ensures { mem.new ≡ packedAfter (heard (unpacked mem.old) mem.old b bad) }
+    requires { (Holds mem.old (unpacked mem.old)) × (takes_data (unpacked mem.old).incoming.reader ≡ true → bad ≡ true) }
+    ensures { mem.new ≡ packed_after (heard (unpacked mem.old) mem.old b bad) }
 {
     let old = load::incoming(&mem[..]);
     let reader = old.reader;
@@ -121,7 +121,7 @@ fn hear_other(mem: &mut [u8], b: u8, bad: bool)
 // The bus's octet over the memory. Most octets are data.
 pub fn hear_octet(mem: &mut [u8], b: u8, bad: bool)
     requires { Holds mem.old (unpacked mem.old) }
-    ensures { mem.new ≡ packedAfter (heard (unpacked mem.old) mem.old b bad) }
+    ensures { mem.new ≡ packed_after (heard (unpacked mem.old) mem.old b bad) }
 {
     let data = load::takes_data(&mem[..]);
     if data & !bad {

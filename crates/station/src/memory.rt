@@ -1,7 +1,7 @@
 // The whole lent memory: its length, and whether it is damaged.
 ghost use Rattle.std.specs.Prelude.{◌≡◌};
 ghost use Rattle.state.specs.Well.{within};
-ghost use Rattle.steps.specs.Calls.{lengthOk, wellMemory};
+ghost use Rattle.steps.specs.Calls.{length_ok, well_memory};
 
 use state::memory::holds_state;
 
@@ -14,7 +14,7 @@ fn in_range(n: usize) -> bool
 
 // So many, and a multiple of 8.
 pub fn length_ok(n: usize) -> bool
-    ensures { result ≡ lengthOk n }
+    ensures { result ≡ length_ok n }
 {
     in_range(n) & (n % 8 == 0)
 }
@@ -22,7 +22,7 @@ pub fn length_ok(n: usize) -> bool
 // Whether the memory is well: else every call but Start is refused with 5. Its length is asked first: asked behind the state, it would have to
 // be kept over the survey of the channels, for which every call would save a register.
 pub fn is_well(mem: &[u8]) -> bool
-    ensures { result ≡ wellMemory mem.now }
+    ensures { result ≡ well_memory mem.now }
 {
     if !length_ok(mem.len()) {
         return false;

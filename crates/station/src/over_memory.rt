@@ -3,8 +3,8 @@
 ghost use Rattle.state.specs.Answer.{Meets};
 ghost use Rattle.state.specs.Memory.{Holds};
 ghost use Rattle.state.specs.Unpack.{unpacked};
-ghost use Rattle.rules.specs.Call.{octet, gap, send, tick, take, read, write, hand-over, new-diagnosis, judge-parameters, judge-configuration, events, acknowledge, pending, leave};
-ghost use Rattle.steps.specs.Step.{stepOver};
+ghost use Rattle.rules.specs.Call.{octet, gap, send, tick, take, read, write, hand_over_lem, new_diagnosis_lem, judge_parameters_lem, judge_configuration_lem, events, acknowledge, pending, leave};
+ghost use Rattle.steps.specs.Step.{step_over};
 
 use crate::{bus, hearing, user};
 use state::answer::Answer;
@@ -13,7 +13,7 @@ use state::load;
 // The bus's octet, flagged bad by the receiver or not.
 pub fn octet(mem: &mut [u8], value: u8, bad: bool) -> Answer
     requires { Holds mem.old (unpacked mem.old) }
-    ensures { Meets (stepOver mem.old (octet value bad)) result mem.new }
+    ensures { Meets (step_over mem.old (octet value bad)) result mem.new }
 {
     hearing::hear_octet(mem, value, bad);
     Answer::Value(0)
@@ -22,7 +22,7 @@ pub fn octet(mem: &mut [u8], value: u8, bad: bool) -> Answer
 // A gap on the bus.
 pub fn gap(mem: &mut [u8]) -> Answer
     requires { Holds mem.old (unpacked mem.old) }
-    ensures { Meets (stepOver mem.old gap) result mem.new }
+    ensures { Meets (step_over mem.old gap) result mem.new }
 {
     bus::gap(mem);
     Answer::Value(0)
@@ -31,7 +31,7 @@ pub fn gap(mem: &mut [u8]) -> Answer
 // Send: the next octet of the reply, or 256.
 pub fn send(mem: &mut [u8]) -> Answer
     requires { Holds mem.old (unpacked mem.old) }
-    ensures { Meets (stepOver mem.old send) result mem.new }
+    ensures { Meets (step_over mem.old send) result mem.new }
 {
     let number = bus::send(mem) as u32;
     Answer::Value(number)
@@ -40,7 +40,7 @@ pub fn send(mem: &mut [u8]) -> Answer
 // A Tick: 1 ms.
 pub fn tick(mem: &mut [u8]) -> Answer
     requires { Holds mem.old (unpacked mem.old) }
-    ensures { Meets (stepOver mem.old tick) result mem.new }
+    ensures { Meets (step_over mem.old tick) result mem.new }
 {
     bus::tick(mem);
     Answer::Value(0)
@@ -49,7 +49,7 @@ pub fn tick(mem: &mut [u8]) -> Answer
 // Take outputs: whether they are new, and whether the station published zeros.
 pub fn take(mem: &mut [u8]) -> Answer
     requires { Holds mem.old (unpacked mem.old) }
-    ensures { Meets (stepOver mem.old take) result mem.new }
+    ensures { Meets (step_over mem.old take) result mem.new }
 {
     user::take_outputs(mem)
 }
@@ -57,7 +57,7 @@ pub fn take(mem: &mut [u8]) -> Answer
 // Read an octet of a kind.
 pub fn read(mem: &mut [u8], kind: u32, index: u32) -> Answer
     requires { Holds mem.old (unpacked mem.old) }
-    ensures { Meets (stepOver mem.old (read kind index)) result mem.new }
+    ensures { Meets (step_over mem.old (read kind index)) result mem.new }
 {
     user::read_octet(&mem[..], kind, index)
 }
@@ -65,7 +65,7 @@ pub fn read(mem: &mut [u8], kind: u32, index: u32) -> Answer
 // Write an octet of kind 4 or 5.
 pub fn write(mem: &mut [u8], kind: u32, index: u32, value: u8) -> Answer
     requires { Holds mem.old (unpacked mem.old) }
-    ensures { Meets (stepOver mem.old (write kind index value)) result mem.new }
+    ensures { Meets (step_over mem.old (write kind index value)) result mem.new }
 {
     user::write_octet(mem, kind, index, value)
 }
@@ -73,7 +73,7 @@ pub fn write(mem: &mut [u8], kind: u32, index: u32, value: u8) -> Answer
 // Hand over inputs: they come next.
 pub fn hand_over(mem: &mut [u8]) -> Answer
     requires { Holds mem.old (unpacked mem.old) }
-    ensures { Meets (stepOver mem.old hand-over) result mem.new }
+    ensures { Meets (step_over mem.old hand_over_lem) result mem.new }
 {
     user::hand_over(mem)
 }
@@ -81,7 +81,7 @@ pub fn hand_over(mem: &mut [u8]) -> Answer
 // New diagnosis, with its count and flags.
 pub fn new_diagnosis(mem: &mut [u8], count: u32, flags: u32) -> Answer
     requires { Holds mem.old (unpacked mem.old) }
-    ensures { Meets (stepOver mem.old (new-diagnosis count flags)) result mem.new }
+    ensures { Meets (step_over mem.old (new_diagnosis_lem count flags)) result mem.new }
 {
     user::new_diagnosis(mem, count, flags)
 }
@@ -89,7 +89,7 @@ pub fn new_diagnosis(mem: &mut [u8], count: u32, flags: u32) -> Answer
 // Judge parameters: 1 good, 0 bad.
 pub fn judge_parameters(mem: &mut [u8], judgement: u32) -> Answer
     requires { Holds mem.old (unpacked mem.old) }
-    ensures { Meets (stepOver mem.old (judge-parameters judgement)) result mem.new }
+    ensures { Meets (step_over mem.old (judge_parameters_lem judgement)) result mem.new }
 {
     user::judge_parameters(mem, judgement)
 }
@@ -97,7 +97,7 @@ pub fn judge_parameters(mem: &mut [u8], judgement: u32) -> Answer
 // Judge configuration: 1 good, 0 bad.
 pub fn judge_configuration(mem: &mut [u8], judgement: u32) -> Answer
     requires { Holds mem.old (unpacked mem.old) }
-    ensures { Meets (stepOver mem.old (judge-configuration judgement)) result mem.new }
+    ensures { Meets (step_over mem.old (judge_configuration_lem judgement)) result mem.new }
 {
     user::judge_configuration(mem, judgement)
 }
@@ -105,7 +105,7 @@ pub fn judge_configuration(mem: &mut [u8], judgement: u32) -> Answer
 // The event word.
 pub fn events(mem: &mut [u8]) -> Answer
     requires { Holds mem.old (unpacked mem.old) }
-    ensures { Meets (stepOver mem.old events) result mem.new }
+    ensures { Meets (step_over mem.old events) result mem.new }
 {
     let events = load::events(&mem[..]);
     let word = events.word as u32;
@@ -115,7 +115,7 @@ pub fn events(mem: &mut [u8]) -> Answer
 // Acknowledge the events of a mask.
 pub fn acknowledge(mem: &mut [u8], mask: u16) -> Answer
     requires { Holds mem.old (unpacked mem.old) }
-    ensures { Meets (stepOver mem.old (acknowledge mask)) result mem.new }
+    ensures { Meets (step_over mem.old (acknowledge mask)) result mem.new }
 {
     user::acknowledge(mem, mask)
 }
@@ -123,7 +123,7 @@ pub fn acknowledge(mem: &mut [u8], mask: u16) -> Answer
 // The smallest number of a set event, or 16.
 pub fn pending(mem: &mut [u8]) -> Answer
     requires { Holds mem.old (unpacked mem.old) }
-    ensures { Meets (stepOver mem.old pending) result mem.new }
+    ensures { Meets (step_over mem.old pending) result mem.new }
 {
     let events = load::events(&mem[..]);
     let number = events.pending() as u32;
@@ -133,7 +133,7 @@ pub fn pending(mem: &mut [u8]) -> Answer
 // Leave master: a clear.
 pub fn leave(mem: &mut [u8]) -> Answer
     requires { Holds mem.old (unpacked mem.old) }
-    ensures { Meets (stepOver mem.old leave) result mem.new }
+    ensures { Meets (step_over mem.old leave) result mem.new }
 {
     user::leave(mem)
 }

@@ -1,9 +1,9 @@
 // The bus's octet: a telegram's data goes into the fill buffer that its header names, as it comes.
 ghost use Rattle.std.specs.Prelude.{◌≡◌, ◌+◌, ◌≤◌, true, false, length};
-ghost use Rattle.telegram.specs.Reading.{takesData, datumOf};
+ghost use Rattle.telegram.specs.Reading.{takes_data, datum_of};
 ghost use Rattle.steps.specs.Safe.{Safe};
 ghost use Rattle.steps.specs.Stepped.{Steps};
-ghost use Rattle.steps.specs.Reading.{storedData, keptOctets, storedAs, read_on, read_by, requestBy, prmAt, prmIn, outcomeOf, answered, completed, beginning, heardAs, isIgnored, heard};
+ghost use Rattle.steps.specs.Reading.{stored_data, kept_octets, stored_as, read_on, read_by, request_by, prm_at, prm_in, outcome_of, answered, completed, beginning, heard_as, is_ignored, heard};
 
 use crate::replies::reply_for;
 use outcomes::carry::{carry_out, is_open, settle};
@@ -21,7 +21,7 @@ use telegram::reader::{Reader, Status};
 // The part of the memory that is the fill buffer is lent on to the step that stores an octet.
 fn store_data(s: State, mem: &mut [u8], k: u8, b: u8)
     requires { Safe s mem.old }
-    ensures { mem.new ≡ storedData s mem.old k b }
+    ensures { mem.new ≡ stored_data s mem.old k b }
 {
     let setup = s.setup;
     let reader = s.incoming.reader;
@@ -43,7 +43,7 @@ fn store_data(s: State, mem: &mut [u8], k: u8, b: u8)
 
 // The first two data octets are kept in the state, for Global_Control.
 pub fn keep_octets(i: Incoming, reader: Reader, k: u8, b: u8) -> Incoming
-    ensures { result ≡ keptOctets i reader k b }
+    ensures { result ≡ kept_octets i reader k b }
 {
     if k == 0 {
         return Incoming {
@@ -88,7 +88,7 @@ pub fn read_by(mut s: State, reader: Reader) -> State
 // An inner octet, which is data or not.
 fn store_inner(mut s: State, mem: &mut [u8], reader: Reader, b: u8) -> State
     requires { Safe s mem.old }
-    ensures { Steps (storedAs (datumOf s.incoming.reader) s mem.old reader b) result mem.new }
+    ensures { Steps (stored_as (datum_of s.incoming.reader) s mem.old reader b) result mem.new }
 {
     let old = s.incoming.reader;
     let datum = old.datum();
@@ -104,7 +104,7 @@ fn store_inner(mut s: State, mem: &mut [u8], reader: Reader, b: u8) -> State
 
 // The header of the telegram that the reader has read.
 pub fn request_by(reader: Reader) -> Request
-    ensures { result ≡ requestBy reader }
+    ensures { result ≡ request_by reader }
 {
     let kind = reader.kind;
     Request {
@@ -121,7 +121,7 @@ pub fn request_by(reader: Reader) -> Request
 // The octets of Set_Prm from a place on.
 pub fn prm_at(mem: &[u8], from: usize) -> Prm
     requires { from + 8 ≤ length mem.now }
-    ensures { result ≡ prmAt mem.now from }
+    ensures { result ≡ prm_at mem.now from }
 {
     Prm {
         status: mem[from],
@@ -137,7 +137,7 @@ pub fn prm_at(mem: &[u8], from: usize) -> Prm
 // In the parameters' fill buffer.
 fn prm_in(s: State, mem: &[u8]) -> Prm
     requires { Safe s mem.now }
-    ensures { result ≡ prmIn s mem.now }
+    ensures { result ≡ prm_in s mem.now }
 {
     let from = parameters_at(s.setup, s.parameters.set.fill());
     prm_at(mem, from)
@@ -146,7 +146,7 @@ fn prm_in(s: State, mem: &[u8]) -> Prm
 // What comes of a telegram.
 fn outcome_of(s: State, mem: &[u8], r: Request) -> Outcome
     requires { Safe s mem.now }
-    ensures { result ≡ outcomeOf s mem.now r }
+    ensures { result ≡ outcome_of s mem.now r }
 {
     let setup = s.setup;
     let incoming = s.incoming;
@@ -200,7 +200,7 @@ fn begin(s: State, reader: Reader) -> State
 // An octet after which the telegram is unfinished: inner, or a beginning.
 fn hear_inside(s: State, mem: &mut [u8], reader: Reader, b: u8) -> State
     requires { Safe s mem.old }
-    ensures { Steps (heardAs Status.Inside s mem.old reader b) result mem.new }
+    ensures { Steps (heard_as Status.Inside s mem.old reader b) result mem.new }
 {
     if begun(s) {
         return store_inner(s, mem, reader, b);
@@ -211,7 +211,7 @@ fn hear_inside(s: State, mem: &mut [u8], reader: Reader, b: u8) -> State
 // An octet by what the octets are with it; reader: after it.
 fn hear_as(status: Status, s: State, mem: &mut [u8], reader: Reader, b: u8) -> State
     requires { Safe s mem.old }
-    ensures { Steps (heardAs status s mem.old reader b) result mem.new }
+    ensures { Steps (heard_as status s mem.old reader b) result mem.new }
 {
     match status {
         Status::Fresh => s,
@@ -225,7 +225,7 @@ fn hear_as(status: Status, s: State, mem: &mut [u8], reader: Reader, b: u8) -> S
 }
 
 pub fn is_ignored(status: Status) -> bool
-    ensures { result ≡ isIgnored status }
+    ensures { result ≡ is_ignored status }
 {
     match status {
         Status::Fresh => false,
@@ -237,7 +237,7 @@ pub fn is_ignored(status: Status) -> bool
 
 // A data octet, which most octets are.
 fn hear_datum(mut s: State, mem: &mut [u8], b: u8) -> State
-    requires { (Safe s mem.old) × (takesData s.incoming.reader ≡ true) }
+    requires { (Safe s mem.old) × (takes_data s.incoming.reader ≡ true) }
     ensures { Steps (heard s mem.old b false) result mem.new }
 {
     let old = s.incoming;

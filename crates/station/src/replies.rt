@@ -5,7 +5,7 @@ ghost use Rattle.octets.specs.Part.{part};
 ghost use Rattle.state.specs.declared.state.State.{State};
 ghost use Rattle.state.specs.Memory.{Holds};
 ghost use Rattle.state.specs.Unpack.{unpacked};
-ghost use Rattle.steps.specs.Replies.{servicing, exchangeSender, senderFor, replyFor, ownPlace, userPlace, header_at, contentAt, replyPoint, datumAt, askedFor};
+ghost use Rattle.steps.specs.Replies.{servicing, exchange_sender, sender_for, reply_for, own_place, user_place, header_at, content_at, reply_point, datum_at, asked_for};
 
 use rules::diagnosis::header_of;
 use rules::replies::{exchange_fc, is_exchange};
@@ -28,7 +28,7 @@ fn servicing(setup: Setup, master: u8, n: u8) -> Sender
 
 // The sender of the reply to Data_Exchange: the inputs, or without inputs E5, or one octet while Diag_Flag.
 fn exchange_sender(setup: Setup, control: Control, master: u8) -> Sender
-    ensures { result ≡ exchangeSender setup control master }
+    ensures { result ≡ exchange_sender setup control master }
 {
     let fc = exchange_fc(control);
     if setup.input_len != 0 {
@@ -42,7 +42,7 @@ fn exchange_sender(setup: Setup, control: Control, master: u8) -> Sender
 
 // The sender of each reply to a master, by the setup and the control part of any state.
 fn sender_for(drawn: Drawn, setup: Setup, control: Control, master: u8) -> Sender
-    ensures { (s : State) → s.setup ≡ setup → s.control ≡ control → result ≡ senderFor drawn s master }
+    ensures { (s : State) → s.setup ≡ setup → s.control ≡ control → result ≡ sender_for drawn s master }
 {
     match drawn {
         Drawn::Nothing => Sender::empty(),
@@ -59,7 +59,7 @@ fn sender_for(drawn: Drawn, setup: Setup, control: Control, master: u8) -> Sende
 
 // A reply as it is drawn, by the parts of any state that it needs: the place of the held outputs and the diagnosis header are fixed here.
 pub fn draw(drawn: Drawn, setup: Setup, control: Control, held: u8, master: u8) -> Reply
-    ensures { (s : State) → s.setup ≡ setup → s.control ≡ control → held_of s.outputs.set.place ≡ held → result ≡ replyFor drawn s master }
+    ensures { (s : State) → s.setup ≡ setup → s.control ≡ control → held_of s.outputs.set.place ≡ held → result ≡ reply_for drawn s master }
 {
     let sender = sender_for(drawn, setup, control, master);
     let header = header_of(control);
@@ -73,20 +73,20 @@ pub fn draw(drawn: Drawn, setup: Setup, control: Control, held: u8, master: u8) 
 
 // The same of the whole state.
 pub fn reply_for(drawn: Drawn, s: State, master: u8) -> Reply
-    ensures { result ≡ replyFor drawn s master }
+    ensures { result ≡ reply_for drawn s master }
 {
     draw(drawn, s.setup, s.control, s.outputs.set.held(), master)
 }
 
 // Which of the two diagnosis buffers is the controller's.
 fn own_place(swapped: bool) -> u8
-    ensures { (result ≡ ownPlace swapped) × (result ≤ 1) }
+    ensures { (result ≡ own_place swapped) × (result ≤ 1) }
 {
     if swapped { 1 } else { 0 }
 }
 
 pub fn user_place(swapped: bool) -> u8
-    ensures { (result ≡ userPlace swapped) × (result ≤ 1) }
+    ensures { (result ≡ user_place swapped) × (result ≤ 1) }
 {
     if swapped { 0 } else { 1 }
 }
@@ -127,7 +127,7 @@ fn octet_in(mem: &[u8], from: usize, len: u8, i: u8) -> u8
 // Data octet i of a diagnosis reply behind DSAP and SSAP.
 fn diagnosis_octet(mem: &[u8], i: u8) -> u8
     requires { Holds mem.now (unpacked mem.now) }
-    ensures { result ≡ contentAt Drawn.Diagnosis (unpacked mem.now) mem.now i }
+    ensures { result ≡ content_at Drawn.Diagnosis (unpacked mem.now) mem.now i }
 {
     let setup = load::setup(mem);
     if i < 6 {
@@ -142,7 +142,7 @@ fn diagnosis_octet(mem: &[u8], i: u8) -> u8
 // Octet i of the inputs that are sent.
 fn input_octet(mem: &[u8], i: u8) -> u8
     requires { Holds mem.now (unpacked mem.now) }
-    ensures { result ≡ contentAt Drawn.Inputs (unpacked mem.now) mem.now i }
+    ensures { result ≡ content_at Drawn.Inputs (unpacked mem.now) mem.now i }
 {
     let setup = load::setup(mem);
     let inputs = load::inputs(mem);
@@ -152,7 +152,7 @@ fn input_octet(mem: &[u8], i: u8) -> u8
 // Octet i of the outputs that the reply leaves from.
 fn output_octet(mem: &[u8], i: u8) -> u8
     requires { Holds mem.now (unpacked mem.now) }
-    ensures { result ≡ contentAt Drawn.Outputs (unpacked mem.now) mem.now i }
+    ensures { result ≡ content_at Drawn.Outputs (unpacked mem.now) mem.now i }
 {
     let setup = load::setup(mem);
     let reply = load::reply(mem);
@@ -162,7 +162,7 @@ fn output_octet(mem: &[u8], i: u8) -> u8
 // Octet i of what Get_Cfg sends.
 fn get_cfg_octet(mem: &[u8], i: u8) -> u8
     requires { Holds mem.now (unpacked mem.now) }
-    ensures { result ≡ contentAt Drawn.Configuration (unpacked mem.now) mem.now i }
+    ensures { result ≡ content_at Drawn.Configuration (unpacked mem.now) mem.now i }
 {
     let setup = load::setup(mem);
     octet_in(mem, get_cfg_at(setup), setup.get_cfg_len, i)
@@ -171,7 +171,7 @@ fn get_cfg_octet(mem: &[u8], i: u8) -> u8
 // Data octet i of the reply behind DSAP and SSAP.
 fn content_at(drawn: Drawn, mem: &[u8], i: u8) -> u8
     requires { Holds mem.now (unpacked mem.now) }
-    ensures { result ≡ contentAt drawn (unpacked mem.now) mem.now i }
+    ensures { result ≡ content_at drawn (unpacked mem.now) mem.now i }
 {
     match drawn {
         Drawn::Nothing => 0,
@@ -188,7 +188,7 @@ fn content_at(drawn: Drawn, mem: &[u8], i: u8) -> u8
 
 // The service point that a reply comes from.
 fn reply_point(drawn: Drawn) -> u8
-    ensures { result ≡ replyPoint drawn }
+    ensures { result ≡ reply_point drawn }
 {
     match drawn {
         Drawn::Nothing => 0,
@@ -206,7 +206,7 @@ fn reply_point(drawn: Drawn) -> u8
 // Data octet k of the reply: 3E and the service point first, but in the reply to Data_Exchange.
 fn datum_at(mem: &[u8], k: u8) -> u8
     requires { Holds mem.now (unpacked mem.now) }
-    ensures { result ≡ datumAt (unpacked mem.now) mem.now k }
+    ensures { result ≡ datum_at (unpacked mem.now) mem.now k }
 {
     let reply = load::reply(mem);
     let drawn = reply.drawn;
@@ -225,7 +225,7 @@ fn datum_at(mem: &[u8], k: u8) -> u8
 // The data octet that the sender asks for, read where the memory has it: only what the reply needs is unpacked.
 pub fn asked_for(mem: &[u8]) -> u8
     requires { Holds mem.now (unpacked mem.now) }
-    ensures { result ≡ askedFor (unpacked mem.now) mem.now }
+    ensures { result ≡ asked_for (unpacked mem.now) mem.now }
 {
     let reply = load::reply(mem);
     let sender = reply.sender;

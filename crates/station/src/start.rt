@@ -1,9 +1,9 @@
 // Start over the one lent memory: the memory's length, what is asked for, and the room are checked in this order.
 ghost use Rattle.std.specs.Prelude.{◌≡◌, length};
-ghost use Rattle.channels.specs.Setting.{lengthOctets};
+ghost use Rattle.channels.specs.Setting.{length_octets};
 ghost use Rattle.state.specs.Answer.{Meets};
 ghost use Rattle.state.specs.Start.{given};
-ghost use Rattle.steps.specs.Calls.{startedIn, started};
+ghost use Rattle.steps.specs.Calls.{started_in, started};
 
 use crate::memory::length_ok;
 use state::answer::{Answer, Refusal};
@@ -12,8 +12,8 @@ use state::start::{Asked, last_end, lay_out, setup_of};
 
 // A setup that was accepted is laid out, if its buffers and those of the channels have room.
 fn start_in(mem: &mut [u8], setup: Setup, get_cfg: &[u8], channels: &[u8]) -> Answer
-    requires { (setup.get_cfg_len ≡ length get_cfg.now) × (length channels.now ≡ lengthOctets) }
-    ensures { Meets (startedIn mem.old setup get_cfg.now channels.now) result mem.new }
+    requires { (setup.get_cfg_len ≡ length get_cfg.now) × (length channels.now ≡ length_octets) }
+    ensures { Meets (started_in mem.old setup get_cfg.now channels.now) result mem.new }
 {
     let end = last_end(setup, channels);
     if mem.len() < end {

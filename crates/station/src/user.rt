@@ -5,7 +5,7 @@ ghost use Rattle.state.specs.Memory.{Holds};
 ghost use Rattle.state.specs.Unpack.{unpacked};
 ghost use Rattle.steps.specs.Stepped.{Tells};
 ghost use Rattle.steps.specs.Step.{packed};
-ghost use Rattle.steps.specs.User.{absent, kind_at, takeOutputs, readOctet, writeOctet, handOver, newDiagnosis, judgeParameters, judgeConfiguration, acknowledgeEvents, leaveMaster};
+ghost use Rattle.steps.specs.User.{absent, kind_at, take_outputs, read_octet, write_octet, hand_over, new_diagnosis, judge_parameters, judge_configuration, acknowledge_events, leave_master};
 
 use crate::replies::user_place;
 use outcomes::carry::is_open;
@@ -35,7 +35,7 @@ fn new_number(zeros: bool) -> u32
 // Take outputs: 0 nothing new; else its number, and next and held change.
 pub fn take_outputs(mem: &mut [u8]) -> Answer
     requires { Holds mem.old (unpacked mem.old) }
-    ensures { Meets (packed mem.old (takeOutputs (unpacked mem.old) mem.old)) result mem.new }
+    ensures { Meets (packed mem.old (take_outputs (unpacked mem.old) mem.old)) result mem.new }
 {
     let outputs = load::outputs(&mem[..]);
     if !outputs.set.fresh {
@@ -98,7 +98,7 @@ fn kind_at(mem: &[u8], kind: u32) -> usize
 // Reading answers the octet; the state is not unpacked as a whole.
 pub fn read_octet(mem: &[u8], kind: u32, index: u32) -> Answer
     requires { Holds mem.now (unpacked mem.now) }
-    ensures { Tells (readOctet (unpacked mem.now) mem.now kind index) result (unpacked mem.now) mem.now }
+    ensures { Tells (read_octet (unpacked mem.now) mem.now kind index) result (unpacked mem.now) mem.now }
 {
     if !in_range(load::setup(mem), kind, index) {
         return Answer::Refused(Refusal::Range);
@@ -112,7 +112,7 @@ pub fn read_octet(mem: &[u8], kind: u32, index: u32) -> Answer
 // Kinds 4 and 5 are written.
 pub fn write_octet(mem: &mut [u8], kind: u32, index: u32, octet: u8) -> Answer
     requires { Holds mem.old (unpacked mem.old) }
-    ensures { Tells (writeOctet (unpacked mem.old) mem.old kind index octet) result (unpacked mem.old) mem.new }
+    ensures { Tells (write_octet (unpacked mem.old) mem.old kind index octet) result (unpacked mem.old) mem.new }
 {
     let setup = load::setup(&mem[..]);
     if !(((kind == 4) | (kind == 5)) & in_range(setup, kind, index)) {
@@ -129,7 +129,7 @@ pub fn write_octet(mem: &mut [u8], kind: u32, index: u32, octet: u8) -> Answer
 // Hand over inputs: held and next change, next is new.
 pub fn hand_over(mem: &mut [u8]) -> Answer
     requires { Holds mem.old (unpacked mem.old) }
-    ensures { Meets (packed mem.old (handOver (unpacked mem.old) mem.old)) result mem.new }
+    ensures { Meets (packed mem.old (hand_over (unpacked mem.old) mem.old)) result mem.new }
 {
     let inputs = load::inputs(&mem[..]);
     save_inputs(inputs.hand_over(), mem);
@@ -139,7 +139,7 @@ pub fn hand_over(mem: &mut [u8]) -> Answer
 // New diagnosis; while a Slave_Diag reply is unfinished all of it waits.
 pub fn new_diagnosis(mem: &mut [u8], count: u32, flags: u32) -> Answer
     requires { Holds mem.old (unpacked mem.old) }
-    ensures { Meets (packed mem.old (newDiagnosis (unpacked mem.old) mem.old count flags)) result mem.new }
+    ensures { Meets (packed mem.old (new_diagnosis (unpacked mem.old) mem.old count flags)) result mem.new }
 {
     let setup = load::setup(&mem[..]);
     let control = load::control(&mem[..]);
@@ -172,7 +172,7 @@ fn waited_number(waits: bool) -> u32
 // Judge parameters: a set has to be open.
 pub fn judge_parameters(mem: &mut [u8], judgement: u32) -> Answer
     requires { Holds mem.old (unpacked mem.old) }
-    ensures { Meets (packed mem.old (judgeParameters (unpacked mem.old) mem.old judgement)) result mem.new }
+    ensures { Meets (packed mem.old (judge_parameters (unpacked mem.old) mem.old judgement)) result mem.new }
 {
     let parameters = load::parameters(&mem[..]);
     if !is_open(parameters) {
@@ -190,7 +190,7 @@ pub fn judge_parameters(mem: &mut [u8], judgement: u32) -> Answer
 // Judge configuration: likewise, and not before good parameters.
 pub fn judge_configuration(mem: &mut [u8], judgement: u32) -> Answer
     requires { Holds mem.old (unpacked mem.old) }
-    ensures { Meets (packed mem.old (judgeConfiguration (unpacked mem.old) mem.old judgement)) result mem.new }
+    ensures { Meets (packed mem.old (judge_configuration (unpacked mem.old) mem.old judgement)) result mem.new }
 {
     let configuration = load::configuration(&mem[..]);
     let control = load::control(&mem[..]);
@@ -208,7 +208,7 @@ pub fn judge_configuration(mem: &mut [u8], judgement: u32) -> Answer
 // Acknowledge clears bits, never 10 or 11.
 pub fn acknowledge(mem: &mut [u8], mask: u16) -> Answer
     requires { Holds mem.old (unpacked mem.old) }
-    ensures { Meets (packed mem.old (acknowledgeEvents (unpacked mem.old) mem.old mask)) result mem.new }
+    ensures { Meets (packed mem.old (acknowledge_events (unpacked mem.old) mem.old mask)) result mem.new }
 {
     let events = load::events(&mem[..]);
     save_events(events.acknowledge(mask), mem);
@@ -218,7 +218,7 @@ pub fn acknowledge(mem: &mut [u8], mask: u16) -> Answer
 // Leave master: a clear.
 pub fn leave(mem: &mut [u8]) -> Answer
     requires { Holds mem.old (unpacked mem.old) }
-    ensures { Meets (packed mem.old (leaveMaster (unpacked mem.old) mem.old)) result mem.new }
+    ensures { Meets (packed mem.old (leave_master (unpacked mem.old) mem.old)) result mem.new }
 {
     let control = load::control(&mem[..]);
     carry_over(mem, clear_on(busy_in(&mem[..]), control), 0);

@@ -10,41 +10,41 @@ use Rattle.state.specs.declared.answer.Refusal.TheVariants.{MemoryLength, Addres
 use Rattle.state.specs.declared.state.State.{State}
 use Rattle.state.specs.Answer.{Called, refused}
 use Rattle.state.specs.Memory.{kept, Channelled, Holds}
-use Rattle.state.proofs.Channelled.{channelled-room}
+use Rattle.state.proofs.Channelled.{channelled_room}
 use Rattle.state.specs.Sound.{Sound}
 use Rattle.state.proofs.Choice.{either}
-use Rattle.state.proofs.Damage.{fronted-same, holds-unpacked}
+use Rattle.state.proofs.Damage.{fronted_same, holds_unpacked}
 use Rattle.state.specs.Well.{within}
 use Rattle.rules.specs.Diagnosis.{delayed}
 use Rattle.rules.specs.Kinds.{in_range, writable}
 use Rattle.rules.specs.Call as calls
 use Rattle.rules.specs.Call.{Call}
 use Rattle.steps.specs.Safe.{Safe}
-use Rattle.steps.specs.Outcome.{isOpen}
-use Rattle.steps.specs.Line.{diagnosisLeaves}
-use Rattle.steps.specs.User.{absent, takeOutputs, readOctet, writeOctet, handOver, newDiagnosis, judgeParameters, judgeConfiguration, acknowledgeEvents, leaveMaster}
+use Rattle.steps.specs.Outcome.{is_open}
+use Rattle.steps.specs.Line.{diagnosis_leaves}
+use Rattle.steps.specs.User.{absent, take_outputs, read_octet, write_octet, hand_over, new_diagnosis, judge_parameters, judge_configuration, acknowledge_events, leave_master}
 use Rattle.steps.specs.Stepped.{Told, told, refusing}
-use Rattle.steps.specs.Step.{step, packed, stepOver}
+use Rattle.steps.specs.Step.{step, packed, step_over}
 
 -- ---- a memory that holds a state
 
 -- the steps may be made from a sound state whose buffers end in the memory
-pub sound-safe : (m : List ℕ) (s : State) → Sound s → Channelled m s.setup → Safe s m
-sound-safe m s h room =
+pub sound_safe : (m : List ℕ) (s : State) → Sound s → Channelled m s.setup → Safe s m
+sound_safe m s h room =
     record {
       outputs = h.outputs;
       inputs = h.inputs;
       parameters = h.parameters;
       configuration = h.configuration;
       reply = h.place;
-      long = h.setup.parameter-len.0;
-      room = channelled-room room;
+      long = h.setup.parameter_len.0;
+      room = channelled_room room;
       channels = room;
     }
 
 -- so they may be made on a memory that holds one
-pub holds-safe : (m : List ℕ) (s : State) → Holds m s → Safe s m
-holds-safe m s h = sound-safe m s h.sound h.room
+pub holds_safe : (m : List ℕ) (s : State) → Holds m s → Safe s m
+holds_safe m s h = sound_safe m s h.sound h.room
 
 -- ---- a refusal leaves the memory
 
@@ -53,7 +53,7 @@ abbrev pub whole : Told → Called
 whole t = record { answer = t.answer; memory = kept t.state t.memory }
 
 record Packs (m : List ℕ) (t : Told) : Type 0 where
-  packed-so : packed m t ≡ whole t
+  packed_so : packed m t ≡ whole t
 
 -- the refusals of a step: those that the vat program causes by its calls
 abbrev pub ByUser : Refusal → Type 0
@@ -76,38 +76,38 @@ module _ (s : State) (m : List ℕ) (P : Told → Type 0) (tells : (n : ℕ) (t 
       → P (cond b (refusing why s m) (cond c (refusing then s m) t))
   tested b why c then t u v p = either P b (refuses why u) (either P c (refuses then v) p)
 
-  pub step-cases : (c : Call) → P (step s m c)
-  unfolding takeOutputs readOctet writeOctet handOver newDiagnosis judgeParameters judgeConfiguration acknowledgeEvents leaveMaster
-  step-cases (calls.octet b bad) = tells _ _ _
-  step-cases calls.gap = tells _ _ _
-  step-cases calls.send = tells _ _ _
-  step-cases calls.tick = tells _ _ _
-  step-cases calls.take = either P (not s.outputs.set.fresh) (tells _ _ _) (tells _ _ _)
-  step-cases (calls.read kind index) = tested (not (in_range s.setup kind index)) Range (absent s kind index) Absent _ tt tt (tells _ _ _)
-  step-cases (calls.write kind index x) =
+  pub step_cases : (c : Call) → P (step s m c)
+  unfolding take_outputs read_octet write_octet hand_over new_diagnosis judge_parameters judge_configuration acknowledge_events leave_master
+  step_cases (calls.octet b bad) = tells _ _ _
+  step_cases calls.gap = tells _ _ _
+  step_cases calls.send = tells _ _ _
+  step_cases calls.tick = tells _ _ _
+  step_cases calls.take = either P (not s.outputs.set.fresh) (tells _ _ _) (tells _ _ _)
+  step_cases (calls.read kind index) = tested (not (in_range s.setup kind index)) Range (absent s kind index) Absent _ tt tt (tells _ _ _)
+  step_cases (calls.write kind index x) =
       tested (not (writable kind && in_range s.setup kind index)) Range (absent s kind index) Absent _ tt tt (tells _ _ _)
-  step-cases calls.hand-over = tells _ _ _
-  step-cases (calls.new-diagnosis count flags) =
+  step_cases calls.hand_over_lem = tells _ _ _
+  step_cases (calls.new_diagnosis_lem count flags) =
       tested (not (within 6 count s.setup.diagnosis_len && leb flags 7)) Range (delayed s.control) Delayed _ tt tt
-      (either P (diagnosisLeaves s) (tells _ _ _) (tells _ _ _))
-  step-cases (calls.judge-parameters j) = tested (not (isOpen s.parameters)) Judging (not (leb j 1)) Range _ tt tt (tells _ _ _)
-  step-cases (calls.judge-configuration j) =
-      tested (not (isOpen s.configuration && s.control.flags.parameters_good)) Judging (not (leb j 1)) Range _ tt tt (tells _ _ _)
-  step-cases calls.events = tells _ _ _
-  step-cases (calls.acknowledge mask) = tells _ _ _
-  step-cases calls.pending = tells _ _ _
-  step-cases calls.leave = tells _ _ _
+      (either P (diagnosis_leaves s) (tells _ _ _) (tells _ _ _))
+  step_cases (calls.judge_parameters_lem j) = tested (not (is_open s.parameters)) Judging (not (leb j 1)) Range _ tt tt (tells _ _ _)
+  step_cases (calls.judge_configuration_lem j) =
+      tested (not (is_open s.configuration && s.control.flags.parameters_good)) Judging (not (leb j 1)) Range _ tt tt (tells _ _ _)
+  step_cases calls.events = tells _ _ _
+  step_cases (calls.acknowledge mask) = tells _ _ _
+  step_cases calls.pending = tells _ _ _
+  step_cases calls.leave = tells _ _ _
 
 -- where a step is refused, state and memory are as they were
 packs : (s : State) (m : List ℕ) → m ≡ kept s m → (c : Call) → Packs m (step s m c)
 packs s m same =
-    step-cases s m (Packs m) (λ n t x. record { packed-so = refl })
-    (λ why _. record { packed-so = ap (λ (l : List ℕ). refused l why) same })
+    step_cases s m (Packs m) (λ n t x. record { packed_so = refl })
+    (λ why _. record { packed_so = ap (λ (l : List ℕ). refused l why) same })
 
 -- ---- over the memory
 
 module _ (m : List ℕ) (s : State) (c : Call) (h : Holds m s) where
   -- the state is unpacked, its step made and what it leaves packed
-  pub step-whole : stepOver m c ≡ whole (step s m c)
-  unfolding stepOver
-  step-whole = ap (λ (t : State). packed m (step t m c)) (holds-unpacked m s h) ∙ (packs s m (fronted-same m s h) c).packed-so
+  pub step_whole : step_over m c ≡ whole (step s m c)
+  unfolding step_over
+  step_whole = ap (λ (t : State). packed m (step t m c)) (holds_unpacked m s h) ∙ (packs s m (fronted_same m s h) c).packed_so

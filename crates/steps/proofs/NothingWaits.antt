@@ -6,26 +6,26 @@ use mathlib.Core.List.{List}
 use Rattle.state.specs.declared.state.Drawn.TheVariants.{Nothing}
 use Rattle.state.specs.declared.state.State.{State}
 use Rattle.rules.specs.Phases.{drawing}
-use Rattle.rules.specs.Diagnosis.{delayed, caughtUp}
-use Rattle.rules.specs.Line.{clearing, clearNoted}
+use Rattle.rules.specs.Diagnosis.{delayed, caught_up}
+use Rattle.rules.specs.Line.{clearing, clear_noted}
 use Rattle.steps.specs.Stepped.{Stepped, Steps, unchanged}
-use Rattle.steps.specs.Line.{busy, diagnosisLeaves}
-use Rattle.steps.specs.Outcome.{diagnosisChanged, carried, afterReply, settle}
+use Rattle.steps.specs.Line.{busy, diagnosis_leaves}
+use Rattle.steps.specs.Outcome.{diagnosis_changed, carried, after_reply, settle}
 use Rattle.state.proofs.Choice.{or_left, or_right}
 
 module _ (s : State) (m : List ℕ) where
-  prompt : delayed s.control ≡ false → afterReply s ≡ s
-  unfolding afterReply
-  prompt e = ap (λ (t : Bool). cond (t && not (diagnosisLeaves s)) (diagnosisChanged s (caughtUp s.control)) s) e
+  prompt : delayed s.control ≡ false → after_reply s ≡ s
+  unfolding after_reply
+  prompt e = ap (λ (t : Bool). cond (t && not (diagnosis_leaves s)) (diagnosis_changed s (caught_up s.control)) s) e
 
-  kept : s.control.noted ≡ false → carried s m (clearNoted (busy s) s.control) 0 ≡ unchanged s m
+  kept : s.control.noted ≡ false → carried s m (clear_noted (busy s) s.control) 0 ≡ unchanged s m
   unfolding carried
   kept e = ap (λ (t : Bool). carried s m (cond (t && not (busy s)) (clearing s.control) (drawing s.control Nothing)) 0) e
 
   pub idle : delayed s.control || s.control.noted ≡ false → settle s m ≡ unchanged s m
   unfolding settle
   idle e =
-      ap (λ (x : State). carried x m (clearNoted (busy s) x.control) 0) (prompt (or_left (delayed s.control) s.control.noted e))
+      ap (λ (x : State). carried x m (clear_noted (busy s) x.control) 0) (prompt (or_left (delayed s.control) s.control.noted e))
       ∙ kept (or_right (delayed s.control) s.control.noted e)
 
   -- as the code leaves it

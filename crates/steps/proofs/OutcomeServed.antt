@@ -5,8 +5,8 @@ use Rattle.state.specs.declared.state.State.{State}
 use Rattle.rules.specs.declared.request.Request.{Request}
 use Rattle.rules.proofs.Served.{Served, served}
 use Rattle.steps.specs.Outcome.{occupied}
-use Rattle.steps.specs.Reading.{dataIn, outcomeOf}
+use Rattle.steps.specs.Reading.{data_in, outcome_of}
 
-pub outcome-served : (s : State) (m : List ℕ) (r : Request) → Served s.setup s.control s.outputs.set.withheld r (outcomeOf s m r)
-unfolding outcomeOf
-outcome-served s m r = served s.setup s.control (occupied s) r (dataIn s m)
+pub outcome_served : (s : State) (m : List ℕ) (r : Request) → Served s.setup s.control s.outputs.set.withheld r (outcome_of s m r)
+unfolding outcome_of
+outcome_served s m r = served s.setup s.control (occupied s) r (data_in s m)

@@ -8,17 +8,17 @@ use lib.Dec.{eqb}
 use borrow.Author.Tests.{ne_eqb, eqb-false, not-true}
 use Rattle.state.specs.declared.state.Sets.{Sets}
 use Rattle.state.specs.Sound.{Within, SetsCounted}
-use Rattle.state.proofs.Choice.{by-test}
+use Rattle.state.proofs.Choice.{by_test}
 use Rattle.rules.specs.declared.outcome.SetDeed.{SetDeed}
 use Rattle.rules.specs.declared.outcome.SetDeed.TheVariants as set-deed
 use Rattle.rules.proofs.Served.{Receives}
-use Rattle.steps.specs.Outcome.{isOpen, receivedSet, onSets}
+use Rattle.steps.specs.Outcome.{is_open, received_set, on_sets}
 
 -- count octets came, some and not too many, where Given
 module _ (lo hi : ℕ) (some : 1 ≤ lo) (Given : Type 0) (count : ℕ) (fits : Given → Within lo count hi) where
-  received-counts : (x : Sets) → Given → SetsCounted lo hi x → SetsCounted lo hi (receivedSet x count)
-  received-counts x given h =
-      by-test (SetsCounted lo hi) (isOpen x) _ _
+  received_counts : (x : Sets) → Given → SetsCounted lo hi x → SetsCounted lo hi (received_set x count)
+  received_counts x given h =
+      by_test (SetsCounted lo hi) (is_open x) _ _
       (λ e. record {
         shown = h.shown;
         waiting = inr (fits given);
@@ -30,8 +30,8 @@ module _ (lo hi : ℕ) (some : 1 ≤ lo) (Given : Type 0) (count : ℕ) (fits : 
       not_none : count ≡ 0 → ⊥
       not_none e = let l = (fits given).0 in omega arith
 
-  pub sets-counts : (d : SetDeed) (x : Sets) → Receives Given d → SetsCounted lo hi x → SetsCounted lo hi (onSets d x count)
-  sets-counts set-deed.Keep x given h = h
-  sets-counts set-deed.Receive x given h = received-counts x given h
-  sets-counts set-deed.Advance x given h = record { shown = h.waiting; waiting = inl refl; fresh = refl; behind = λ _. refl }
-  sets-counts set-deed.Drop x given h = record { shown = inl refl; waiting = inl refl; fresh = refl; behind = λ _. refl }
+  pub sets_counts : (d : SetDeed) (x : Sets) → Receives Given d → SetsCounted lo hi x → SetsCounted lo hi (on_sets d x count)
+  sets_counts set-deed.Keep x given h = h
+  sets_counts set-deed.Receive x given h = received_counts x given h
+  sets_counts set-deed.Advance x given h = record { shown = h.waiting; waiting = inl refl; fresh = refl; behind = λ _. refl }
+  sets_counts set-deed.Drop x given h = record { shown = inl refl; waiting = inl refl; fresh = refl; behind = λ _. refl }

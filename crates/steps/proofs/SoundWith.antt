@@ -7,15 +7,15 @@ use Rattle.buffers.specs.declared.triple.Triple.{Triple}
 use Rattle.buffers.specs.Roles.{Permutation}
 use Rattle.telegram.specs.declared.reader.Reader.{Reader}
 use Rattle.telegram.specs.Counts.{ReadCounts, SentCounts}
-use Rattle.telegram.proofs.Counts.{empty-counts}
+use Rattle.telegram.proofs.Counts.{empty_counts}
 use Rattle.state.specs.declared.control.Control.{Control}
 use Rattle.state.specs.declared.state.Incoming.{Incoming}
 use Rattle.state.specs.declared.state.Outputs.{Outputs}
 use Rattle.state.specs.declared.state.Reply.{Reply}
 use Rattle.state.specs.declared.state.State.{State}
 use Rattle.state.specs.Sound.{DiagnosisCounted, Sound}
-use Rattle.state.specs.Start.{noReply}
-use Rattle.state.specs.With.{withOutputs, withInputs, withIncoming, withReply}
+use Rattle.state.specs.Start.{no_reply}
+use Rattle.state.specs.With.{with_outputs, with_inputs, with_incoming, with_reply}
 use Rattle.steps.specs.Reading.{read_on, read_by, beginning}
 
 -- what a reply keeps
@@ -25,55 +25,55 @@ pub record ReplySound (r : Reply) : Type 0 where
 
 module _ (s : State) (h : Sound s) where
   -- all but the setup and the sets of parameters and of configuration
-  with-others : (c : Control) (o : Outputs) (t : Triple) (swapped : Bool) (i : Incoming) (r : Reply)
+  with_others : (c : Control) (o : Outputs) (t : Triple) (swapped : Bool) (i : Incoming) (r : Reply)
       → DiagnosisCounted s.setup.diagnosis_len c.diagnosis → c.chain ≡ s.control.chain → Permutation 4 o.set.place → Permutation 3 t.place → ReadCounts i.reader → ReplySound r
       → Sound (record { setup = s.setup; control = c; outputs = o; inputs = t; parameters = s.parameters; configuration = s.configuration; swapped = swapped; incoming = i; reply = r })
-  with-others c o t swapped i r d e p q a b = record {
+  with_others c o t swapped i r d e p q a b = record {
     setup = h.setup;
     outputs = p;
     inputs = q;
     parameters = h.parameters;
     configuration = h.configuration;
-    parameter-counts = h.parameter-counts;
-    configuration-counts = h.configuration-counts;
-    diagnosis-counts = d;
-    chain-master = rw e h.chain-master;
-    chain-code = rw e h.chain-code;
+    parameter_counts = h.parameter_counts;
+    configuration_counts = h.configuration_counts;
+    diagnosis_counts = d;
+    chain_master = rw e h.chain_master;
+    chain_code = rw e h.chain_code;
     reading = a;
     sending = b.counts;
     place = b.place;
   }
 
-  reply-same : ReplySound s.reply
-  reply-same = record { counts = h.sending; place = h.place }
+  reply_same : ReplySound s.reply
+  reply_same = record { counts = h.sending; place = h.place }
 
   -- another control part, and which diagnosis buffer is whose
-  pub sound-control : (c : Control) (swapped : Bool) → DiagnosisCounted s.setup.diagnosis_len c.diagnosis → c.chain ≡ s.control.chain
+  pub sound_control : (c : Control) (swapped : Bool) → DiagnosisCounted s.setup.diagnosis_len c.diagnosis → c.chain ≡ s.control.chain
       → Sound (record { setup = s.setup; control = c; outputs = s.outputs; inputs = s.inputs; parameters = s.parameters; configuration = s.configuration; swapped = swapped; incoming = s.incoming; reply = s.reply })
-  sound-control c swapped d e = with-others c s.outputs s.inputs swapped s.incoming s.reply d e h.outputs h.inputs h.reading reply-same
+  sound_control c swapped d e = with_others c s.outputs s.inputs swapped s.incoming s.reply d e h.outputs h.inputs h.reading reply_same
 
   -- other roles of the outputs
-  pub sound-outputs : (o : Outputs) → Permutation 4 o.set.place → Sound (withOutputs s o)
-  sound-outputs o p = with-others s.control o s.inputs s.swapped s.incoming s.reply h.diagnosis-counts refl p h.inputs h.reading reply-same
+  pub sound_outputs : (o : Outputs) → Permutation 4 o.set.place → Sound (with_outputs s o)
+  sound_outputs o p = with_others s.control o s.inputs s.swapped s.incoming s.reply h.diagnosis_counts refl p h.inputs h.reading reply_same
 
   -- and of the inputs
-  pub sound-inputs : (t : Triple) → Permutation 3 t.place → Sound (withInputs s t)
-  sound-inputs t p = with-others s.control s.outputs t s.swapped s.incoming s.reply h.diagnosis-counts refl h.outputs p h.reading reply-same
+  pub sound_inputs : (t : Triple) → Permutation 3 t.place → Sound (with_inputs s t)
+  sound_inputs t p = with_others s.control s.outputs t s.swapped s.incoming s.reply h.diagnosis_counts refl h.outputs p h.reading reply_same
 
   -- another reading
-  pub sound-incoming : (i : Incoming) → ReadCounts i.reader → Sound (withIncoming s i)
-  sound-incoming i a = with-others s.control s.outputs s.inputs s.swapped i s.reply h.diagnosis-counts refl h.outputs h.inputs a reply-same
+  pub sound_incoming : (i : Incoming) → ReadCounts i.reader → Sound (with_incoming s i)
+  sound_incoming i a = with_others s.control s.outputs s.inputs s.swapped i s.reply h.diagnosis_counts refl h.outputs h.inputs a reply_same
 
-  pub sound-read-by : (r : Reader) → ReadCounts r → Sound (read_by s r)
-  sound-read-by r a = sound-incoming (read_on s.incoming r) a
+  pub sound_read_by : (r : Reader) → ReadCounts r → Sound (read_by s r)
+  sound_read_by r a = sound_incoming (read_on s.incoming r) a
 
   -- another reply
-  pub sound-reply : (r : Reply) → ReplySound r → Sound (withReply s r)
-  sound-reply r b = with-others s.control s.outputs s.inputs s.swapped s.incoming r h.diagnosis-counts refl h.outputs h.inputs h.reading b
+  pub sound_reply : (r : Reply) → ReplySound r → Sound (with_reply s r)
+  sound_reply r b = with_others s.control s.outputs s.inputs s.swapped s.incoming r h.diagnosis_counts refl h.outputs h.inputs h.reading b
 
-  pub sound-no-reply : Sound (withReply s noReply)
-  sound-no-reply = sound-reply noReply (record { counts = empty-counts; place = omega arith })
+  pub sound_no_reply : Sound (with_reply s no_reply)
+  sound_no_reply = sound_reply no_reply (record { counts = empty_counts; place = omega arith })
 
 -- another reading and no reply
-pub sound-beginning : (s : State) (r : Reader) → Sound s → ReadCounts r → Sound (beginning s r)
-sound-beginning s r h a = sound-no-reply (read_by s r) (sound-read-by s h r a)
+pub sound_beginning : (s : State) (r : Reader) → Sound s → ReadCounts r → Sound (beginning s r)
+sound_beginning s r h a = sound_no_reply (read_by s r) (sound_read_by s h r a)

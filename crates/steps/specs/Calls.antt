@@ -9,46 +9,46 @@ use Rattle.state.specs.declared.start.Asked.{Asked}
 use Rattle.state.specs.declared.start.Asked.TheVariants.{Accepted, Declined}
 use Rattle.state.specs.Answer.{Called, refused}
 use Rattle.state.specs.Layout.{last_end}
-use Rattle.channels.specs.Setting.{lengthsGiven}
-use Rattle.state.specs.Memory.{holdsState}
-use Rattle.state.specs.Start.{asked, laidOut}
+use Rattle.channels.specs.Setting.{lengths_given}
+use Rattle.state.specs.Memory.{holds_state}
+use Rattle.state.specs.Start.{asked, laid_out}
 use Rattle.state.specs.Well.{within}
 use Rattle.rules.specs.Call.{Call}
-use Rattle.rules.specs.Runs.{answersTo, leftBy}
-use Rattle.steps.specs.Step.{stepOver}
+use Rattle.rules.specs.Runs.{answers_to, left_by}
+use Rattle.steps.specs.Step.{step_over}
 
 -- "1,536 to 4,096 octets, a multiple of 8", and "The memory may be up to 16,384 octets" (document 02, Req 08)
-unfoldable pub lengthOk : ℕ → Bool
-lengthOk n = within 1536 n 16384 && eqb (n % 8) 0
+unfoldable pub length_ok : ℕ → Bool
+length_ok n = within 1536 n 16384 && eqb (n % 8) 0
 
 -- "4 buffers end beyond the memory"; else the buffers are wiped, the channels set up and the first state stands in front. lengths: of the
 -- channels
-unfoldable pub startedIn : List ℕ → Setup → List ℕ → List ℕ → Called
-startedIn m s slice lengths =
-    cond (ltb (length m) (last_end (lengthsGiven lengths) s)) (refused m Room) (record { answer = Value 0; memory = laidOut m s slice lengths })
+unfoldable pub started_in : List ℕ → Setup → List ℕ → List ℕ → Called
+started_in m s slice lengths =
+    cond (ltb (length m) (last_end (lengths_given lengths) s)) (refused m Room) (record { answer = Value 0; memory = laid_out m s slice lengths })
 
 -- a setup that is accepted is laid out, and a refusal is the answer
-abbrev pub startedAs : List ℕ → List ℕ → List ℕ → Asked → Called
-startedAs m slice lengths (Accepted s) = startedIn m s slice lengths
-startedAs m slice lengths (Declined why) = refused m why
+abbrev pub started_as : List ℕ → List ℕ → List ℕ → Asked → Called
+started_as m slice lengths (Accepted s) = started_in m s slice lengths
+started_as m slice lengths (Declined why) = refused m why
 
--- Start; "checks go upward": 1 the memory's length here, 2 and 3 in asked, 4 in startedIn
+-- Start; "checks go upward": 1 the memory's length here, 2 and 3 in asked, 4 in started_in
 unfoldable pub started : List ℕ → Setup → List ℕ → List ℕ → Called
 started m s slice lengths =
-    cond (not (lengthOk (length m))) (refused m MemoryLength) (startedAs m slice lengths (asked s lengths))
+    cond (not (length_ok (length m))) (refused m MemoryLength) (started_as m slice lengths (asked s lengths))
 
 -- a memory is damaged where this fails: its length, or the state that it holds
-unfoldable pub wellMemory : List ℕ → Bool
-wellMemory m = lengthOk (length m) && holdsState m
+unfoldable pub well_memory : List ℕ → Bool
+well_memory m = length_ok (length m) && holds_state m
 
 -- a call: 5 if the memory is damaged, else its step
 unfoldable pub called : List ℕ → Call → Called
-called m c = cond (wellMemory m) (stepOver m c) (refused m Damaged)
+called m c = cond (well_memory m) (step_over m c) (refused m Damaged)
 
 -- the answers to a list of calls over a memory
 abbrev pub answers : List ℕ → List Call → List Answer
-answers = answersTo (λ m c. (called m c).answer) (λ m c. (called m c).memory)
+answers = answers_to (λ m c. (called m c).answer) (λ m c. (called m c).memory)
 
 -- and the memory that they leave
-abbrev pub memoryAfter : List ℕ → List Call → List ℕ
-memoryAfter = leftBy (λ m c. (called m c).memory)
+abbrev pub memory_after : List ℕ → List Call → List ℕ
+memory_after = left_by (λ m c. (called m c).memory)

@@ -21,8 +21,8 @@ abbrev pub unchanged : State → List ℕ → Stepped
 unchanged s m = record { state = s; memory = m }
 
 -- the memory with the state packed in front again
-abbrev pub packedAfter : Stepped → List ℕ
-packedAfter r = kept r.state r.memory
+abbrev pub packed_after : Stepped → List ℕ
+packed_after r = kept r.state r.memory
 
 -- what a call answers, and what it leaves
 pub record Told : Type 0 where
@@ -39,8 +39,8 @@ abbrev pub refusing : Refusal → State → List ℕ → Told
 refusing why s m = record { answer = Refused why; state = s; memory = m }
 
 -- a step that answers a value
-abbrev pub toldOf : ℕ → Stepped → Told
-toldOf n r = told n r.state r.memory
+abbrev pub told_of : ℕ → Stepped → Told
+told_of n r = told n r.state r.memory
 
 -- the answer a, the state x and the memory n after the call are those
 pub record Tells (t : Told) (a : Answer) (x : State) (n : List ℕ) : Type 0 where

@@ -8,8 +8,8 @@ use Rattle.telegram.specs.declared.reader.Phase.TheVariants.{Le, LeAgain, SdAgai
 use Rattle.telegram.specs.declared.reader.Status.TheVariants.{Complete}
 use Rattle.telegram.specs.Checksum.{total, checksum}
 use Rattle.telegram.specs.Telegram.{sd1, sd2, sd3, sd4, Addresses, IsTelegram}
-use Rattle.telegram.specs.Reading.{rd, before, start, afterSa, counted, run_from, run, status}
-use Rattle.telegram.proofs.Run.{no_true, inside-complete, fresh-complete}
+use Rattle.telegram.specs.Reading.{rd, before, start, after_sa, counted, run_from, run, status}
+use Rattle.telegram.proofs.Run.{no_true, inside_complete, fresh_complete}
 use Rattle.telegram.proofs.Steps.{passed}
 
 -- complete: nothing more came
@@ -34,7 +34,7 @@ more n i t y ys w =
 module _ (k : Kind) (n da sa fc dp sp : ℕ) where
   last : (i s : ℕ) (ys : List ℕ) → status (run_from (rd End k n i da sa fc dp sp s) ys) ≡ Complete → ys ≡ 0x16 ∷ []
   unfolding status
-  last i s [] h = absurd (inside-complete h)
+  last i s [] h = absurd (inside_complete h)
   last i s (y ∷ ys) h =
       let p = passed (rd End k n i da sa fc dp sp s) y ys h in
       let e = eqb-true y 0x16 p.0 in
@@ -42,7 +42,7 @@ module _ (k : Kind) (n da sa fc dp sp : ℕ) where
 
   body : (i t : ℕ) (ys : List ℕ) → i ≤ n → status (run_from (rd Body k n i da sa fc dp sp (t % 256)) ys) ≡ Complete → Rest n i t ys
   unfolding Rest status
-  body i t [] l h = absurd (inside-complete h)
+  body i t [] l h = absurd (inside_complete h)
   body i t (y ∷ ys) l h =
       go (ltb i n) refl (passed (rd Body k n i da sa fc dp sp (t % 256)) y ys h) (λ l'. body (i + 1) (t + y) ys l')
     where
@@ -69,14 +69,14 @@ points n t x y ys w =
     more (n + 2) 0 t x (y ∷ ys) (more (n + 2) (0 + 1) (t + x) y ys r)
 
 -- behind FC
-after-fc : (k : Kind) (n da sa fc t : ℕ) (c : Bool) (ys : List ℕ)
+after_fc_lem : (k : Kind) (n da sa fc t : ℕ) (c : Bool) (ys : List ℕ)
     → status (run_from (rd (cond c Dsap Body) k n 0 da sa fc 0 0 (t % 256)) ys) ≡ Complete → Rest (cond c (n + 2) n) 0 t ys
 unfolding status
-after-fc k n da sa fc t false ys h = body k n da sa fc 0 0 0 t ys (omega arith) h
-after-fc k n da sa fc t true [] h = absurd (inside-complete h)
-after-fc k n da sa fc t true (x ∷ []) h =
-    absurd (inside-complete (passed (rd Dsap k n 0 da sa fc 0 0 (t % 256)) x [] h).1)
-after-fc k n da sa fc t true (x ∷ y ∷ ys) h =
+after_fc_lem k n da sa fc t false ys h = body k n da sa fc 0 0 0 t ys (omega arith) h
+after_fc_lem k n da sa fc t true [] h = absurd (inside_complete h)
+after_fc_lem k n da sa fc t true (x ∷ []) h =
+    absurd (inside_complete (passed (rd Dsap k n 0 da sa fc 0 0 (t % 256)) x [] h).1)
+after_fc_lem k n da sa fc t true (x ∷ y ∷ ys) h =
     let p = passed (rd Dsap k n 0 da sa fc 0 0 (t % 256)) x (y ∷ ys) h in
     let q = passed (rd Ssap k n 0 da sa fc x 0 ((t % 256 + x) % 256)) y ys p.1 in
     points n t x y ys
@@ -117,19 +117,19 @@ recounted n da = go (leb 128 da)
     go true e = let l = leb-true 2 n e in omega arith
     go false e = refl
 
-framed : (k : Kind) → afterSa k ≡ Fc → (n : ℕ) (ys : List ℕ) → status (run_from (before Da k n) ys) ≡ Complete → Framed n ys
+framed : (k : Kind) → after_sa k ≡ Fc → (n : ℕ) (ys : List ℕ) → status (run_from (before Da k n) ys) ≡ Complete → Framed n ys
 unfolding status
-framed k e n [] h = absurd (inside-complete h)
-framed k e n (da ∷ []) h = absurd (inside-complete (passed (before Da k n) da [] h).1)
+framed k e n [] h = absurd (inside_complete h)
+framed k e n (da ∷ []) h = absurd (inside_complete (passed (before Da k n) da [] h).1)
 framed k e n (da ∷ sa ∷ []) h =
     let p = passed (before Da k n) da (sa ∷ []) h in
     let q = passed (rd Sa k (counted da n) 0 da 0 0 0 0 ((0 + da) % 256)) sa [] p.1 in
-    absurd (inside-complete (rw e at q.1))
+    absurd (inside_complete (rw e at q.1))
 framed k e n (da ∷ sa ∷ fc ∷ ys) h =
     let p = passed (before Da k n) da (sa ∷ fc ∷ ys) h in
     let q = passed (rd Sa k (counted da n) 0 da 0 0 0 0 ((0 + da) % 256)) sa (fc ∷ ys) p.1 in
     let r = passed (rd Fc k (counted da n) 0 da sa 0 0 0 (((0 + da) % 256 + sa) % 256)) fc ys (rw e at q.1) in
-    let w = after-fc k (counted da n) da sa fc (0 + da + sa + fc) (leb 128 da) ys
+    let w = after_fc_lem k (counted da n) da sa fc (0 + da + sa + fc) (leb 128 da) ys
     (rw (mod-add-mod (0 + da) 256 sa, mod-add-mod (0 + da + sa) 256 fc) at r.1) in
     framed_of n da sa fc ys (addresses n da sa p.0 q.0) (rw (recounted n da p.0) at w)
 
@@ -138,51 +138,51 @@ both : (p q : Bool) → p && q ≡ true → (p ≡ true) × (q ≡ true)
 both true q h = (refl, h)
 both false q h = no_true h
 
-no-data : (ds : List ℕ) → length ds ≡ 0 → ds ≡ []
-no-data [] e = refl
-no-data (d ∷ ds) e = absurd (omega arith)
+no_data : (ds : List ℕ) → length ds ≡ 0 → ds ≡ []
+no_data [] e = refl
+no_data (d ∷ ds) e = absurd (omega arith)
 
-is-sd1 : (ys : List ℕ) → Framed 0 ys → IsTelegram (0x10 ∷ ys)
-is-sd1 ys f = let e = no-data f.ds f.count in (sd1 f.da f.sa f.fc, f.fit, cc)
+is_sd1 : (ys : List ℕ) → Framed 0 ys → IsTelegram (0x10 ∷ ys)
+is_sd1 ys f = let e = no_data f.ds f.count in (sd1 f.da f.sa f.fc, f.fit, cc)
 
-is-sd3 : (ys : List ℕ) → Framed 8 ys → IsTelegram (0xA2 ∷ ys)
-is-sd3 ys f = (sd3 f.da f.sa f.fc f.ds, (f.count, f.fit), cc)
+is_sd3 : (ys : List ℕ) → Framed 8 ys → IsTelegram (0xA2 ∷ ys)
+is_sd3 ys f = (sd3 f.da f.sa f.fc f.ds, (f.count, f.fit), cc)
 
-is-sd4 : (ys : List ℕ) → status (run_from (before Da Sd4 0) ys) ≡ Complete → IsTelegram (0xDC ∷ ys)
+is_sd4 : (ys : List ℕ) → status (run_from (before Da Sd4 0) ys) ≡ Complete → IsTelegram (0xDC ∷ ys)
 unfolding status
-is-sd4 [] h = absurd (inside-complete h)
-is-sd4 (da ∷ []) h = absurd (inside-complete (passed (before Da Sd4 0) da [] h).1)
-is-sd4 (da ∷ sa ∷ ys) h =
+is_sd4 [] h = absurd (inside_complete h)
+is_sd4 (da ∷ []) h = absurd (inside_complete (passed (before Da Sd4 0) da [] h).1)
+is_sd4 (da ∷ sa ∷ ys) h =
     let p = passed (before Da Sd4 0) da (sa ∷ ys) h in
     let q = passed (rd Sa Sd4 (counted da 0) 0 da 0 0 0 0 ((0 + da) % 256)) sa ys p.1 in
     let e = ended Sd4 (counted da 0) 0 da sa 0 0 0 (((0 + da) % 256 + sa) % 256) ys q.1 in
     (sd4 da sa, addresses 0 da sa p.0 q.0, cc)
 
-sd2-of : (a b m : ℕ) (ys : List ℕ) → 4 ≤ a → a ≤ 249 → b ≡ a - 3 + 3 → m ≡ 0x68 → Framed (a - 3) ys → IsTelegram (0x68 ∷ a ∷ b ∷ m ∷ ys)
-sd2-of a b m ys l u e g f =
+sd2_of : (a b m : ℕ) (ys : List ℕ) → 4 ≤ a → a ≤ 249 → b ≡ a - 3 + 3 → m ≡ 0x68 → Framed (a - 3) ys → IsTelegram (0x68 ∷ a ∷ b ∷ m ∷ ys)
+sd2_of a b m ys l u e g f =
     let c = f.count in
     let a' : length f.ds + 3 ≡ a = omega arith in
     let b' : length f.ds + 3 ≡ b = omega arith in
     (sd2 f.da f.sa f.fc f.ds, (omega arith, omega arith, rw c f.fit), cc)
 
-is-sd2 : (ys : List ℕ) → status (run_from (before Le Sd2 0) ys) ≡ Complete → IsTelegram (0x68 ∷ ys)
+is_sd2 : (ys : List ℕ) → status (run_from (before Le Sd2 0) ys) ≡ Complete → IsTelegram (0x68 ∷ ys)
 unfolding status
-is-sd2 [] h = absurd (inside-complete h)
-is-sd2 (a ∷ []) h = absurd (inside-complete (passed (before Le Sd2 0) a [] h).1)
-is-sd2 (a ∷ b ∷ []) h =
+is_sd2 [] h = absurd (inside_complete h)
+is_sd2 (a ∷ []) h = absurd (inside_complete (passed (before Le Sd2 0) a [] h).1)
+is_sd2 (a ∷ b ∷ []) h =
     let p = passed (before Le Sd2 0) a (b ∷ []) h in
-    absurd (inside-complete (passed (before LeAgain Sd2 (a - 3)) b [] p.1).1)
-is-sd2 (a ∷ b ∷ m ∷ ys) h =
+    absurd (inside_complete (passed (before LeAgain Sd2 (a - 3)) b [] p.1).1)
+is_sd2 (a ∷ b ∷ m ∷ ys) h =
     let p = passed (before Le Sd2 0) a (b ∷ m ∷ ys) h in
     let q = passed (before LeAgain Sd2 (a - 3)) b (m ∷ ys) p.1 in
     let r = passed (before SdAgain Sd2 (a - 3)) m ys q.1 in
     let l = both (leb 4 a) (leb a 249) p.0 in
-    sd2-of a b m ys (leb-true 4 a l.0) (leb-true a 249 l.1) (eqb-true b (a - 3 + 3) q.0) (eqb-true m 0x68 r.0)
+    sd2_of a b m ys (leb-true 4 a l.0) (leb-true a 249 l.1) (eqb-true b (a - 3 + 3) q.0) (eqb-true m 0x68 r.0)
     (framed Sd2 refl (a - 3) ys r.1)
 
 pub accepted : (xs : List ℕ) → status (run xs) ≡ Complete → IsTelegram xs
 unfolding status
-accepted [] h = absurd (fresh-complete h)
+accepted [] h = absurd (fresh_complete h)
 accepted (b ∷ ys) h =
     go (eqb b 0x10) refl (eqb b 0xA2) refl (eqb b 0xDC) refl (eqb b 0x68) refl (passed start b ys h)
   where
@@ -190,8 +190,8 @@ accepted (b ∷ ys) h =
         → (p || q || r || s ≡ true)
         × (status (run_from (cond p (before Da Sd1 0) (cond q (before Da Sd3 8) (cond r (before Da Sd4 0) (before Le Sd2 0)))) ys) ≡ Complete)
         → IsTelegram (b ∷ ys)
-    go true e q f r g s i h = rw (eqb-true b 0x10 e) (is-sd1 ys (framed Sd1 refl 0 ys h.1))
-    go false e true f r g s i h = rw (eqb-true b 0xA2 f) (is-sd3 ys (framed Sd3 refl 8 ys h.1))
-    go false e false f true g s i h = rw (eqb-true b 0xDC g) (is-sd4 ys h.1)
-    go false e false f false g true i h = rw (eqb-true b 0x68 i) (is-sd2 ys h.1)
+    go true e q f r g s i h = rw (eqb-true b 0x10 e) (is_sd1 ys (framed Sd1 refl 0 ys h.1))
+    go false e true f r g s i h = rw (eqb-true b 0xA2 f) (is_sd3 ys (framed Sd3 refl 8 ys h.1))
+    go false e false f true g s i h = rw (eqb-true b 0xDC g) (is_sd4 ys h.1)
+    go false e false f false g true i h = rw (eqb-true b 0x68 i) (is_sd2 ys h.1)
     go false e false f false g false i h = no_true h.0

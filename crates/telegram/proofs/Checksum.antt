@@ -3,9 +3,9 @@ use Rattle.std.proofs.Common.{◌≡◌, ℕ, ◌+◌, ◌%◌, List, [], ◌∷
 use native.Mathlib.Nat.{mod-add-mod}
 use Rattle.telegram.specs.Checksum.{total, checksum, running}
 
-running-on : (t : ℕ) (xs : List ℕ) → running (t % 256) xs ≡ (t + total xs) % 256
-running-on t [] = rw (add-zero t)
-running-on t (x ∷ xs) = rw (mod-add-mod t 256 x, ← add_assoc t x (total xs)) (running-on (t + x) xs)
+running_on : (t : ℕ) (xs : List ℕ) → running (t % 256) xs ≡ (t + total xs) % 256
+running_on t [] = rw (add-zero t)
+running_on t (x ∷ xs) = rw (mod-add-mod t 256 x, ← add_assoc t x (total xs)) (running_on (t + x) xs)
 
-pub running-total : (xs : List ℕ) → running 0 xs ≡ checksum xs
-running-total xs = running-on 0 xs ∙ ap (λ (n : ℕ). n % 256) (zero-add (total xs))
+pub running_total : (xs : List ℕ) → running 0 xs ≡ checksum xs
+running_total xs = running_on 0 xs ∙ ap (λ (n : ℕ). n % 256) (zero-add (total xs))

@@ -8,34 +8,34 @@ use Rattle.telegram.specs.declared.sender.Stage.TheVariants as stage
 use Rattle.telegram.specs.declared.sender.Sender.{Sender}
 
 -- a reader's phase before the data octets: an octet that stands before them is still to come
-abbrev pub beforeData : Phase → Bool
-beforeData reading.Start = true
-beforeData reading.Le = true
-beforeData reading.LeAgain = true
-beforeData reading.SdAgain = true
-beforeData reading.Da = true
-beforeData reading.Sa = true
-beforeData reading.Fc = true
-beforeData reading.Dsap = true
-beforeData reading.Ssap = true
-beforeData reading.Body = false
-beforeData reading.End = false
-beforeData reading.Done = false
-beforeData reading.Off = false
+abbrev pub before_data : Phase → Bool
+before_data reading.Start = true
+before_data reading.Le = true
+before_data reading.LeAgain = true
+before_data reading.SdAgain = true
+before_data reading.Da = true
+before_data reading.Sa = true
+before_data reading.Fc = true
+before_data reading.Dsap = true
+before_data reading.Ssap = true
+before_data reading.Body = false
+before_data reading.End = false
+before_data reading.Done = false
+before_data reading.Off = false
 
 -- a sender's stage before the data octets: FC or an octet before it is still to be sent
-abbrev pub stageBeforeData : Stage → Bool
-stageBeforeData stage.Start = true
-stageBeforeData stage.Le = true
-stageBeforeData stage.LeAgain = true
-stageBeforeData stage.SdAgain = true
-stageBeforeData stage.Da = true
-stageBeforeData stage.Sa = true
-stageBeforeData stage.Fc = true
-stageBeforeData stage.Body = false
-stageBeforeData stage.End = false
-stageBeforeData stage.Single = false
-stageBeforeData stage.Empty = false
+abbrev pub stage_before_data : Stage → Bool
+stage_before_data stage.Start = true
+stage_before_data stage.Le = true
+stage_before_data stage.LeAgain = true
+stage_before_data stage.SdAgain = true
+stage_before_data stage.Da = true
+stage_before_data stage.Sa = true
+stage_before_data stage.Fc = true
+stage_before_data stage.Body = false
+stage_before_data stage.End = false
+stage_before_data stage.Single = false
+stage_before_data stage.Empty = false
 
 -- the counts of a telegram that is read
 pub record ReadCounts (r : Reader) : Type 0 where
@@ -44,7 +44,7 @@ pub record ReadCounts (r : Reader) : Type 0 where
   -- no more of them were read than there are
   pub read : r.at ≤ r.count
   -- before the data none was: DA with bit 7 takes the extension's two octets off the count, which must not fall below those read
-  pub none_yet : beforeData r.phase ≡ true → r.at ≡ 0
+  pub none_yet : before_data r.phase ≡ true → r.at ≡ 0
 
 -- the counts of a telegram that is sent
 pub record SentCounts (s : Sender) : Type 0 where
@@ -53,4 +53,4 @@ pub record SentCounts (s : Sender) : Type 0 where
   -- no more of them were sent than there are
   pub sent : s.at ≤ s.count
   -- before the data none was
-  pub none_yet : stageBeforeData s.stage ≡ true → s.at ≡ 0
+  pub none_yet : stage_before_data s.stage ≡ true → s.at ≡ 0

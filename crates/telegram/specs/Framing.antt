@@ -2,8 +2,8 @@
 use Rattle.std.specs.Prelude.{◌≡◌, ℕ, true, ◌⊎◌, ◌↔◌, List, [], ◌∷◌, ◌++◌}
 use Rattle.telegram.specs.declared.reader.Status.TheVariants.{Fresh, Inside, Complete, Broken}
 use Rattle.telegram.specs.Checksum.{checksum}
-use Rattle.telegram.specs.Telegram.{Telegram, head_of, coveredOf, octetsOf, payloadOf, Valid, IsTelegram, Octets}
-use Rattle.telegram.specs.Reading.{start, readerAfter, run, run_from, status, gathered, finished, telegramOf}
+use Rattle.telegram.specs.Telegram.{Telegram, head_of, covered_of, octets_of, payload_of, Valid, IsTelegram, Octets}
+use Rattle.telegram.specs.Reading.{start, reader_after, run, run_from, status, gathered, finished, telegram_of}
 
 -- some octets that come after xs complete a telegram
 abbrev pub Continues : List ℕ → Type 0
@@ -24,19 +24,19 @@ pub record Framing (xs : List ℕ) : Type 0 where
   -- broken off: exactly if they are none, and none can result
   pub neither : (status (run xs) ≡ Broken) ↔ Hopeless xs
   -- complete with the telegram's fields, and the octets told of as data are its data, in order
-  pub fields : (t : Telegram) → Valid t → octetsOf t ≡ xs → (run xs ≡ finished t) × (gathered start xs ≡ payloadOf t)
+  pub fields : (t : Telegram) → Valid t → octets_of t ≡ xs → (run xs ≡ finished t) × (gathered start xs ≡ payload_of t)
   -- that telegram is told by the reader's fields and the data gathered
-  pub told : (t : Telegram) → Valid t → octetsOf t ≡ xs → telegramOf (run xs) (gathered start xs) ≡ t
+  pub told : (t : Telegram) → Valid t → octets_of t ≡ xs → telegram_of (run xs) (gathered start xs) ≡ t
   -- octets are those of one telegram only
-  pub only : (t u : Telegram) → Valid t → Valid u → octetsOf t ≡ xs → octetsOf u ≡ xs → t ≡ u
+  pub only : (t u : Telegram) → Valid t → Valid u → octets_of t ≡ xs → octets_of u ≡ xs → t ≡ u
   -- broken off stays so
   pub stays : status (run xs) ≡ Broken → (ys : List ℕ) → status (run (xs ++ ys)) ≡ Broken
   -- no telegram begins with another, and the first octet behind one breaks off
   pub ends : IsTelegram xs → (y : ℕ) (ys : List ℕ) → ¬ IsTelegram (xs ++ y ∷ ys) × (status (run (xs ++ y ∷ ys)) ≡ Broken)
   -- an octet flagged bad breaks off, whatever follows it
-  pub flagged : (b : ℕ) (ys : List ℕ) → status (run_from (readerAfter (run xs) b true) ys) ≡ Broken
+  pub flagged : (b : ℕ) (ys : List ℕ) → status (run_from (reader_after (run xs) b true) ys) ≡ Broken
   -- while DA up to the last data octet of a telegram come, the running checksum is their sum modulo 256
-  pub sums : (t : Telegram) (ps qs : List ℕ) → Valid t → coveredOf t ≡ ps ++ qs → head_of t ++ ps ≡ xs → (run xs).sum ≡ checksum ps
+  pub sums : (t : Telegram) (ps qs : List ℕ) → Valid t → covered_of t ≡ ps ++ qs → head_of t ++ ps ≡ xs → (run xs).sum ≡ checksum ps
 
 -- the framing promise, for every list of octets
 abbrev pub FramingPromise : Type 0

@@ -19,25 +19,25 @@ kind_of (sd3 da sa fc ds) = Sd3
 kind_of (sd4 da sa) = Sd4
 
 -- its destination
-abbrev pub daOf : Telegram → ℕ
-daOf (sd1 da sa fc) = da
-daOf (sd2 da sa fc ds) = da
-daOf (sd3 da sa fc ds) = da
-daOf (sd4 da sa) = da
+abbrev pub da_of : Telegram → ℕ
+da_of (sd1 da sa fc) = da
+da_of (sd2 da sa fc ds) = da
+da_of (sd3 da sa fc ds) = da
+da_of (sd4 da sa) = da
 
 -- its source
-abbrev pub saOf : Telegram → ℕ
-saOf (sd1 da sa fc) = sa
-saOf (sd2 da sa fc ds) = sa
-saOf (sd3 da sa fc ds) = sa
-saOf (sd4 da sa) = sa
+abbrev pub sa_of : Telegram → ℕ
+sa_of (sd1 da sa fc) = sa
+sa_of (sd2 da sa fc ds) = sa
+sa_of (sd3 da sa fc ds) = sa
+sa_of (sd4 da sa) = sa
 
 -- its control octet; SD4 has none
-abbrev pub fcOf : Telegram → ℕ
-fcOf (sd1 da sa fc) = fc
-fcOf (sd2 da sa fc ds) = fc
-fcOf (sd3 da sa fc ds) = fc
-fcOf (sd4 da sa) = 0
+abbrev pub fc_of : Telegram → ℕ
+fc_of (sd1 da sa fc) = fc
+fc_of (sd2 da sa fc ds) = fc
+fc_of (sd3 da sa fc ds) = fc
+fc_of (sd4 da sa) = 0
 
 -- all data octets, DSAP and SSAP among them
 abbrev pub data_of : Telegram → List ℕ
@@ -54,22 +54,22 @@ head_of (sd3 da sa fc ds) = 0xA2 ∷ []
 head_of (sd4 da sa) = 0xDC ∷ []
 
 -- DA up to the last data octet: what the check octet covers
-abbrev pub coveredOf : Telegram → List ℕ
-coveredOf (sd1 da sa fc) = da ∷ sa ∷ fc ∷ []
-coveredOf (sd2 da sa fc ds) = da ∷ sa ∷ fc ∷ ds
-coveredOf (sd3 da sa fc ds) = da ∷ sa ∷ fc ∷ ds
-coveredOf (sd4 da sa) = da ∷ sa ∷ []
+abbrev pub covered_of : Telegram → List ℕ
+covered_of (sd1 da sa fc) = da ∷ sa ∷ fc ∷ []
+covered_of (sd2 da sa fc ds) = da ∷ sa ∷ fc ∷ ds
+covered_of (sd3 da sa fc ds) = da ∷ sa ∷ fc ∷ ds
+covered_of (sd4 da sa) = da ∷ sa ∷ []
 
 -- behind it the check octet FCS and the end delimiter 16; SD4 has neither
-abbrev pub tailOf : Telegram → List ℕ
-tailOf (sd1 da sa fc) = checksum (da ∷ sa ∷ fc ∷ []) ∷ 0x16 ∷ []
-tailOf (sd2 da sa fc ds) = checksum (da ∷ sa ∷ fc ∷ ds) ∷ 0x16 ∷ []
-tailOf (sd3 da sa fc ds) = checksum (da ∷ sa ∷ fc ∷ ds) ∷ 0x16 ∷ []
-tailOf (sd4 da sa) = []
+abbrev pub tail_of : Telegram → List ℕ
+tail_of (sd1 da sa fc) = checksum (da ∷ sa ∷ fc ∷ []) ∷ 0x16 ∷ []
+tail_of (sd2 da sa fc ds) = checksum (da ∷ sa ∷ fc ∷ ds) ∷ 0x16 ∷ []
+tail_of (sd3 da sa fc ds) = checksum (da ∷ sa ∷ fc ∷ ds) ∷ 0x16 ∷ []
+tail_of (sd4 da sa) = []
 
 -- all octets of a telegram
-abbrev pub octetsOf : Telegram → List ℕ
-octetsOf t = head_of t ++ (coveredOf t ++ tailOf t)
+abbrev pub octets_of : Telegram → List ℕ
+octets_of t = head_of t ++ (covered_of t ++ tail_of t)
 
 -- bit 7 of an address octet: the mark of an extension
 abbrev pub Marked : ℕ → Type 0
@@ -92,7 +92,7 @@ Valid (sd4 da sa) = Addresses 0 da sa
 
 -- these octets are a telegram
 abbrev pub IsTelegram : List ℕ → Type 0
-IsTelegram xs = (t : Telegram) × Valid t × (octetsOf t ≡ xs)
+IsTelegram xs = (t : Telegram) × Valid t × (octets_of t ≡ xs)
 
 -- every number of the list is an octet
 abbrev pub Octets : List ℕ → Type 0
@@ -101,16 +101,16 @@ Octets (x ∷ xs) = (x < 256) × Octets xs
 
 -- DA has the mark: DSAP and SSAP stand before the data
 abbrev pub extended : Telegram → Bool
-extended t = nat_le 128 (daOf t)
+extended t = nat_le 128 (da_of t)
 
 -- DSAP, the service point of the destination; 0 where there is none
-abbrev pub dsapOf : Telegram → ℕ
-dsapOf t = cond (extended t) (slice_index (data_of t) 0) 0
+abbrev pub dsap_of : Telegram → ℕ
+dsap_of t = cond (extended t) (slice_index (data_of t) 0) 0
 
 -- SSAP, that of the source
-abbrev pub ssapOf : Telegram → ℕ
-ssapOf t = cond (extended t) (slice_index (data_of t) 1) 0
+abbrev pub ssap_of : Telegram → ℕ
+ssap_of t = cond (extended t) (slice_index (data_of t) 1) 0
 
 -- the data octets less DSAP and SSAP
-abbrev pub payloadOf : Telegram → List ℕ
-payloadOf t = cond (extended t) (drop 2 (data_of t)) (data_of t)
+abbrev pub payload_of : Telegram → List ℕ
+payload_of t = cond (extended t) (drop 2 (data_of t)) (data_of t)

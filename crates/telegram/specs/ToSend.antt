@@ -6,7 +6,7 @@ use Rattle.telegram.specs.declared.sender.Stage.{Stage}
 use Rattle.telegram.specs.declared.sender.Stage.TheVariants.{Start, Le, LeAgain, SdAgain, Da, Sa, Fc, Body, End, Single, Empty}
 use Rattle.telegram.specs.declared.sender.Sender.{Sender}
 use Rattle.telegram.specs.Checksum.{running}
-use Rattle.telegram.specs.Sending.{startOctet}
+use Rattle.telegram.specs.Sending.{start_octet}
 
 -- octets with the check octet and the end behind them; s is the checksum of what was sent before
 abbrev pub closing : ℕ → List ℕ → List ℕ
@@ -24,8 +24,8 @@ abbrev pub body : Sender → List ℕ → List ℕ
 body s ds = s.fc ∷ drop s.at ds
 
 -- DA and what follows it
-abbrev pub fromDa : Sender → List ℕ → List ℕ
-fromDa s ds = behind s.kind s.sum (s.da ∷ s.sa ∷ []) (body s ds)
+abbrev pub from_da : Sender → List ℕ → List ℕ
+from_da s ds = behind s.kind s.sum (s.da ∷ s.sa ∷ []) (body s ds)
 
 -- between the start delimiter and DA
 abbrev pub lengths : Kind → ℕ → List ℕ
@@ -35,19 +35,19 @@ lengths Sd3 n = []
 lengths Sd4 n = []
 
 -- the octets left of a telegram with the data octets ds, by the stage
-abbrev pub toSendAt : Stage → Sender → List ℕ → List ℕ
-toSendAt Start s ds = startOctet s.kind ∷ (lengths s.kind s.count ++ fromDa s ds)
-toSendAt Le s ds = (s.count + 3) % 256 ∷ (s.count + 3) % 256 ∷ 0x68 ∷ fromDa s ds
-toSendAt LeAgain s ds = (s.count + 3) % 256 ∷ 0x68 ∷ fromDa s ds
-toSendAt SdAgain s ds = 0x68 ∷ fromDa s ds
-toSendAt Da s ds = fromDa s ds
-toSendAt Sa s ds = behind s.kind s.sum (s.sa ∷ []) (body s ds)
-toSendAt Fc s ds = closing s.sum (body s ds)
-toSendAt Body s ds = closing s.sum (drop s.at ds)
-toSendAt End s ds = 0x16 ∷ []
-toSendAt Single s ds = 0xE5 ∷ []
-toSendAt Empty s ds = []
+abbrev pub to_send_at : Stage → Sender → List ℕ → List ℕ
+to_send_at Start s ds = start_octet s.kind ∷ (lengths s.kind s.count ++ from_da s ds)
+to_send_at Le s ds = (s.count + 3) % 256 ∷ (s.count + 3) % 256 ∷ 0x68 ∷ from_da s ds
+to_send_at LeAgain s ds = (s.count + 3) % 256 ∷ 0x68 ∷ from_da s ds
+to_send_at SdAgain s ds = 0x68 ∷ from_da s ds
+to_send_at Da s ds = from_da s ds
+to_send_at Sa s ds = behind s.kind s.sum (s.sa ∷ []) (body s ds)
+to_send_at Fc s ds = closing s.sum (body s ds)
+to_send_at Body s ds = closing s.sum (drop s.at ds)
+to_send_at End s ds = 0x16 ∷ []
+to_send_at Single s ds = 0xE5 ∷ []
+to_send_at Empty s ds = []
 
 -- the octets left of a telegram with the data octets ds
-unfoldable pub toSend : Sender → List ℕ → List ℕ
-toSend s ds = toSendAt s.stage s ds
+unfoldable pub to_send : Sender → List ℕ → List ℕ
+to_send s ds = to_send_at s.stage s ds

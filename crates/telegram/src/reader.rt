@@ -1,6 +1,6 @@
 // A reader takes the octets of the line one after the other and tells whether a telegram is complete.
 ghost use Rattle.std.specs.Prelude.{◌≡◌, true};
-ghost use Rattle.telegram.specs.Reading.{start, off, before, moved, summed, afterSa, afterFc, next_at, stepAt, readerStep, readerAfter, statusAt, status, in_body, takesData, datumOf};
+ghost use Rattle.telegram.specs.Reading.{start, off, before, moved, summed, after_sa, after_fc, next_at, step_at, reader_step, reader_after, status_at, status, in_body, takes_data, datum_of};
 
 use crate::{Datum, Kind};
 
@@ -70,7 +70,7 @@ impl Reader {
 
     // The reader after one octet more; one flagged bad by the receiver breaks off.
     pub fn receive(self, octet: u8, bad: bool) -> Reader
-        ensures { result ≡ readerAfter self octet bad }
+        ensures { result ≡ reader_after self octet bad }
     {
         if bad {
             return Reader::off();
@@ -87,7 +87,7 @@ impl Reader {
 
     // Which data octet the next octet is, DSAP and SSAP left out.
     pub fn datum(self) -> Datum
-        ensures { result ≡ datumOf self }
+        ensures { result ≡ datum_of self }
     {
         let phase = self.phase;
         if in_body(phase) {
@@ -101,7 +101,7 @@ impl Reader {
 
     // Whether the next octet is a data octet.
     pub fn takes_data(self) -> bool
-        ensures { result ≡ takesData self }
+        ensures { result ≡ takes_data self }
     {
         let phase = self.phase;
         in_body(phase) & (self.at < self.count)
@@ -109,15 +109,15 @@ impl Reader {
 
     // The step at a data octet, which most octets are.
     pub fn take_data(mut self, b: u8) -> Reader
-        requires { takesData self ≡ true }
-        ensures { result ≡ readerStep self b }
+        requires { takes_data self ≡ true }
+        ensures { result ≡ reader_step self b }
     {
         self.at = self.at + 1;
         self.summed(b, Phase::Body)
     }
 
     pub fn step(self, b: u8) -> Reader
-        ensures { result ≡ readerStep self b }
+        ensures { result ≡ reader_step self b }
     {
         let phase = self.phase;
         match phase {
@@ -156,7 +156,7 @@ impl Reader {
     }
 
     fn on_start(self, b: u8) -> Reader
-        ensures { result ≡ stepAt Phase.Start self b }
+        ensures { result ≡ step_at Phase.Start self b }
     {
         if b == 0x10 {
             return Reader::begun(Phase::Da, Kind::Sd1, 0);
@@ -175,7 +175,7 @@ impl Reader {
 
     // LE counts DA, SA and FC too: 4 to 249 for 1 to 246 data octets.
     fn on_le(self, b: u8) -> Reader
-        ensures { result ≡ stepAt Phase.Le self b }
+        ensures { result ≡ step_at Phase.Le self b }
     {
         if b < 4 {
             return Reader::off();
@@ -187,7 +187,7 @@ impl Reader {
     }
 
     fn on_le_again(self, b: u8) -> Reader
-        ensures { result ≡ stepAt Phase.LeAgain self b }
+        ensures { result ≡ step_at Phase.LeAgain self b }
     {
         if b < 3 {
             return Reader::off();
@@ -200,7 +200,7 @@ impl Reader {
     }
 
     fn on_sd_again(self, b: u8) -> Reader
-        ensures { result ≡ stepAt Phase.SdAgain self b }
+        ensures { result ≡ step_at Phase.SdAgain self b }
     {
         if b == 0x68 {
             return Reader::begun(Phase::Da, Kind::Sd2, self.count);
@@ -210,7 +210,7 @@ impl Reader {
 
     // An extension needs two data octets, which are then not counted.
     fn on_da(mut self, b: u8) -> Reader
-        ensures { result ≡ stepAt Phase.Da self b }
+        ensures { result ≡ step_at Phase.Da self b }
     {
         self.da = b;
         if b < 128 {
@@ -225,7 +225,7 @@ impl Reader {
 
     // Bit 7 in both addresses or in neither.
     fn on_sa(self, b: u8) -> Reader
-        ensures { result ≡ stepAt Phase.Sa self b }
+        ensures { result ≡ step_at Phase.Sa self b }
     {
         if self.da < 128 {
             if b < 128 {
@@ -248,28 +248,28 @@ impl Reader {
     }
 
     fn on_fc(mut self, b: u8) -> Reader
-        ensures { result ≡ stepAt Phase.Fc self b }
+        ensures { result ≡ step_at Phase.Fc self b }
     {
         self.fc = b;
         self.summed(b, after_fc(self.da))
     }
 
     fn on_dsap(mut self, b: u8) -> Reader
-        ensures { result ≡ stepAt Phase.Dsap self b }
+        ensures { result ≡ step_at Phase.Dsap self b }
     {
         self.dsap = b;
         self.summed(b, Phase::Ssap)
     }
 
     fn on_ssap(mut self, b: u8) -> Reader
-        ensures { result ≡ stepAt Phase.Ssap self b }
+        ensures { result ≡ step_at Phase.Ssap self b }
     {
         self.ssap = b;
         self.summed(b, Phase::Body)
     }
 
     fn on_body(mut self, b: u8) -> Reader
-        ensures { result ≡ stepAt Phase.Body self b }
+        ensures { result ≡ step_at Phase.Body self b }
     {
         if self.at < self.count {
             self.at = self.at + 1;
@@ -282,7 +282,7 @@ impl Reader {
     }
 
     fn on_end(self, b: u8) -> Reader
-        ensures { result ≡ stepAt Phase.End self b }
+        ensures { result ≡ step_at Phase.End self b }
     {
         if b == 0x16 {
             return self.moved(Phase::Done);
@@ -320,7 +320,7 @@ impl Reader {
 
 // What a reader tells, by its phase.
 fn status_at(phase: Phase) -> Status
-    ensures { result ≡ statusAt phase }
+    ensures { result ≡ status_at phase }
 {
     match phase {
         Phase::Start => Status::Fresh,
@@ -361,7 +361,7 @@ fn in_body(phase: Phase) -> bool
 
 // SD4 ends with the source address.
 fn after_sa(k: Kind) -> Phase
-    ensures { result ≡ afterSa k }
+    ensures { result ≡ after_sa k }
 {
     match k {
         Kind::Sd1 => Phase::Fc,
@@ -373,7 +373,7 @@ fn after_sa(k: Kind) -> Phase
 
 // Bit 7 of DA tells that DSAP and SSAP follow.
 fn after_fc(da: u8) -> Phase
-    ensures { result ≡ afterFc da }
+    ensures { result ≡ after_fc da }
 {
     if da < 128 {
         return Phase::Body;

@@ -1,7 +1,7 @@
 // A sender gives the octets of a telegram, or the single octet E5, one after the other.
 ghost use Rattle.std.specs.Prelude.{◌≡◌};
 ghost use Rattle.telegram.specs.declared.Datum.TheVariants.{Number};
-ghost use Rattle.telegram.specs.Sending.{sn, empty, single, sending, left, asksAt, asks, startOctet, afterStart, stageAfterSa, octetAt, octetOf, onto, adding, after_at, afterSent, sent};
+ghost use Rattle.telegram.specs.Sending.{sn, empty, single, sending, left, asks_at, asks, start_octet, after_start, stage_after_sa, octet_at, octet_of, onto, adding, after_at, after_sent, sent};
 
 use crate::{Datum, Kind};
 
@@ -139,7 +139,7 @@ impl Sender {
 
     // The octet that is sent.
     fn octet(self, datum: u8) -> u8
-        ensures { result ≡ octetOf self datum }
+        ensures { result ≡ octet_of self datum }
     {
         let stage = self.stage;
         let kind = self.kind;
@@ -159,7 +159,7 @@ impl Sender {
     }
 
     fn octet_in_body(self, datum: u8) -> u8
-        ensures { result ≡ octetAt Stage.Body self datum }
+        ensures { result ≡ octet_at Stage.Body self datum }
     {
         if self.at < self.count {
             return datum;
@@ -168,7 +168,7 @@ impl Sender {
     }
 
     fn asks_in_body(self) -> Datum
-        ensures { result ≡ asksAt Stage.Body self }
+        ensures { result ≡ asks_at Stage.Body self }
     {
         if self.at < self.count {
             return Datum::Number(self.at);
@@ -178,7 +178,7 @@ impl Sender {
 
     // The sender after it sent `octet`.
     fn after(self, octet: u8) -> Sender
-        ensures { result ≡ afterSent self octet }
+        ensures { result ≡ after_sent self octet }
     {
         let stage = self.stage;
         let kind = self.kind;
@@ -250,7 +250,7 @@ impl Sender {
 }
 
 fn start_octet(kind: Kind) -> u8
-    ensures { result ≡ startOctet kind }
+    ensures { result ≡ start_octet kind }
 {
     match kind {
         Kind::Sd1 => 0x10,
@@ -262,7 +262,7 @@ fn start_octet(kind: Kind) -> u8
 
 // Only SD2 has a length.
 fn after_start(kind: Kind) -> Stage
-    ensures { result ≡ afterStart kind }
+    ensures { result ≡ after_start kind }
 {
     match kind {
         Kind::Sd1 => Stage::Da,
@@ -274,7 +274,7 @@ fn after_start(kind: Kind) -> Stage
 
 // SD4 ends with the source address.
 fn stage_after_sa(kind: Kind) -> Stage
-    ensures { result ≡ stageAfterSa kind }
+    ensures { result ≡ stage_after_sa kind }
 {
     match kind {
         Kind::Sd1 => Stage::Fc,

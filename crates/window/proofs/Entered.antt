@@ -9,46 +9,46 @@ use Rattle.state.specs.declared.answer.Answer.TheVariants.{Refused}
 use Rattle.state.specs.declared.answer.Refusal.TheVariants.{Damaged}
 use Rattle.state.specs.Answer.{Called, Meets, refused}
 use Rattle.rules.specs.Call.{Call}
-use Rattle.steps.specs.Step.{stepOver}
-use Rattle.steps.specs.Calls.{wellMemory, called}
+use Rattle.steps.specs.Step.{step_over}
+use Rattle.steps.specs.Calls.{well_memory, called}
 use Rattle.window.specs.Table.{Cut, whole, bits, cut_to, Behind, calls}
-use Rattle.window.specs.Calls.{made, enteredBy}
+use Rattle.window.specs.Calls.{made, entered_by}
 
 module _ (m : List ℕ) (b : Behind) where
-  pub entered-damaged : wellMemory m ≡ false → enteredBy m b ≡ refused m Damaged
-  unfolding enteredBy
-  entered-damaged w = ap (λ (t : Bool). cond t (made m b) (refused m Damaged)) w
+  pub entered_damaged : well_memory m ≡ false → entered_by m b ≡ refused m Damaged
+  unfolding entered_by
+  entered_damaged w = ap (λ (t : Bool). cond t (made m b) (refused m Damaged)) w
 
-  pub entered-makes : wellMemory m ≡ true → enteredBy m b ≡ made m b
-  unfolding enteredBy
-  entered-makes w = ap (λ (t : Bool). cond t (made m b) (refused m Damaged)) w
+  pub entered_makes : well_memory m ≡ true → entered_by m b ≡ made m b
+  unfolding entered_by
+  entered_makes w = ap (λ (t : Bool). cond t (made m b) (refused m Damaged)) w
 
   -- r is what the check told of m
-  module _ (r : Bool) (tells : r ≡ wellMemory m) where
-    pub damaged : not r ≡ true → Meets (enteredBy m b) (Refused Damaged) m
-    damaged f = rw (entered-damaged (sym tells ∙ not-true r f)) (record { answers = refl; leaves = refl })
+  module _ (r : Bool) (tells : r ≡ well_memory m) where
+    pub damaged : not r ≡ true → Meets (entered_by m b) (Refused Damaged) m
+    damaged f = rw (entered_damaged (sym tells ∙ not-true r f)) (record { answers = refl; leaves = refl })
 
-    pub passed : {a : Answer} {left : List ℕ} → not r ≡ false → Meets (made m b) a left → Meets (enteredBy m b) a left
-    passed f h = rw (entered-makes (sym tells ∙ not-false r f)) h
+    pub passed : {a : Answer} {left : List ℕ} → not r ≡ false → Meets (made m b) a left → Meets (entered_by m b) a left
+    passed f h = rw (entered_makes (sym tells ∙ not-false r f)) h
 
 -- a call's answer cut, and the memory as the call leaves it
-abbrev pub cutCalled : Cut → Called → Called
-cutCalled cut x = record { answer = cut_to cut x.answer; memory = x.memory }
+abbrev pub cut_called : Cut → Called → Called
+cut_called cut x = record { answer = cut_to cut x.answer; memory = x.memory }
 
 -- a call of the station behind an access is that call, its answer cut
-pub entered-call : (m : List ℕ) (c : Call) (cut : Cut) → enteredBy m (calls c cut) ≡ cutCalled cut (called m c)
-unfolding enteredBy called
-entered-call m c cut = go (wellMemory m)
+pub entered_call : (m : List ℕ) (c : Call) (cut : Cut) → entered_by m (calls c cut) ≡ cut_called cut (called m c)
+unfolding entered_by called
+entered_call m c cut = go (well_memory m)
   where
-    go : (t : Bool) → cond t (cutCalled cut (stepOver m c)) (refused m Damaged) ≡ cutCalled cut (cond t (stepOver m c) (refused m Damaged))
+    go : (t : Bool) → cond t (cut_called cut (step_over m c)) (refused m Damaged) ≡ cut_called cut (cond t (step_over m c) (refused m Damaged))
     go true = refl
-    go false = damage-stays cut
+    go false = damage_stays cut
       where
-        damage-stays : (k : Cut) → refused m Damaged ≡ cutCalled k (refused m Damaged)
-        damage-stays whole = refl
-        damage-stays (bits from) = refl
+        damage_stays : (k : Cut) → refused m Damaged ≡ cut_called k (refused m Damaged)
+        damage_stays whole = refl
+        damage_stays (bits from) = refl
 
 -- so it answers and leaves what the call does
-pub cut-meets : (m : List ℕ) (c : Call) (cut : Cut) {a r : Answer} {left : List ℕ} → Meets (called m c) a left → r ≡ cut_to cut a
-    → Meets (enteredBy m (calls c cut)) r left
-cut-meets m c cut h e = rw (entered-call m c cut) (record { answers = e ∙ ap (cut_to cut) h.answers; leaves = h.leaves })
+pub cut_meets : (m : List ℕ) (c : Call) (cut : Cut) {a r : Answer} {left : List ℕ} → Meets (called m c) a left → r ≡ cut_to cut a
+    → Meets (entered_by m (calls c cut)) r left
+cut_meets m c cut h e = rw (entered_call m c cut) (record { answers = e ∙ ap (cut_to cut) h.answers; leaves = h.leaves })

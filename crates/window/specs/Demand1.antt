@@ -16,15 +16,15 @@ use Rattle.ledger.specs.Ledger.{Ledger}
 use Rattle.window.specs.declared.order.Order.{Order}
 use Rattle.window.specs.declared.order.Order.TheVariants.{Intel}
 use Rattle.window.specs.Order.{cell_at}
-use Rattle.window.specs.Entries.{Entry, call, window-read, window-write}
+use Rattle.window.specs.Entries.{Entry, call, window_read, window_write}
 use Rattle.window.specs.Calls.{entered}
 use Rattle.window.specs.Translation.{step}
 
 -- an access at an address above 015H
 abbrev pub Above : Entry → Type 0
 Above (call c) = ⊥
-Above (window-read order address) = 0x15 < address
-Above (window-write order address x) = 0x15 < address
+Above (window_read order address) = 0x15 < address
+Above (window_write order address x) = 0x15 < address
 
 -- what reading a cell may answer: a value, or refused by 6 or 9
 abbrev pub ReadAnswer : Answer → Type 0
@@ -34,49 +34,49 @@ ReadAnswer (Refused why) = (why ≡ Judging) ⊎ (why ≡ Delayed)
 -- what an access to a cell may answer: "every window write answers 0"; of a call of the station nothing is said here
 abbrev pub AccessAnswer : Entry → Answer → Type 0
 AccessAnswer (call c) a = Unit
-AccessAnswer (window-read order address) a = ReadAnswer a
-AccessAnswer (window-write order address x) a = a ≡ Value 0
+AccessAnswer (window_read order address) a = ReadAnswer a
+AccessAnswer (window_write order address x) a = a ≡ Value 0
 
 -- the same access in Intel's order
-abbrev pub inIntel : Entry → Entry
-inIntel (call c) = call c
-inIntel (window-read order address) = window-read Intel (cell_at order address)
-inIntel (window-write order address x) = window-write Intel (cell_at order address) x
+abbrev pub in_intel : Entry → Entry
+in_intel (call c) = call c
+in_intel (window_read order address) = window_read Intel (cell_at order address)
+in_intel (window_write order address x) = window_write Intel (cell_at order address) x
 
 -- two control parts with the same count and flags of the diagnosis in force
 pub record SamePresent (c d : Control) : Type 0 where
   pub count : c.diagnosis.count ≡ d.diagnosis.count
-  pub ext-diag : c.flags.ext_diag ≡ d.flags.ext_diag
-  pub stat-diag : c.flags.stat_diag ≡ d.flags.stat_diag
+  pub ext_diag : c.flags.ext_diag ≡ d.flags.ext_diag
+  pub stat_diag : c.flags.stat_diag ≡ d.flags.stat_diag
   pub overflow : c.flags.overflow ≡ d.flags.overflow
 
 -- the two octets that 02H and 03H read make up the event word
 pub record EventsWhole (l : Ledger) (order : Order) : Type 0 where
   pub low : ℕ
   pub high : ℕ
-  pub reads-low : (step l (window-read order (cell_at order 0x02))).answer ≡ Value low
-  pub reads-high : (step l (window-read order (cell_at order 0x03))).answer ≡ Value high
-  pub make-up : low + 256 * high ≡ l.control.events.word
+  pub reads_low : (step l (window_read order (cell_at order 0x02))).answer ≡ Value low
+  pub reads_high : (step l (window_read order (cell_at order 0x03))).answer ≡ Value high
+  pub make_up : low + 256 * high ≡ l.control.events.word
 
 -- all of it
 pub record Demand1 : Type 0 where
   -- a call of the station is as an entry what it is alone
-  pub calls-stay : (m : List ℕ) (c : Call) → entered m (call c) ≡ called m c
+  pub calls_stay : (m : List ℕ) (c : Call) → entered m (call c) ≡ called m c
   -- an entry on a memory of octets answers 5 exactly if the memory is damaged
-  pub damage-check : (m : List ℕ) (e : Entry) → Octets m → ((entered m e).answer ≡ Refused Damaged) ↔ ¬ Undamaged m
+  pub damage_check : (m : List ℕ) (e : Entry) → Octets m → ((entered m e).answer ≡ Refused Damaged) ↔ ¬ Undamaged m
   -- "each leaves memory unchanged"
-  pub refusals-leave : (m : List ℕ) (e : Entry) (why : Refusal) → (entered m e).answer ≡ Refused why → (entered m e).memory ≡ m
+  pub refusals_leave : (m : List ℕ) (e : Entry) (why : Refusal) → (entered m e).answer ≡ Refused why → (entered m e).memory ≡ m
   -- no entry damages a memory, whatever led to it
-  pub stays-undamaged : (m : List ℕ) (e : Entry) → Undamaged m → Undamaged (entered m e).memory
+  pub stays_undamaged : (m : List ℕ) (e : Entry) → Undamaged m → Undamaged (entered m e).memory
   -- "An address above 015H is refused by 10, checked after 5"; no other entry is
-  pub above-refused : (m : List ℕ) (e : Entry) → Undamaged m → ((entered m e).answer ≡ Refused Cell) ↔ Above e
+  pub above_refused : (m : List ℕ) (e : Entry) → Undamaged m → ((entered m e).answer ≡ Refused Cell) ↔ Above e
   -- up to 015H a read is refused by 6 or 9 alone, and a write answers 0
-  pub access-answers : (m : List ℕ) (e : Entry) → Undamaged m → ¬ Above e → AccessAnswer e (entered m e).answer
+  pub access_answers : (m : List ℕ) (e : Entry) → Undamaged m → ¬ Above e → AccessAnswer e (entered m e).answer
   -- "What holds for a cell is shown for both orders together": an access in either order is Intel's access to the cell that the order
   -- has there, and each order has every cell at one address
-  pub orders-alike : (m : List ℕ) (e : Entry) → entered m e ≡ entered m (inIntel e)
+  pub orders_alike : (m : List ℕ) (e : Entry) → entered m e ≡ entered m (in_intel e)
   pub exchanges : (order : Order) (cell : ℕ) → cell_at order (cell_at order cell) ≡ cell
   -- "a new diagnosis with the present count and flags": whatever it answers, reading 0DH leaves both
-  pub present-stays : (l : Ledger) (order : Order) → SamePresent (step l (window-read order 0x0D)).ledger.control l.control
+  pub present_stays : (l : Ledger) (order : Order) → SamePresent (step l (window_read order 0x0D)).ledger.control l.control
   -- "bits 7 to 0 of Events", "bits 15 to 8"
-  pub events-whole : (l : Ledger) (order : Order) → l.control.events.word < 2 ^ width → EventsWhole l order
+  pub events_whole : (l : Ledger) (order : Order) → l.control.events.word < 2 ^ width → EventsWhole l order

@@ -9,48 +9,48 @@ use Rattle.ledger.specs.Ledger.{fresh}
 use Rattle.ledger.specs.Calls as calls-on-ledger
 use Rattle.ledger.specs.Exchange as exchange
 use Rattle.ledger.specs.Exchange.{Inner, PlacesChanged}
-use Rattle.ledger.specs.History.{readable, newsOf, history}
-use Rattle.agreement.specs.Agreement.{memoryOf, FromStart}
-use Rattle.window.specs.Entries.{Entry, call, window-read, window-write}
-use Rattle.window.specs.Calls.{answers, memoryAfter}
+use Rattle.ledger.specs.History.{readable, news_of, history}
+use Rattle.agreement.specs.Agreement.{memory_of, FromStart}
+use Rattle.window.specs.Entries.{Entry, call, window_read, window_write}
+use Rattle.window.specs.Calls.{answers, memory_after}
 use Rattle.window.specs.Translation as entries-on-ledger
-use Rattle.window.specs.Translation.{after, behindEach, translated, answersBy}
+use Rattle.window.specs.Translation.{after, behind_each, translated, answers_by}
 
 -- a call of the vat program; every access is one, also one with nothing behind it or refused
-abbrev pub ofUser : Entry → Bool
-ofUser (call c) = exchange.ofUser c
-ofUser (window-read order address) = true
-ofUser (window-write order address x) = true
+abbrev pub of_user : Entry → Bool
+of_user (call c) = exchange.of_user c
+of_user (window_read order address) = true
+of_user (window_write order address x) = true
 
 -- m is the memory that Start was given, s its numbers, slice the octets for Get_Cfg, lengths those of the channels
 pub record Agreement (m : List ℕ) (s : Setup) (slice lengths : List ℕ) : Type 0 where
   -- every answer is that of the ledger
-  pub agree : (es : List Entry) → answers (memoryOf m s slice lengths) es ≡ entries-on-ledger.answers (fresh s slice) es
+  pub agree : (es : List Entry) → answers (memory_of m s slice lengths) es ≡ entries-on-ledger.answers (fresh s slice) es
   -- "a list with window accesses answers as the list of the calls behind them, Events cut to the eight bits read"
-  pub answers-behind : (es : List Entry)
-      → answers (memoryOf m s slice lengths) es
-      ≡ answersBy (behindEach (fresh s slice) es) (steps.answers (memoryOf m s slice lengths) (translated (fresh s slice) es))
+  pub answers_behind : (es : List Entry)
+      → answers (memory_of m s slice lengths) es
+      ≡ answers_by (behind_each (fresh s slice) es) (steps.answers (memory_of m s slice lengths) (translated (fresh s slice) es))
   -- and leaves the memory and the ledger that these leave: what holds of every ledger that calls lead to holds here too
-  pub memory-behind : (es : List Entry) → memoryAfter (memoryOf m s slice lengths) es ≡ steps.memoryAfter (memoryOf m s slice lengths) (translated (fresh s slice) es)
-  pub ledger-behind : (es : List Entry) → after (fresh s slice) es ≡ calls-on-ledger.after (fresh s slice) (translated (fresh s slice) es)
+  pub memory_behind : (es : List Entry) → memory_after (memory_of m s slice lengths) es ≡ steps.memory_after (memory_of m s slice lengths) (translated (fresh s slice) es)
+  pub ledger_behind : (es : List Entry) → after (fresh s slice) es ≡ calls-on-ledger.after (fresh s slice) (translated (fresh s slice) es)
   -- if a call of the vat program and a neighbouring inner octet change places, every call keeps its answer, whichever came first
-  pub octet-then-call : (pre post : List Entry) (b : ℕ) (bad : Bool) (e : Entry) → ofUser e ≡ true
-      → Inner (after (fresh s slice) pre) b bad → PlacesChanged (answers (memoryOf m s slice lengths)) pre post (call (octet b bad)) e
-  pub call-then-octet : (pre post : List Entry) (b : ℕ) (bad : Bool) (e : Entry) → ofUser e ≡ true
-      → Inner (after (fresh s slice) (pre ++ e ∷ [])) b bad → PlacesChanged (answers (memoryOf m s slice lengths)) pre post (call (octet b bad)) e
+  pub octet_then_call : (pre post : List Entry) (b : ℕ) (bad : Bool) (e : Entry) → of_user e ≡ true
+      → Inner (after (fresh s slice) pre) b bad → PlacesChanged (answers (memory_of m s slice lengths)) pre post (call (octet b bad)) e
+  pub call_then_octet : (pre post : List Entry) (b : ℕ) (bad : Bool) (e : Entry) → of_user e ≡ true
+      → Inner (after (fresh s slice) (pre ++ e ∷ [])) b bad → PlacesChanged (answers (memory_of m s slice lengths)) pre post (call (octet b bad)) e
   -- outputs read are those of the newest telegram accepted before the latest take, or zeros, whatever calls come behind the read; an
   -- access that takes is a take
   pub outputs : (es : List Entry) (index : ℕ) (rest : List Entry) → index < s.output_len
-      → answers (memoryOf m s slice lengths) (es ++ call (read 1 index) ∷ rest)
-      ≡ answers (memoryOf m s slice lengths) es
+      → answers (memory_of m s slice lengths) (es ++ call (read 1 index) ∷ rest)
+      ≡ answers (memory_of m s slice lengths) es
       ++ Value (get_or (readable s.output_len (history (fresh s slice) (translated (fresh s slice) es))) index 0)
-      ∷ answers (memoryAfter (memoryOf m s slice lengths) es) rest
+      ∷ answers (memory_after (memory_of m s slice lengths) es) rest
   -- a take tells of them, also where they have no octet that could be read
   pub takes : (es rest : List Entry)
-      → answers (memoryOf m s slice lengths) (es ++ call take ∷ rest)
-      ≡ answers (memoryOf m s slice lengths) es
-      ++ Value (newsOf (history (fresh s slice) (translated (fresh s slice) es)))
-      ∷ answers (memoryAfter (memoryOf m s slice lengths) (es ++ call take ∷ [])) rest
+      → answers (memory_of m s slice lengths) (es ++ call take ∷ rest)
+      ≡ answers (memory_of m s slice lengths) es
+      ++ Value (news_of (history (fresh s slice) (translated (fresh s slice) es)))
+      ∷ answers (memory_after (memory_of m s slice lengths) (es ++ call take ∷ [])) rest
 
 -- demand 3 whole
 abbrev pub Demand3 : Type 0

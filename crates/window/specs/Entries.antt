@@ -6,5 +6,5 @@ use Rattle.window.specs.declared.order.Order.{Order}
 -- a call of the station, or a read or write of a cell; an access is a call of the vat program
 pub data Entry : Type 0 where
   call : (c : Call) → Entry
-  window-read : (order : Order) (address : ℕ) → Entry
-  window-write : (order : Order) (address octet : ℕ) → Entry
+  window_read : (order : Order) (address : ℕ) → Entry
+  window_write : (order : Order) (address octet : ℕ) → Entry

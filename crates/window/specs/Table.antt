@@ -4,10 +4,10 @@ use Rattle.state.specs.declared.answer.Answer.{Answer}
 use Rattle.state.specs.declared.answer.Answer.TheVariants.{Value, Refused}
 use Rattle.state.specs.declared.answer.Refusal.TheVariants.{Cell}
 use Rattle.state.specs.declared.control.Control.{Control}
-use Rattle.rules.specs.Call.{Call, take, hand-over, new-diagnosis, judge-parameters, judge-configuration, events, acknowledge}
-use Rattle.rules.specs.Diagnosis.{presentFlags}
+use Rattle.rules.specs.Call.{Call, take, hand_over_lem, new_diagnosis_lem, judge_parameters_lem, judge_configuration_lem, events, acknowledge}
+use Rattle.rules.specs.Diagnosis.{present_flags}
 use Rattle.window.specs.Order.{cell_at}
-use Rattle.window.specs.Entries.{Entry, call, window-read, window-write}
+use Rattle.window.specs.Entries.{Entry, call, window_read, window_write}
 
 -- how much of a call's answer is read: all of it, or eight bits of a word, from that bit upward
 pub data Cut : Type 0 where
@@ -27,16 +27,16 @@ pub data Behind : Type 0 where
   no_cell : Behind
 
 -- what an access answers; answer: what a call answers where the access is made
-abbrev pub answerBehind : (Call → Answer) → Behind → Answer
-answerBehind answer (calls c cut) = cut_to cut (answer c)
-answerBehind answer nothing = Value 0
-answerBehind answer no_cell = Refused Cell
+abbrev pub answer_behind : (Call → Answer) → Behind → Answer
+answer_behind answer (calls c cut) = cut_to cut (answer c)
+answer_behind answer nothing = Value 0
+answer_behind answer no_cell = Refused Cell
 
 -- and what it leaves of s; next: what a call leaves of it
-abbrev pub leftBehind : {S : Type 0} → (Call → S) → S → Behind → S
-leftBehind next s (calls c cut) = next c
-leftBehind next s nothing = s
-leftBehind next s no_cell = s
+abbrev pub left_behind : {S : Type 0} → (Call → S) → S → Behind → S
+left_behind next s (calls c cut) = next c
+left_behind next s nothing = s
+left_behind next s no_cell = s
 
 -- a row of the table: what is behind reading the cell, and behind writing an octet to it
 pub record Row : Type 0 where
@@ -52,8 +52,8 @@ abbrev pub read_only : Call → Cut → Row
 read_only c cut = record { reading = calls c cut; writing = λ x. nothing }
 
 -- eight bits of the event word: they are read, and those that are set in the octet written are acknowledged
-abbrev pub eventBits : ℕ → Row
-eventBits from = record { reading = calls events (bits from); writing = λ x. calls (acknowledge (2 ^ from * x)) whole }
+abbrev pub event_bits : ℕ → Row
+event_bits from = record { reading = calls events (bits from); writing = λ x. calls (acknowledge (2 ^ from * x)) whole }
 
 -- the cells from 000H on, by Intel's addresses, each by its name on the chip for reading and then, where that is not reserved, for
 -- writing; count and flags are those of the diagnosis in force
@@ -64,9 +64,9 @@ table count flags =
     -- 01H Int-Req-Reg, for both, bits 15 to 8
     ∷ read_only events (bits 8)
     -- 02H Int-Reg, Int-Ack-Reg, bits 7 to 0
-    ∷ eventBits 0
+    ∷ event_bits 0
     -- 03H Int-Reg, Int-Ack-Reg, bits 15 to 8
-    ∷ eventBits 8
+    ∷ event_bits 8
     -- 04H Status-Reg, Int-Mask-Reg, bits 7 to 0
     ∷ idle
     -- 05H Status-Reg, Int-Mask-Reg, bits 15 to 8
@@ -78,7 +78,7 @@ table count flags =
     -- 08H DIN_Buffer_SM, Mode-Reg1-S
     ∷ idle
     -- 09H New_DIN_Buffer_Cmd, Mode-Reg1-R
-    ∷ read_only hand-over whole
+    ∷ read_only hand_over_lem whole
     -- 0AH DOUT_Buffer_SM, WD_Baud_Ctrl-Val
     ∷ idle
     -- 0BH Next_DOUT_Buffer_Cmd, MinTsdr_Val
@@ -86,15 +86,15 @@ table count flags =
     -- 0CH DIAG_Buffer_SM
     ∷ idle
     -- 0DH New_DIAG_Puffer_Cmd
-    ∷ read_only (new-diagnosis count flags) whole
+    ∷ read_only (new_diagnosis_lem count flags) whole
     -- 0EH User_Prm_Data_OK
-    ∷ read_only (judge-parameters 1) whole
+    ∷ read_only (judge_parameters_lem 1) whole
     -- 0FH User_Prm_Data_NOK
-    ∷ read_only (judge-parameters 0) whole
+    ∷ read_only (judge_parameters_lem 0) whole
     -- 10H User_Cfg_Data_OK
-    ∷ read_only (judge-configuration 1) whole
+    ∷ read_only (judge_configuration_lem 1) whole
     -- 11H User_Cfg_Data_NOK
-    ∷ read_only (judge-configuration 0) whole
+    ∷ read_only (judge_configuration_lem 0) whole
     -- 12H reserved
     ∷ idle
     -- 13H reserved
@@ -115,10 +115,10 @@ row_at count flags cell = get_or (table count flags) cell beyond
 
 -- with the diagnosis that the control part has in force
 abbrev pub row_of : Control → ℕ → Row
-row_of c cell = row_at c.diagnosis.count (presentFlags c.flags) cell
+row_of c cell = row_at c.diagnosis.count (present_flags c.flags) cell
 
 -- what is behind an entry, with that control part
 unfoldable pub behind : Control → Entry → Behind
 behind c (call k) = calls k whole
-behind c (window-read order address) = (row_of c (cell_at order address)).reading
-behind c (window-write order address x) = (row_of c (cell_at order address)).writing x
+behind c (window_read order address) = (row_of c (cell_at order address)).reading
+behind c (window_write order address x) = (row_of c (cell_at order address)).writing x

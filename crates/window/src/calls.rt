@@ -2,11 +2,11 @@
 ghost use Rattle.std.specs.Prelude.{◌<◌, ◌≡◌};
 ghost use Rattle.state.specs.Answer.{Meets};
 ghost use Rattle.state.specs.Unpack.{unpacked};
-ghost use Rattle.rules.specs.Call.{new-diagnosis, events};
-ghost use Rattle.rules.specs.Diagnosis.{presentFlags};
+ghost use Rattle.rules.specs.Call.{new_diagnosis_lem, events};
+ghost use Rattle.rules.specs.Diagnosis.{present_flags};
 ghost use Rattle.steps.specs.Calls.{called};
 ghost use Rattle.window.specs.Table.{bits, cut_to, calls, nothing, no_cell};
-ghost use Rattle.window.specs.Calls.{enteredBy};
+ghost use Rattle.window.specs.Calls.{entered_by};
 
 use rules::diagnosis::present_flags;
 use state::answer::{Answer, Refusal};
@@ -28,7 +28,7 @@ fn eight_bits(answer: Answer, from: u32) -> Answer
 // Eight bits of the event word.
 pub fn event_bits(mem: &mut [u8], from: u32) -> Answer
     requires { from < 32 }
-    ensures { Meets (enteredBy mem.old (calls events (bits from))) result mem.new }
+    ensures { Meets (entered_by mem.old (calls events (bits from))) result mem.new }
 {
     let answer = calls::events(mem);
     eight_bits(answer, from)
@@ -36,7 +36,7 @@ pub fn event_bits(mem: &mut [u8], from: u32) -> Answer
 
 // A new diagnosis with the present count and flags.
 pub fn renew_diagnosis(mem: &mut [u8]) -> Answer
-    ensures { Meets (called mem.old (new-diagnosis (unpacked mem.old).control.diagnosis.count (presentFlags (unpacked mem.old).control.flags))) result mem.new }
+    ensures { Meets (called mem.old (new_diagnosis_lem (unpacked mem.old).control.diagnosis.count (present_flags (unpacked mem.old).control.flags))) result mem.new }
 {
     if !is_well(&mem[..]) {
         return Answer::Refused(Refusal::Damaged);
@@ -49,7 +49,7 @@ pub fn renew_diagnosis(mem: &mut [u8]) -> Answer
 
 // No call: 0, and nothing changes.
 pub fn nothing(mem: &[u8]) -> Answer
-    ensures { Meets (enteredBy mem.now nothing) result mem.now }
+    ensures { Meets (entered_by mem.now nothing) result mem.now }
 {
     if !is_well(mem) {
         return Answer::Refused(Refusal::Damaged);
@@ -59,7 +59,7 @@ pub fn nothing(mem: &[u8]) -> Answer
 
 // No cell: refused with 10.
 pub fn no_cell(mem: &[u8]) -> Answer
-    ensures { Meets (enteredBy mem.now no_cell) result mem.now }
+    ensures { Meets (entered_by mem.now no_cell) result mem.now }
 {
     if !is_well(mem) {
         return Answer::Refused(Refusal::Damaged);

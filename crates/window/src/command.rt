@@ -1,7 +1,7 @@
 // What is behind an access: which call it makes, by the order and the address. The call itself is made by whoever has the calls.
 ghost use Rattle.std.specs.Prelude.{◌≡◌};
 ghost use Rattle.state.specs.declared.control.Control.{Control};
-ghost use Rattle.window.specs.Entries.{window-read, window-write};
+ghost use Rattle.window.specs.Entries.{window_read, window_write};
 ghost use Rattle.window.specs.Table.{behind};
 ghost use Rattle.window.specs.Command.{commanded};
 
@@ -31,7 +31,7 @@ impl Command {
 
     // Behind reading at an address.
     pub fn reading(order: Order, address: u32) -> Self
-        ensures { (c : Control) → commanded c result ≡ behind c (window-read order address) }
+        ensures { (c : Control) → commanded c result ≡ behind c (window_read order address) }
     {
         if Self::LAST < address {
             return Self::NoCell;
@@ -53,7 +53,7 @@ impl Command {
 
     // Behind writing an octet at an address.
     pub fn writing(order: Order, address: u32, octet: u8) -> Self
-        ensures { (c : Control) → commanded c result ≡ behind c (window-write order address octet) }
+        ensures { (c : Control) → commanded c result ≡ behind c (window_write order address octet) }
     {
         if Self::LAST < address {
             return Self::NoCell;

@@ -1,7 +1,7 @@
 -- `card::command` meets its contract.
 use mir.Facts.{to_z-of_z}
 use mathlib.Core.Path.{◌∙◌}
-use Rattle.card.proofs.Exporting.{exported, handed-on, by_call, by-command}
+use Rattle.card.proofs.Exporting.{exported, handed_on, by_call, by_command}
 use borrow.Author.Rules.{rules}
 use Rattle.card.proofs.command.Statement.{statement}
 use Rattle.card.proofs.command.Tie as tie
@@ -93,7 +93,7 @@ same_length c = search rules
 returns : tie.Need-returns
 returns c =
     let d = c.before.before.before in
-    by-command _ _ _ _ d.before.before.enum_told.given.1 (exported d.event-bits.ensures (to_z-of_z (record { sfits = c.code.type-inv }) ∙ c.code.ensures))
+    by_command _ _ _ _ d.before.before.enum_told.given.1 (exported d.event-bits.ensures (to_z-of_z (record { sfits = c.code.type-inv }) ∙ c.code.ensures))
 
 same-length-2 : tie.Need-same-length-2
 same-length-2 c = search rules
@@ -101,7 +101,7 @@ same-length-2 c = search rules
 returns-2 : tie.Need-returns-2
 returns-2 c =
     let d = c.before.before.before in
-    by-command _ _ _ _ d.before.before.enum-told2.given.1 (exported d.event-bits2.ensures (to_z-of_z (record { sfits = c.code2.type-inv }) ∙ c.code2.ensures))
+    by_command _ _ _ _ d.before.before.enum-told2.given.1 (exported d.event-bits2.ensures (to_z-of_z (record { sfits = c.code2.type-inv }) ∙ c.code2.ensures))
 
 same-length-3 : tie.Need-same-length-3
 same-length-3 c = search rules
@@ -109,7 +109,7 @@ same-length-3 c = search rules
 returns-3 : tie.Need-returns-3
 returns-3 c =
     let d = c.before.before.before in
-    by-command _ _ _ _ d.before.before.enum-told3.given.1 (by_call _ _ (exported d.hand-over.ensures (to_z-of_z (record { sfits = c.code3.type-inv }) ∙ c.code3.ensures)))
+    by_command _ _ _ _ d.before.before.enum-told3.given.1 (by_call _ _ (exported d.hand_over_lem.ensures (to_z-of_z (record { sfits = c.code3.type-inv }) ∙ c.code3.ensures)))
 
 same-length-4 : tie.Need-same-length-4
 same-length-4 c = search rules
@@ -117,8 +117,8 @@ same-length-4 c = search rules
 returns-4 : tie.Need-returns-4
 returns-4 c =
     let d = c.before.before in
-    by-command _ _ _ _ d.before.before.enum-told4.given.1
-    (handed-on (to_z-of_z (record { sfits = d.dp-take-outputs.type-inv })) (by_call _ _ d.dp-take-outputs.ensures))
+    by_command _ _ _ _ d.before.before.enum-told4.given.1
+    (handed_on (to_z-of_z (record { sfits = d.dp-take-outputs.type-inv })) (by_call _ _ d.dp-take-outputs.ensures))
 
 same-length-5 : tie.Need-same-length-5
 same-length-5 c = search rules
@@ -126,7 +126,7 @@ same-length-5 c = search rules
 returns-5 : tie.Need-returns-5
 returns-5 c =
     let d = c.before.before.before in
-    by-command _ _ _ _ d.before.before.enum-told5.given.1 (by_call _ _ (exported d.renew-diagnosis.ensures (to_z-of_z (record { sfits = c.code4.type-inv }) ∙ c.code4.ensures)))
+    by_command _ _ _ _ d.before.before.enum-told5.given.1 (by_call _ _ (exported d.renew-diagnosis.ensures (to_z-of_z (record { sfits = c.code4.type-inv }) ∙ c.code4.ensures)))
 
 same-length-6 : tie.Need-same-length-6
 same-length-6 c = search rules
@@ -134,8 +134,8 @@ same-length-6 c = search rules
 returns-6 : tie.Need-returns-6
 returns-6 c =
     let d = c.before.before in
-    by-command _ _ _ _ d.before.before.before.command.given.1
-    (handed-on (to_z-of_z (record { sfits = d.dp-judge-parameters.type-inv })) (by_call _ _ d.dp-judge-parameters.ensures))
+    by_command _ _ _ _ d.before.before.before.command.given.1
+    (handed_on (to_z-of_z (record { sfits = d.dp-judge-parameters.type-inv })) (by_call _ _ d.dp-judge-parameters.ensures))
 
 same-length-7 : tie.Need-same-length-7
 same-length-7 c = search rules
@@ -143,8 +143,8 @@ same-length-7 c = search rules
 returns-7 : tie.Need-returns-7
 returns-7 c =
     let d = c.before.before in
-    by-command _ _ _ _ d.before.before.before.command2.given.1
-    (handed-on (to_z-of_z (record { sfits = d.dp-judge-configuration.type-inv })) (by_call _ _ d.dp-judge-configuration.ensures))
+    by_command _ _ _ _ d.before.before.before.command2.given.1
+    (handed_on (to_z-of_z (record { sfits = d.dp-judge-configuration.type-inv })) (by_call _ _ d.dp-judge-configuration.ensures))
 
 same-length-8 : tie.Need-same-length-8
 same-length-8 c = search rules
@@ -152,7 +152,7 @@ same-length-8 c = search rules
 returns-8 : tie.Need-returns-8
 returns-8 c =
     let d = c.before.before.before in
-    by-command _ _ _ _ d.before.before.before.command3.given.1 (by_call _ _ (exported d.acknowledge.ensures (to_z-of_z (record { sfits = c.code5.type-inv }) ∙ c.code5.ensures)))
+    by_command _ _ _ _ d.before.before.before.command3.given.1 (by_call _ _ (exported d.acknowledge.ensures (to_z-of_z (record { sfits = c.code5.type-inv }) ∙ c.code5.ensures)))
 
 same-length-9 : tie.Need-same-length-9
 same-length-9 c = search rules
@@ -160,7 +160,7 @@ same-length-9 c = search rules
 returns-9 : tie.Need-returns-9
 returns-9 c =
     let d = c.before in
-    by-command _ _ _ _ d.before.before.enum-told6.given.1 (exported d.nothing.ensures (to_z-of_z (record { sfits = c.code6.type-inv }) ∙ c.code6.ensures))
+    by_command _ _ _ _ d.before.before.enum-told6.given.1 (exported d.nothing.ensures (to_z-of_z (record { sfits = c.code6.type-inv }) ∙ c.code6.ensures))
 
 same-length-10 : tie.Need-same-length-10
 same-length-10 c = search rules
@@ -168,7 +168,7 @@ same-length-10 c = search rules
 returns-10 : tie.Need-returns-10
 returns-10 c =
     let d = c.before in
-    by-command _ _ _ _ d.before.before.enum-told7.given.1 (exported d.no_cell.ensures (to_z-of_z (record { sfits = c.code7.type-inv }) ∙ c.code7.ensures))
+    by_command _ _ _ _ d.before.before.enum-told7.given.1 (exported d.no_cell.ensures (to_z-of_z (record { sfits = c.code7.type-inv }) ∙ c.code7.ensures))
 
 pub command-spec : {M : Type 1} → statement M
 command-spec =

@@ -1,7 +1,7 @@
 -- `card::dp_window_write` meets its contract.
 use mir.Facts.{to_z-of_z}
-use Rattle.window.specs.Entries.{window-write}
-use Rattle.card.proofs.Exporting.{handed-on, by-access}
+use Rattle.window.specs.Entries.{window_write}
+use Rattle.card.proofs.Exporting.{handed_on, by_access}
 use borrow.Author.Rules.{rules}
 use Rattle.card.proofs.dp_window_write.Statement.{statement}
 use Rattle.card.proofs.dp_window_write.Tie as tie
@@ -22,8 +22,8 @@ returns : tie.Need-returns
 returns c =
     let d = c.before.before in
     let g = d.before.before.before.before.before.args in
-    handed-on (to_z-of_z (record { sfits = d.command.type-inv }))
-    (by-access _ (λ o. window-write o g.address g.octet) d.before.writing.result d.before.writing.ensures d.before.before.of.ensures d.command.ensures)
+    handed_on (to_z-of_z (record { sfits = d.command.type-inv }))
+    (by_access _ (λ o. window_write o g.address g.octet) d.before.writing.result d.before.writing.ensures d.before.before.of.ensures d.command.ensures)
 
 pub dp-window-write-spec : {M : Type 1} → statement M
 dp-window-write-spec =

@@ -115,11 +115,11 @@ module _ {M : Type 1} {𝓤 : Ura M} (𝓛 : Logic 𝓤) (at_mem : Memory → SP
       feq_i ! (List Val) (vunit ∷ []) (vunit ∷ []) refl $ move ! (1 ∷ 0 ∷ []) $ done !
 
   -- what `hear`'s triple binds outside, and that the caller has what it asks
-  abbrev to-core : (Core 𝓛 at_mem run).Ghost
-  to-core = (((κ', tt), (q', tt), tt, (h, (x, (v, (t, tt)))), (value h ∷ [], (s ∷ [], (vint w8 v ∷ [], (vbool t ∷ [], tt))))), tt)
+  abbrev to_core : (Core 𝓛 at_mem run).Ghost
+  to_core = (((κ', tt), (q', tt), tt, (h, (x, (v, (t, tt)))), (value h ∷ [], (s ∷ [], (vint w8 v ∷ [], (vbool t ∷ [], tt))))), tt)
 
-  goes-core : ent 𝓤 (sep 𝓤 (sep 𝓤 (A.lft κ' q') (sem 𝓛 ftrue)) (sep 𝓤 (sem 𝓛 (R.own h (value h ∷ []))) (sem 𝓛 ((MutSlice (named 1) κ' u8).own_val x (s ∷ []))))) ((Core 𝓛 at_mem run).pre to-core)
-  goes-core =
+  goes_core : ent 𝓤 (sep 𝓤 (sep 𝓤 (A.lft κ' q') (sem 𝓛 ftrue)) (sep 𝓤 (sem 𝓛 (R.own h (value h ∷ []))) (sem 𝓛 ((MutSlice (named 1) κ' u8).own_val x (s ∷ []))))) ((Core 𝓛 at_mem run).pre to_core)
+  goes_core =
       qed 𝓛 ((‵ (flft κ' q') ⊛ ‵ ftrue) ∷ ‵ (R.own h (value h ∷ [])) ∷ ‵ ((MutSlice (named 1) κ' u8).own_val x (s ∷ [])) ∷ []) ∵
       says ! safe $ nothing ! $ owned ! bool (Is bool) (bool_Makes 𝓛) t _ refl $ fjoin ! $ owned ! u8 (Is u8) (uint_Makes 𝓛 w8) v _ (refl, v-fits) $ fjoin ! $ move ! (3 ∷ 0 ∷ []) $ fjoin ! $ move ! (2 ∷ 0 ∷ []) $ fjoin ! $ move ! (1 ∷ 0 ∷ []) $ frame ! $ done !
 
@@ -138,9 +138,9 @@ module _ {M : Type 1} {𝓤 : Ura M} (𝓛 : Logic 𝓤) (at_mem : Memory → SP
         assigns ! (addr ! (from ! (fld ! refl (hop ! (look_in ! 19 (sub ! 0 refl (whole !))) (stop !))))) (from ! (stop !)) (init ! 9 refl (tt, tt)) $
         assigns ! (agg ! (and_then ! (load ! (from ! (stop !)) (look ! 9 refl)) (and_then ! (load ! (from ! (fld ! refl (stop !))) (look_in ! 19 (sub ! 1 refl (whole !)))) (no_more !)))) (from ! (stop !)) (init ! 7 refl (tt, (tt, (record { fits = room.0 }, tt)))) $
         -- `hear`
-        move ! (6 ∷ []) $ fsplit ! $ move ! (7 ∷ 2 ∷ 0 ∷ []) $ use3 𝓛 (raw ((Core 𝓛 at_mem run).pre to-core)) goes-core $
+        move ! (6 ∷ []) $ fsplit ! $ move ! (7 ∷ 2 ∷ 0 ∷ []) $ use3 𝓛 (raw ((Core 𝓛 at_mem run).pre to_core)) goes_core $
         -- [its pre; what value and bad own; the struct's cell; the open borrow; obs; auth; _8; …]
-        calls_at ! fm (Core 𝓛 at_mem run) known to-core (and_then ! (load ! (from ! (stop !)) (look ! 10 refl)) (and_then ! (load ! (from ! (stop !)) (look ! 6 refl)) (and_then ! (load ! (from ! (stop !)) (look ! 16 refl)) (and_then ! (load ! (from ! (stop !)) (look ! 14 refl)) (no_more !))))) (λ w.
+        calls_at ! fm (Core 𝓛 at_mem run) known to_core (and_then ! (load ! (from ! (stop !)) (look ! 10 refl)) (and_then ! (load ! (from ! (stop !)) (look ! 6 refl)) (and_then ! (load ! (from ! (stop !)) (look ! 16 refl)) (and_then ! (load ! (from ! (stop !)) (look ! 14 refl)) (no_more !))))) (λ w.
         use1 𝓛 (later (some (λ (r : State). ((‵ (flft κ' q') ⊛ ‵ ftrue) ⊛ ‵ (R.own r (w ∷ []))) ⊛ raw (ensured 𝓛 core.ended (core.clauses 𝓛 at_mem run) (κ', tt) (h, (x, (v, (t, tt)))) tt r)))) (id⊢ 𝓤 _) $ await ! tt $ pick ! (λ r.
         split ! $ move ! (1 ∷ []) $ use1 𝓛 (some (λ (zs : Unit {0} × (List ℕ × (Unit {0} × (Unit {0} × Unit {0})))). ‵ (lasts core.ended (κ', tt) (h, (x, (v, (t, tt)))) zs) ⊛ raw (fact 𝓤 (Says h ys v t r zs.1.0)))) (id⊢ 𝓤 _) $ pick ! (λ zs.
         split ! $ move ! (1 ∷ []) $ heard ! (Says h ys v t r zs.1.0) (λ e. fsplit ! $ drop ! $ fsplit ! $ fsplit ! $ move ! (1 ∷ []) $ feq_l ! (λ l.
@@ -158,21 +158,21 @@ module _ {M : Type 1} {𝓤 : Ura M} (𝓛 : Logic 𝓤) (at_mem : Memory → SP
 module _ {M : Type 1} {𝓤 : Ura M} (𝓛 : Logic 𝓤) (mem : Memory → SProp 𝓤) (run : Routine → Fun 𝓤) where
   open 𝓛 use {H}
 
-  octet-walks : (C : Calls 𝓤 H) (Λ : Loops 𝓤 H) → FmC 𝓤 H 𝓛.laws C → Triple 𝓤 (C #station·hear) (Core 𝓛 mem run) → Walks 𝓛 octet.ended stayed (WpFn 𝓤 H C Λ fn) (octet.clauses 𝓛 mem run)
-  octet-walks C Λ fm known = walked 𝓛 octet.ended stayed (octet.clauses 𝓛 mem run) (WpFn 𝓤 H C Λ fn) (λ κs. (mut_vals, (mut_slice_vals, (uint_vals w8, (bool_vals, tt))))) (λ κs. (mut_Tells (named 0) κs.0 R, (mut_slice_Tells (named 1) κs.1.0 u8, (uint_Tells w8, (bool_Tells, tt)))))
+  octet_walks : (C : Calls 𝓤 H) (Λ : Loops 𝓤 H) → FmC 𝓤 H 𝓛.laws C → Triple 𝓤 (C #station·hear) (Core 𝓛 mem run) → Walks 𝓛 octet.ended stayed (WpFn 𝓤 H C Λ fn) (octet.clauses 𝓛 mem run)
+  octet_walks C Λ fm known = walked 𝓛 octet.ended stayed (octet.clauses 𝓛 mem run) (WpFn 𝓤 H C Λ fn) (λ κs. (mut_vals, (mut_slice_vals, (uint_vals w8, (bool_vals, tt))))) (λ κs. (mut_Tells (named 0) κs.0 R, (mut_slice_Tells (named 1) κs.1.0 u8, (uint_Tells w8, (bool_Tells, tt)))))
       (λ κs qs bounds a g are. needs 𝓤 (Safe a.0.now a.1.0.now) _ (λ safe. walk 𝓛 mem run κs.0 κs.1.0 bounds qs.0 qs.1.0 a.0.ref_ptr.0 a.0.ref_ptr.1 a.0.ghost_name a.0.now a.1.0.ref_ptr.0 a.1.0.ref_ptr.1 a.1.0.ghost_name a.1.0.now a.1.1.0 are.1.1.0.1 a.1.1.1.0 safe C Λ fm known are.1.0.0.1))
 
-octet-meets : {M : Type 1} {𝓤 : Ura M} (𝓛 : Logic 𝓤) → (mem : Memory → SProp 𝓤) (run : Routine → Fun 𝓤) (𝓣 : Tables 𝓤 𝓛.H) → Triple 𝓤 (𝓣.C #station·hear) (Core 𝓛 mem run)
+octet_meets : {M : Type 1} {𝓤 : Ura M} (𝓛 : Logic 𝓤) → (mem : Memory → SProp 𝓤) (run : Routine → Fun 𝓤) (𝓣 : Tables 𝓤 𝓛.H) → Triple 𝓤 (𝓣.C #station·hear) (Core 𝓛 mem run)
     → Meets 𝓛 octet.signature (WpFn 𝓤 𝓛.H 𝓣.C 𝓣.Λ code.function) (octet.spec 𝓛 mem run)
-octet-meets {𝓤 = 𝓤} 𝓛 mem run 𝓣 known =
+octet_meets {𝓤 = 𝓤} 𝓛 mem run 𝓣 known =
     walk_Meets 𝓛 octet.ended stayed (Goes-ref 𝓛 2 0 tt (plain (λ _. R)), (Goes-gave_slice 𝓛 2 1 tt (plain (λ _. u8)), (Goes-none 𝓛 2 (λ _. u8) yes (λ κs x f. refl), (Goes-none 𝓛 2 (λ _. bool) yes (λ κs x f. refl), tt)))) (octet.clauses 𝓛 mem run)
     (WpFn 𝓤 𝓛.H 𝓣.C 𝓣.Λ code.function) (WpFn-mono 𝓤 𝓛.H 𝓛.laws 𝓣 code.function)
-    (subst (λ (f : Fn). Walks 𝓛 octet.ended stayed (WpFn 𝓤 𝓛.H 𝓣.C 𝓣.Λ f) (octet.clauses 𝓛 mem run)) (sym same) (octet-walks 𝓛 mem run 𝓣.C 𝓣.Λ (fm_of 𝓤 𝓛.H 𝓛.laws 𝓣) known))
+    (subst (λ (f : Fn). Walks 𝓛 octet.ended stayed (WpFn 𝓤 𝓛.H 𝓣.C 𝓣.Λ f) (octet.clauses 𝓛 mem run)) (sym same) (octet_walks 𝓛 mem run 𝓣.C 𝓣.Λ (fm_of 𝓤 𝓛.H 𝓛.laws 𝓣) known))
 
 pub octet-spec : {M : Type 1} → stated.statement M
 unfolding code.routine tables_of
 octet-spec 𝓤 𝓛 𝓜 𝓡 =
     entered 𝓤 𝓛.H (triple_of 𝓛 octet.signature (octet.spec 𝓛 𝓜.mem 𝓡.run))
     (tables 𝓤 𝓛.H 𝓜 𝓡 code.env).C (tables 𝓤 𝓛.H 𝓜 𝓡 code.env).Λ #lent·octet code.function (code.unfolded 𝓤 𝓛.H 𝓜 𝓡)
-    (octet-meets 𝓛 𝓜.mem 𝓡.run (tables_of 𝓤 𝓛.H 𝓜 (tables 𝓤 𝓛.H 𝓜 𝓡 code.env))
+    (octet_meets 𝓛 𝓜.mem 𝓡.run (tables_of 𝓤 𝓛.H 𝓜 (tables 𝓤 𝓛.H 𝓜 𝓡 code.env))
     (cited 𝓤 𝓛.H (Core 𝓛 𝓜.mem 𝓡.run) 𝓜 𝓡 code.env #station·hear core-def.routine code.calls-station::reading::hear (core-thm.met 𝓤 𝓛 𝓜 𝓡)))

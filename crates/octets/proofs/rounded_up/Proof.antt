@@ -1,7 +1,7 @@
 -- `octets::rounded_up` meets its contract.
 use native.Mathlib.Omega.{arith}
 use mathlib.Core.Path.{refl}
-use Rattle.octets.specs.Part.{roundedUp}
+use Rattle.octets.specs.Part.{rounded_up}
 use borrow.Author.Rules.{rules}
 use Rattle.octets.proofs.rounded_up.Statement.{statement}
 use Rattle.octets.proofs.rounded_up.Tie as tie
@@ -13,7 +13,7 @@ mul-result : tie.Need-overflow-mul-result
 mul-result c = search rules
 
 returns : tie.Need-returns
-unfolding roundedUp
+unfolding rounded_up
 returns c = (refl, omega arith)
 
 pub rounded-up-spec : {M : Type 1} → statement M

@@ -2,7 +2,7 @@ use lib.IntN.{pos, ◌-ℤ◌}
 use mir.Syntax.{w64}
 use mir.Val.{to_z, of_z}
 use mir.Facts.{to_z-of_z}
-use Rattle.replay.proofs.Signed.{not-below, casts, turned}
+use Rattle.replay.proofs.Signed.{not_below, casts, turned}
 use borrow.Author.Rules.{rules}
 use Rattle.replay.proofs.print_answer.Statement.{statement}
 use Rattle.replay.proofs.print_answer.Tie as tie
@@ -10,7 +10,7 @@ use Rattle.replay.proofs.print_answer.Tie as tie
 cast-print-number : tie.Need-overflow-cast-print-number
 cast-print-number c =
     let f = c.before.ranges.answer in
-    casts c.before.args.answer f (not-below c.before.args.answer (rw (to_z-of_z f) at c.if1.true))
+    casts c.before.args.answer f (not_below c.before.args.answer (rw (to_z-of_z f) at c.if1.true))
 
 print-number-requires : tie.Need-print-number-requires
 print-number-requires c κs = search rules

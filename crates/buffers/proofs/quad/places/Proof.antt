@@ -2,17 +2,17 @@
 use Prim.Native.Nat.{ℕ, zero, suc}
 use mathlib.Core.Path.{◌≡◌, refl, sym, ap}
 use mathlib.Core.List.{[], ◌∷◌}
-use Rattle.buffers.specs.Number.{placesOf4}
+use Rattle.buffers.specs.Number.{places_of4}
 use Rattle.buffers.proofs.quad.places.Statement.{statement}
 use Rattle.buffers.proofs.quad.places.Tie as tie
 
 -- an arm of the match answers for its number
-found : {k n : ℕ} → n ≡ k → placesOf4 k ≡ placesOf4 n
-found e = ap placesOf4 (sym e)
+found : {k n : ℕ} → n ≡ k → places_of4 k ≡ places_of4 n
+found e = ap places_of4 (sym e)
 
 -- beside the numbers named stands the first permutation
-otherwise : (n : ℕ) → (n ≡ 1 → ⊥) → (n ≡ 2 → ⊥) → (n ≡ 3 → ⊥) → (n ≡ 4 → ⊥) → (n ≡ 5 → ⊥) → (n ≡ 6 → ⊥) → (n ≡ 7 → ⊥) → (n ≡ 8 → ⊥) → (n ≡ 9 → ⊥) → (n ≡ 10 → ⊥) → (n ≡ 11 → ⊥) → (n ≡ 12 → ⊥) → (n ≡ 13 → ⊥) → (n ≡ 14 → ⊥) → (n ≡ 15 → ⊥) → (n ≡ 16 → ⊥) → (n ≡ 17 → ⊥) → (n ≡ 18 → ⊥) → (n ≡ 19 → ⊥) → (n ≡ 20 → ⊥) → (n ≡ 21 → ⊥) → (n ≡ 22 → ⊥) → (n ≡ 23 → ⊥) → placesOf4 n ≡ 0 ∷ 1 ∷ 2 ∷ 3 ∷ []
-unfolding placesOf4
+otherwise : (n : ℕ) → (n ≡ 1 → ⊥) → (n ≡ 2 → ⊥) → (n ≡ 3 → ⊥) → (n ≡ 4 → ⊥) → (n ≡ 5 → ⊥) → (n ≡ 6 → ⊥) → (n ≡ 7 → ⊥) → (n ≡ 8 → ⊥) → (n ≡ 9 → ⊥) → (n ≡ 10 → ⊥) → (n ≡ 11 → ⊥) → (n ≡ 12 → ⊥) → (n ≡ 13 → ⊥) → (n ≡ 14 → ⊥) → (n ≡ 15 → ⊥) → (n ≡ 16 → ⊥) → (n ≡ 17 → ⊥) → (n ≡ 18 → ⊥) → (n ≡ 19 → ⊥) → (n ≡ 20 → ⊥) → (n ≡ 21 → ⊥) → (n ≡ 22 → ⊥) → (n ≡ 23 → ⊥) → places_of4 n ≡ 0 ∷ 1 ∷ 2 ∷ 3 ∷ []
+unfolding places_of4
 otherwise zero h1 h2 h3 h4 h5 h6 h7 h8 h9 h10 h11 h12 h13 h14 h15 h16 h17 h18 h19 h20 h21 h22 h23 = refl
 otherwise (suc zero) h1 h2 h3 h4 h5 h6 h7 h8 h9 h10 h11 h12 h13 h14 h15 h16 h17 h18 h19 h20 h21 h22 h23 = absurd (h1 refl)
 otherwise (suc (suc zero)) h1 h2 h3 h4 h5 h6 h7 h8 h9 h10 h11 h12 h13 h14 h15 h16 h17 h18 h19 h20 h21 h22 h23 = absurd (h2 refl)
@@ -40,95 +40,95 @@ otherwise (suc (suc (suc (suc (suc (suc (suc (suc (suc (suc (suc (suc (suc (suc 
 otherwise (suc (suc (suc (suc (suc (suc (suc (suc (suc (suc (suc (suc (suc (suc (suc (suc (suc (suc (suc (suc (suc (suc (suc (suc n)))))))))))))))))))))))) h1 h2 h3 h4 h5 h6 h7 h8 h9 h10 h11 h12 h13 h14 h15 h16 h17 h18 h19 h20 h21 h22 h23 = refl
 
 returns : tie.Need-returns
-unfolding placesOf4
+unfolding places_of4
 returns c = found c.match.keys1
 
 returns-2 : tie.Need-returns-2
-unfolding placesOf4
+unfolding places_of4
 returns-2 c = found c.match.keys2
 
 returns-3 : tie.Need-returns-3
-unfolding placesOf4
+unfolding places_of4
 returns-3 c = found c.match.keys3
 
 returns-4 : tie.Need-returns-4
-unfolding placesOf4
+unfolding places_of4
 returns-4 c = found c.match.keys4
 
 returns-5 : tie.Need-returns-5
-unfolding placesOf4
+unfolding places_of4
 returns-5 c = found c.match.keys5
 
 returns-6 : tie.Need-returns-6
-unfolding placesOf4
+unfolding places_of4
 returns-6 c = found c.match.keys6
 
 returns-7 : tie.Need-returns-7
-unfolding placesOf4
+unfolding places_of4
 returns-7 c = found c.match.keys7
 
 returns-8 : tie.Need-returns-8
-unfolding placesOf4
+unfolding places_of4
 returns-8 c = found c.match.keys8
 
 returns-9 : tie.Need-returns-9
-unfolding placesOf4
+unfolding places_of4
 returns-9 c = found c.match.keys9
 
 returns-10 : tie.Need-returns-10
-unfolding placesOf4
+unfolding places_of4
 returns-10 c = found c.match.keys10
 
 returns-11 : tie.Need-returns-11
-unfolding placesOf4
+unfolding places_of4
 returns-11 c = found c.match.keys11
 
 returns-12 : tie.Need-returns-12
-unfolding placesOf4
+unfolding places_of4
 returns-12 c = found c.match.keys12
 
 returns-13 : tie.Need-returns-13
-unfolding placesOf4
+unfolding places_of4
 returns-13 c = found c.match.keys13
 
 returns-14 : tie.Need-returns-14
-unfolding placesOf4
+unfolding places_of4
 returns-14 c = found c.match.keys14
 
 returns-15 : tie.Need-returns-15
-unfolding placesOf4
+unfolding places_of4
 returns-15 c = found c.match.keys15
 
 returns-16 : tie.Need-returns-16
-unfolding placesOf4
+unfolding places_of4
 returns-16 c = found c.match.keys16
 
 returns-17 : tie.Need-returns-17
-unfolding placesOf4
+unfolding places_of4
 returns-17 c = found c.match.keys17
 
 returns-18 : tie.Need-returns-18
-unfolding placesOf4
+unfolding places_of4
 returns-18 c = found c.match.keys18
 
 returns-19 : tie.Need-returns-19
-unfolding placesOf4
+unfolding places_of4
 returns-19 c = found c.match.keys19
 
 returns-20 : tie.Need-returns-20
-unfolding placesOf4
+unfolding places_of4
 returns-20 c = found c.match.keys20
 
 returns-21 : tie.Need-returns-21
-unfolding placesOf4
+unfolding places_of4
 returns-21 c = found c.match.keys21
 
 returns-22 : tie.Need-returns-22
-unfolding placesOf4
+unfolding places_of4
 returns-22 c = found c.match.keys22
 
 returns-23 : tie.Need-returns-23
-unfolding placesOf4
+unfolding places_of4
 returns-23 c = found c.match.keys23
 
 returns-24 : tie.Need-returns-24

@@ -1,8 +1,8 @@
 -- `channels::deeds::fill` meets its contract.
 use borrow.Author.Tests.{le-ltb}
 use Rattle.channels.specs.declared.channel.Channel.{Channel}
-use Rattle.channels.specs.Deeds.{filled, filledIn}
-use Rattle.channels.proofs.Done.{saved-by}
+use Rattle.channels.specs.Deeds.{filled, filled_in}
+use Rattle.channels.proofs.Done.{saved_by}
 use borrow.Author.Rules.{rules}
 use Rattle.channels.proofs.deeds.fill.Statement.{statement}
 use Rattle.channels.proofs.deeds.fill.Tie as tie
@@ -20,14 +20,14 @@ same_length : tie.Need-same-length
 same_length c = search rules
 
 returns : tie.Need-returns
-unfolding filledIn
+unfolding filled_in
 returns c =
     let l = c.before.before.before.before.before in
     let s = l.before.before.before.before.args in
-    saved-by (λ (x : Channel). filled x s.count) s.mem.now _ s.n _ _ l.before.before.if1.true l.load.ensures c.before.before.before.before.filled.ensures c.before.before.save.ensures
+    saved_by (λ (x : Channel). filled x s.count) s.mem.now _ s.n _ _ l.before.before.if1.true l.load.ensures c.before.before.before.before.filled.ensures c.before.before.save.ensures
 
 returns-2 : tie.Need-returns-2
-unfolding filledIn
+unfolding filled_in
 returns-2 c = simp (le-ltb _ _ c.if1.false)
 
 pub fill_spec : {M : Type 1} → statement M

@@ -3,7 +3,7 @@ use mathlib.Core.Path.{◌∙◌}
 use lib.ListN.{length}
 use Rattle.octets.specs.Part.{pasted}
 use Rattle.channels.specs.Image.{saved}
-use Rattle.channels.specs.Deeds.{responded, respondedIn}
+use Rattle.channels.specs.Deeds.{responded, responded_in}
 use borrow.Author.Rules.{rules}
 use Rattle.channels.proofs.deeds.respond.Statement.{statement}
 use Rattle.channels.proofs.deeds.respond.Tie as tie
@@ -27,7 +27,7 @@ same_length : tie.Need-same-length
 same_length c = search rules
 
 returns : tie.Need-returns
-unfolding respondedIn
+unfolding responded_in
 returns c =
     let l = c.before.before.before.before.before.before.before.before.before in
     let s = l.before.before.before.before.args in

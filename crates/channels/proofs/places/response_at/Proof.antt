@@ -1,7 +1,7 @@
 -- `channels::places::response_at` meets its contract.
 use Prim.Native.Nat.{◌+◌}
 use mathlib.Core.Path.{ap, ◌∙◌}
-use Rattle.octets.specs.Part.{roundedUp}
+use Rattle.octets.specs.Part.{rounded_up}
 use Rattle.channels.specs.declared.channel.Channel.{Channel}
 use Rattle.channels.specs.Image.{loaded}
 use borrow.Author.Rules.{rules}
@@ -23,7 +23,7 @@ add-result c = search rules
 returns : tie.Need-returns
 unfolding loaded
 returns c =
-    let e = c.rounded-up.ensures.0 ∙ ap (λ (x : Channel). roundedUp x.indication_len) c.before.before.load.ensures in
+    let e = c.rounded-up.ensures.0 ∙ ap (λ (x : Channel). rounded_up x.indication_len) c.before.before.load.ensures in
     λ i. c.before.indication-at.ensures.0 i + e i
 
 pub response-at-spec : {M : Type 1} → statement M

@@ -2,23 +2,23 @@
 use Prim.Native.Nat.{◌*◌, ◌-◌, ◌≤◌}
 use native.Mathlib.Omega.{arith}
 use mathlib.Core.Path.{◌≡◌, refl, ap, ◌∙◌}
-use Rattle.octets.specs.Part.{roundedUp}
+use Rattle.octets.specs.Part.{rounded_up}
 use Rattle.channels.specs.declared.channel.Channel.{Channel}
 use Rattle.channels.specs.Image.{loaded}
-use Rattle.channels.specs.Places.{lengthsIn, roomFrom}
+use Rattle.channels.specs.Places.{lengths_in, room_from}
 use Rattle.channels.proofs.Found.{room_next}
 use borrow.Author.Rules.{rules}
 use Rattle.channels.proofs.places.room_before.Statement.{statement}
 use Rattle.channels.proofs.places.room_before.Tie as tie
 
 abbrev invariant-loop : tie.invariant-loop
-invariant-loop mem n room₀ k₀ room k = (k ≤ n) × (room ≡ roomFrom (lengthsIn mem) 0 k) × (room ≤ 512 * k)
+invariant-loop mem n room₀ k₀ room k = (k ≤ n) × (room ≡ room_from (lengths_in mem) 0 k) × (room ≤ 512 * k)
 
 abbrev decreases-loop : tie.decreases-loop
 decreases-loop mem n room₀ k₀ room k = n - k
 
 loop-holds : tie.Need-loop-init invariant-loop decreases-loop
-unfolding roomFrom
+unfolding room_from
 loop-holds c = (omega arith, refl, omega arith)
 
 load-requires : tie.Need-load-requires invariant-loop decreases-loop
@@ -51,9 +51,9 @@ loop-again c =
     let u = c.before.rounded-up.ensures in
     let v = c.rounded-up2.ensures in (
       omega arith,
-      room_next (lengthsIn m) b.loop.k b.loop.room _ _ b.loop.invariant.1
-          (u.0 ∙ ap (λ (x : Channel). roundedUp x.indication_len) e)
-          (v.0 ∙ ap (λ (x : Channel). roundedUp x.response_len) e),
+      room_next (lengths_in m) b.loop.k b.loop.room _ _ b.loop.invariant.1
+          (u.0 ∙ ap (λ (x : Channel). rounded_up x.indication_len) e)
+          (v.0 ∙ ap (λ (x : Channel). rounded_up x.response_len) e),
       omega arith,
     )
 
@@ -61,7 +61,7 @@ returns : tie.Need-returns invariant-loop decreases-loop
 returns c =
     let s = c.before.before.before.args in
     let e : c.before.loop.k ≡ s.n = omega arith in
-    (c.before.loop.invariant.1 ∙ ap (roomFrom (lengthsIn s.mem.now) 0) e, omega arith)
+    (c.before.loop.invariant.1 ∙ ap (room_from (lengths_in s.mem.now) 0) e, omega arith)
 
 pub room-before-spec : {M : Type 1} → statement M
 room-before-spec =

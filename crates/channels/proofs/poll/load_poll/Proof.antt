@@ -1,6 +1,6 @@
 -- `channels::poll::load_poll` meets its contract.
 use mathlib.Core.Path.{refl}
-use Rattle.channels.specs.Image.{pollIn}
+use Rattle.channels.specs.Image.{poll_in}
 use borrow.Author.Rules.{rules}
 use Rattle.channels.proofs.poll.load_poll.Statement.{statement}
 use Rattle.channels.proofs.poll.load_poll.Tie as tie
@@ -12,7 +12,7 @@ shared-slice-read-t5 : tie.Need-shared-slice-read-t5
 shared-slice-read-t5 c = search rules
 
 returns : tie.Need-returns
-unfolding pollIn
+unfolding poll_in
 returns c = refl
 
 pub load-poll-spec : {M : Type 1} → statement M

@@ -1,6 +1,6 @@
 -- `channels::poll::save_poll` meets its contract.
 use mathlib.Core.Path.{refl}
-use Rattle.channels.specs.Image.{pollSaved}
+use Rattle.channels.specs.Image.{poll_saved}
 use borrow.Author.Rules.{rules}
 use Rattle.channels.proofs.poll.save_poll.Statement.{statement}
 use Rattle.channels.proofs.poll.save_poll.Tie as tie
@@ -15,7 +15,7 @@ same_length : tie.Need-same-length
 same_length c = search rules
 
 returns : tie.Need-returns
-unfolding pollSaved
+unfolding poll_saved
 returns c = refl
 
 pub save-poll-spec : {M : Type 1} → statement M

@@ -6,27 +6,27 @@ use mathlib.Core.Bool.{true, ◌&&◌}
 use lib.ListN.{length}
 use borrow.Author.Tests.{eq-eqb, ne_eqb, not-true, not-false}
 use Rattle.channels.specs.Image.{channels}
-use Rattle.channels.specs.Rules.{eachFrom}
-use Rattle.channels.specs.Setting.{lengthOctets, pairTest, lengthsOk}
-use Rattle.channels.proofs.Found.{each-false, each_next}
+use Rattle.channels.specs.Rules.{each_from}
+use Rattle.channels.specs.Setting.{length_octets, pair_test, lengths_ok}
+use Rattle.channels.proofs.Found.{each_false, each_next}
 use borrow.Author.Rules.{rules}
 use Rattle.channels.proofs.setting.lengths_ok.Statement.{statement}
 use Rattle.channels.proofs.setting.lengths_ok.Tie as tie
 
 abbrev invariant-loop : tie.invariant-loop
-invariant-loop lengths n₀ n = (n ≤ channels) × (eachFrom (pairTest lengths) 0 n ≡ true)
+invariant-loop lengths n₀ n = (n ≤ channels) × (each_from (pair_test lengths) 0 n ≡ true)
 
 abbrev decreases-loop : tie.decreases-loop
 decreases-loop lengths n₀ n = channels - n
 
 returns : tie.Need-returns invariant-loop decreases-loop
-unfolding lengthsOk
+unfolding lengths_ok
 returns c =
     let xs = c.before.before.args.lengths.now in
-    sym (ap (λ t. t && eachFrom (pairTest xs) 0 channels) (ne_eqb (length xs) lengthOctets c.if1.true))
+    sym (ap (λ t. t && each_from (pair_test xs) 0 channels) (ne_eqb (length xs) length_octets c.if1.true))
 
 loop-holds : tie.Need-loop-init invariant-loop decreases-loop
-unfolding eachFrom
+unfolding each_from
 loop-holds c = (omega arith, refl)
 
 mul-lengths-ok : tie.Need-overflow-mul-lengths-ok invariant-loop decreases-loop
@@ -48,12 +48,12 @@ lengths-ok-requires : tie.Need-lengths-ok-requires invariant-loop decreases-loop
 lengths-ok-requires c κs = search rules
 
 returns-2 : tie.Need-returns-2 invariant-loop decreases-loop
-unfolding lengthsOk
+unfolding lengths_ok
 returns-2 c =
     let xs = c.before.before.before.before.before.before.before.before.args.lengths.now in
     let n = c.before.before.before.before.before.loop.n in
     let e = c.before.before.before.before.before.before.if1.false in
-    sym (λ i. eq-eqb (length xs) lengthOctets e i && each-false (pairTest xs) n channels (omega arith) (sym c.before.lengths-ok.ensures ∙ not-true _ c.if2.true) i)
+    sym (λ i. eq-eqb (length xs) length_octets e i && each_false (pair_test xs) n channels (omega arith) (sym c.before.lengths_ok_lem.ensures ∙ not-true _ c.if2.true) i)
 
 add-n : tie.Need-overflow-add-n invariant-loop decreases-loop
 add-n c = search rules
@@ -65,14 +65,14 @@ loop-again : tie.Need-loop-preserved invariant-loop decreases-loop
 loop-again c =
     let xs = c.before.before.before.before.before.before.before.before.args.lengths.now in
     let b = c.before.before.before.before.before in
-    (omega arith, each_next (pairTest xs) b.loop.n b.loop.invariant.1 (sym c.before.lengths-ok.ensures ∙ not-false _ c.if2.false))
+    (omega arith, each_next (pair_test xs) b.loop.n b.loop.invariant.1 (sym c.before.lengths_ok_lem.ensures ∙ not-false _ c.if2.false))
 
 returns-3 : tie.Need-returns-3 invariant-loop decreases-loop
-unfolding lengthsOk
+unfolding lengths_ok
 returns-3 c =
     let xs = c.before.before.before.before.args.lengths.now in
     let n : c.before.loop.n ≡ channels = omega arith in
-    sym (λ i. eq-eqb (length xs) lengthOctets c.before.before.if1.false i && (ap (eachFrom (pairTest xs) 0) (sym n) ∙ c.before.loop.invariant.1) i)
+    sym (λ i. eq-eqb (length xs) length_octets c.before.before.if1.false i && (ap (each_from (pair_test xs) 0) (sym n) ∙ c.before.loop.invariant.1) i)
 
 pub lengths-ok-spec : {M : Type 1} → statement M
 lengths-ok-spec =

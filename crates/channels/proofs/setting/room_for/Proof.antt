@@ -3,21 +3,21 @@ use Prim.Native.Nat.{◌*◌, ◌-◌, ◌≤◌}
 use native.Mathlib.Omega.{arith}
 use mathlib.Core.Path.{◌≡◌, refl, ap, ◌∙◌}
 use Rattle.channels.specs.Image.{channels}
-use Rattle.channels.specs.Places.{roomFrom}
-use Rattle.channels.specs.Setting.{lengthsGiven}
+use Rattle.channels.specs.Places.{room_from}
+use Rattle.channels.specs.Setting.{lengths_given}
 use Rattle.channels.proofs.Found.{room_next}
 use borrow.Author.Rules.{rules}
 use Rattle.channels.proofs.setting.room_for.Statement.{statement}
 use Rattle.channels.proofs.setting.room_for.Tie as tie
 
 abbrev invariant-loop : tie.invariant-loop
-invariant-loop lengths room₀ n₀ room n = (n ≤ channels) × (room ≡ roomFrom (lengthsGiven lengths) 0 n) × (room ≤ 512 * n)
+invariant-loop lengths room₀ n₀ room n = (n ≤ channels) × (room ≡ room_from (lengths_given lengths) 0 n) × (room ≤ 512 * n)
 
 abbrev decreases-loop : tie.decreases-loop
 decreases-loop lengths room₀ n₀ room n = channels - n
 
 loop-holds : tie.Need-loop-init invariant-loop decreases-loop
-unfolding roomFrom
+unfolding room_from
 loop-holds c = (omega arith, refl, omega arith)
 
 mul-rounded-up : tie.Need-overflow-mul-rounded-up invariant-loop decreases-loop
@@ -59,13 +59,13 @@ loop-again c =
     let b = c.before.before.before.before.before in
     let u = c.before.before.rounded-up.ensures in
     let v = c.rounded-up2.ensures in
-    (omega arith, room_next (lengthsGiven xs) b.loop.n b.loop.room _ _ b.loop.invariant.1 u.0 v.0, omega arith)
+    (omega arith, room_next (lengths_given xs) b.loop.n b.loop.room _ _ b.loop.invariant.1 u.0 v.0, omega arith)
 
 returns : tie.Need-returns invariant-loop decreases-loop
 returns c =
     let xs = c.before.before.before.args.lengths.now in
     let e : c.before.loop.n ≡ channels = omega arith in
-    (c.before.loop.invariant.1 ∙ ap (roomFrom (lengthsGiven xs) 0) e, omega arith)
+    (c.before.loop.invariant.1 ∙ ap (room_from (lengths_given xs) 0) e, omega arith)
 
 pub room-for-spec : {M : Type 1} → statement M
 room-for-spec =

@@ -6,20 +6,20 @@ use mathlib.Core.Path.{◌≡◌, refl, ap, ◌∙◌}
 use mathlib.Core.List.{List}
 use lib.ListN.{length}
 use Rattle.channels.specs.Image.{channels, saved}
-use Rattle.channels.specs.Setting.{free, setUp}
-use Rattle.channels.proofs.Columns.{saved-length}
+use Rattle.channels.specs.Setting.{free, set_up}
+use Rattle.channels.proofs.Columns.{saved_length}
 use borrow.Author.Rules.{rules}
 use Rattle.channels.proofs.setting.set_up.Statement.{statement}
 use Rattle.channels.proofs.setting.set_up.Tie as tie
 
 abbrev invariant-loop : tie.invariant-loop
-invariant-loop mem₀ lengths n₀ mem n = (n ≤ channels) × (mem ≡ setUp mem₀ lengths n) × (length mem ≡ length mem₀)
+invariant-loop mem₀ lengths n₀ mem n = (n ≤ channels) × (mem ≡ set_up mem₀ lengths n) × (length mem ≡ length mem₀)
 
 abbrev decreases-loop : tie.decreases-loop
 decreases-loop mem₀ lengths n₀ mem n = channels - n
 
 loop-holds : tie.Need-loop-init invariant-loop decreases-loop
-unfolding setUp
+unfolding set_up
 loop-holds c = (omega arith, refl, refl)
 
 mul-t6 : tie.Need-overflow-mul-t6 invariant-loop decreases-loop
@@ -47,7 +47,7 @@ loop-less : tie.Need-loop-smaller invariant-loop decreases-loop
 loop-less c = search rules
 
 loop-again : tie.Need-loop-preserved invariant-loop decreases-loop
-unfolding setUp
+unfolding set_up
 loop-again c =
     let b = c.before.before.before.before.before.before.before in
     let s = b.before.before.before in
@@ -55,7 +55,7 @@ loop-again c =
     let xs = s.args.lengths.now in (
       omega arith,
       rw (add-one n) (c.before.before.save.ensures ∙ ap (λ (l : List ℕ). saved l n (free xs n)) b.loop.invariant.1),
-      ap length c.before.before.save.ensures ∙ saved-length _ n (free xs n) ∙ b.loop.invariant.2,
+      ap length c.before.before.save.ensures ∙ saved_length _ n (free xs n) ∙ b.loop.invariant.2,
     )
 
 same_length : tie.Need-same-length invariant-loop decreases-loop
@@ -65,7 +65,7 @@ returns : tie.Need-returns invariant-loop decreases-loop
 returns c =
     let s = c.before.before.before.before in
     let e : c.before.loop.n ≡ channels = omega arith in
-    c.before.loop.invariant.1 ∙ ap (setUp s.args.mem.now s.args.lengths.now) e
+    c.before.loop.invariant.1 ∙ ap (set_up s.args.mem.now s.args.lengths.now) e
 
 pub set-up-spec : {M : Type 1} → statement M
 set-up-spec =

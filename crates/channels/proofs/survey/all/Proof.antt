@@ -3,7 +3,7 @@ use mathlib.Core.Path.{sym, ◌∙◌}
 use borrow.Author.Tests.{eq-eqb, ne_eqb}
 use Rattle.channels.specs.Image.{channels}
 use Rattle.channels.specs.Places.{surveyed}
-use Rattle.channels.proofs.Found.{says-damaged, found-says}
+use Rattle.channels.proofs.Found.{says_damaged, found_says}
 use borrow.Author.Rules.{rules}
 use Rattle.channels.proofs.survey.all.Statement.{statement}
 use Rattle.channels.proofs.survey.all.Tie as tie
@@ -13,7 +13,7 @@ all-broken-requires c κs = search rules
 
 returns : tie.Need-returns
 unfolding surveyed
-returns c = says-damaged _ _ (sym c.before.all-broken.ensures ∙ ne_eqb _ 0 c.if1.true)
+returns c = says_damaged _ _ (sym c.before.all-broken.ensures ∙ ne_eqb _ 0 c.if1.true)
 
 all-eighths-requires : tie.Need-all-eighths-requires
 all-eighths-requires c κs =
@@ -29,7 +29,7 @@ mul-t6 c = search rules
 returns-2 : tie.Need-returns-2
 returns-2 c =
     let s = c.before.before.before.before in
-    found-says s.args.mem.now 0 channels _ (sym c.before.before.all-broken.ensures ∙ eq-eqb _ 0 c.before.if1.false, c.all-eighths.ensures.0)
+    found_says s.args.mem.now 0 channels _ (sym c.before.before.all-broken.ensures ∙ eq-eqb _ 0 c.before.if1.false, c.all-eighths.ensures.0)
 
 pub all-spec : {M : Type 1} → statement M
 all-spec =

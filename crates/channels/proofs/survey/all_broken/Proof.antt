@@ -1,6 +1,6 @@
 -- `channels::survey::all_broken` meets its contract.
-use Rattle.channels.specs.Rules.{wellAt}
-use Rattle.channels.proofs.Fours.{groups-keep}
+use Rattle.channels.specs.Rules.{well_at}
+use Rattle.channels.proofs.Fours.{groups_keep}
 use borrow.Author.Rules.{rules}
 use Rattle.channels.proofs.survey.all_broken.Statement.{statement}
 use Rattle.channels.proofs.survey.all_broken.Tie as tie
@@ -24,7 +24,7 @@ returns c =
     let x2 = c.before.before.broken-at2 in
     let x3 = c.before.broken-at3 in
     let x4 = c.broken-at4 in
-    groups-keep (wellAt s.args.mem.now) x.result x2.result x3.result x4.result x.ensures x2.ensures x3.ensures x4.ensures
+    groups_keep (well_at s.args.mem.now) x.result x2.result x3.result x4.result x.ensures x2.ensures x3.ensures x4.ensures
 
 pub all-broken-spec : {M : Type 1} → statement M
 all-broken-spec =

@@ -2,7 +2,7 @@
 use mathlib.Core.Path.{◌≡◌, refl, ap, ◌∙◌}
 use Rattle.ranges.specs.Octets.{octets, at_most}
 use lib.ListN.{replicate}
-use Rattle.channels.proofs.Fours.{or-five, all-by}
+use Rattle.channels.proofs.Fours.{or_five, all_by}
 use borrow.Author.Rules.{rules}
 use Rattle.channels.proofs.survey.broken.Statement.{statement}
 use Rattle.channels.proofs.survey.broken.Tie as tie
@@ -32,13 +32,13 @@ returns c =
     let y = c.before.exceeds3 in
     let z = c.exceeds4 in
     let most : octets 4 4042322160 ≡ replicate 4 240 = refl in
-    or-five v.result w.result x.result y.result z.result
+    or_five v.result w.result x.result y.result z.result
     (v.ensures ∙ ap (at_most (octets 4 s.args.a)) most)
     (w.ensures ∙ ap (at_most (octets 4 s.args.b)) most)
     x.ensures
     y.ensures
     z.ensures
-    ∙ all-by 4 s.args.a s.args.b s.args.c s.args.d
+    ∙ all_by 4 s.args.a s.args.b s.args.c s.args.d
 
 pub broken-spec : {M : Type 1} → statement M
 broken-spec =

@@ -4,9 +4,9 @@ use native.Mathlib.Omega.{arith}
 use mathlib.Core.Path.{ap, ◌∙◌}
 use lib.ListN.{length, get_or, replicate}
 use Rattle.ranges.specs.Octets.{octets, at_most}
-use Rattle.ranges.proofs.Words.{octets-part}
-use Rattle.channels.specs.Image.{channels, rowsEnd}
-use Rattle.channels.proofs.Fours.{rows_short, eighths-room}
+use Rattle.ranges.proofs.Words.{octets_part}
+use Rattle.channels.specs.Image.{channels, rows_end}
+use Rattle.channels.proofs.Fours.{rows_short, eighths_room}
 use borrow.Author.Rules.{rules}
 use Rattle.channels.proofs.survey.eighths_at.Statement.{statement}
 use Rattle.channels.proofs.survey.eighths_at.Tie as tie
@@ -23,9 +23,9 @@ eighths-requires c κs =
     let m = s.args.mem.now in
     let k = s.args.k in
     let near : k + 4 ≤ channels = s.pre.0 in
-    let long : rowsEnd ≤ length m = s.pre.1 in
+    let long : rows_end ≤ length m = s.pre.1 in
     let small : (i : ℕ) → get_or m i 0 < 256 = λ i. (c.before.shared-slice-known.given i).fits in
-    ap (λ l. at_most l (replicate 4 248)) (ap (octets 4) c.half.ensures ∙ octets-part m small 4 (128 + k) (omega arith))
+    ap (λ l. at_most l (replicate 4 248)) (ap (octets 4) c.half.ensures ∙ octets_part m small 4 (128 + k) (omega arith))
     ∙ rows_short m long 0 k 4 (omega arith) near s.pre.2
 
 add-half-2 : tie.Need-add-half-2
@@ -40,9 +40,9 @@ eighths-requires-2 c κs =
     let m = s.args.mem.now in
     let k = s.args.k in
     let near : k + 4 ≤ channels = s.pre.0 in
-    let long : rowsEnd ≤ length m = s.pre.1 in
+    let long : rows_end ≤ length m = s.pre.1 in
     let small : (i : ℕ) → get_or m i 0 < 256 = λ i. (c.before.before.before.shared-slice-known.given i).fits in
-    ap (λ l. at_most l (replicate 4 248)) (ap (octets 4) c.half2.ensures ∙ octets-part m small 4 (144 + k) (omega arith))
+    ap (λ l. at_most l (replicate 4 248)) (ap (octets 4) c.half2.ensures ∙ octets_part m small 4 (144 + k) (omega arith))
     ∙ rows_short m long 1 k 4 (omega arith) near s.pre.2
 
 add-sum-of : tie.Need-add-sum-of
@@ -54,7 +54,7 @@ sum-of-requires c κs = search rules
 returns : tie.Need-returns
 returns c =
     let s = c.before.before.before.before.before.before in
-    eighths-room s.args.mem.now s.pre.1 (λ i. (c.before.before.before.before.before.shared-slice-known.given i).fits) s.args.k _ _ _ _ _ s.pre.0
+    eighths_room s.args.mem.now s.pre.1 (λ i. (c.before.before.before.before.before.shared-slice-known.given i).fits) s.args.k _ _ _ _ _ s.pre.0
     c.before.before.before.before.half.ensures
     c.before.before.half2.ensures
     c.before.before.before.eighths.ensures.0

@@ -2,7 +2,7 @@
 use mathlib.Core.Path.{sym, ◌∙◌}
 use borrow.Author.Tests.{not-false}
 use Rattle.channels.proofs.Exact.{both}
-use Rattle.channels.proofs.Found.{columns-nothing}
+use Rattle.channels.proofs.Found.{columns_nothing}
 use Rattle.channels.proofs.Fours.{first_found}
 use borrow.Author.Rules.{rules}
 use Rattle.channels.proofs.survey.survey_of.Statement.{statement}
@@ -41,9 +41,9 @@ returns-3 c =
     let (q, r) = both y.result z.result (not-false _ c.before.if2.false) in
     c.first-four.ensures
     ∙ first_found m
-    (columns-nothing m 4 (sym x.ensures ∙ not-false _ c.before.before.before.before.if1.false))
-    (columns-nothing m 8 (sym y.ensures ∙ q))
-    (columns-nothing m 12 (sym z.ensures ∙ r))
+    (columns_nothing m 4 (sym x.ensures ∙ not-false _ c.before.before.before.before.if1.false))
+    (columns_nothing m 8 (sym y.ensures ∙ q))
+    (columns_nothing m 12 (sym z.ensures ∙ r))
 
 pub survey-of-spec : {M : Type 1} → statement M
 survey-of-spec =

@@ -3,12 +3,12 @@ use mathlib.Core.List.{List, ◌++◌}
 use borrow.Author.Rules.{rules}
 use Rattle.state.specs.Memory.{Holds}
 use Rattle.state.specs.Unpack.{unpacked}
-use Rattle.steps.proofs.Holding.{holds-safe}
-use Rattle.station.proofs.Guarding.{found, found-length}
+use Rattle.steps.proofs.Holding.{holds_safe}
+use Rattle.station.proofs.Guarding.{found, found_length}
 use Rattle.station.proofs.Stepping.{holding}
 use Rattle.lent.specs.Run.{Beat, turn, calls}
-use Rattle.steps.proofs.Behind.{safe-long}
-use Rattle.lent.proofs.Turns.{safe-after, in-turn, packed-again, none_found, one_found}
+use Rattle.steps.proofs.Behind.{safe_long}
+use Rattle.lent.proofs.Turns.{safe_after, in_turn, packed_again, none_found, one_found}
 use Rattle.lent.proofs.bench.exchange.Statement.{statement}
 use Rattle.lent.proofs.bench.exchange.Tie as tie
 
@@ -40,7 +40,7 @@ unpack-requires : tie.Need-unpack-requires
 unpack-requires c κs = (there c.before).long
 
 take-turn-requires : tie.Need-take-turn-requires
-take-turn-requires c κs = holds-safe _ _ (holding _ _ (there c.before.before.before) c.before.unpack.ensures)
+take-turn-requires c κs = holds_safe _ _ (holding _ _ (there c.before.before.before) c.before.unpack.ensures)
 
 take-turn-requires-2 : tie.Need-take-turn-requires-2
 unfolding one
@@ -48,7 +48,7 @@ take-turn-requires-2 c κs =
     let held = c.before.before.before in
     let loaded = held.before.before in
     let start = loaded.before.before in
-    safe-after _ _ (one start) _ _ (holds-safe _ _ (holding _ _ (there start) loaded.unpack.ensures)) held.take-turn.ensures
+    safe_after _ _ (one start) _ _ (holds_safe _ _ (holding _ _ (there start) loaded.unpack.ensures)) held.take-turn.ensures
 
 save-requires : tie.Need-save-requires
 unfolding one two
@@ -57,9 +57,9 @@ save-requires c κs =
     let held = ended.before.before.before.before in
     let loaded = held.before.before in
     let start = loaded.before.before in
-    safe-long _ _
-    (safe-after _ _ (two start) _ _
-    (safe-after _ _ (one start) _ _ (holds-safe _ _ (holding _ _ (there start) loaded.unpack.ensures)) held.take-turn.ensures)
+    safe_long _ _
+    (safe_after _ _ (two start) _ _
+    (safe_after _ _ (one start) _ _ (holds_safe _ _ (holding _ _ (there start) loaded.unpack.ensures)) held.take-turn.ensures)
     ended.take-turn2.ensures)
 
 same-length-2 : tie.Need-same-length-2
@@ -73,8 +73,8 @@ returns-2 c =
     let loaded = held.before.before in
     let start = loaded.before.before in (
       one_found _ _ start.before.is-well.ensures start.if1.false,
-      packed-again _ _ (one start ++ two start) _ _ _ (found-length _ _ start.before.is-well.ensures start.if1.false) (holding _ _ (there start) loaded.unpack.ensures)
-          (in-turn _ _ (one start) (two start) _ _ _ _ held.take-turn.ensures ended.take-turn2.ensures)
+      packed_again _ _ (one start ++ two start) _ _ _ (found_length _ _ start.before.is-well.ensures start.if1.false) (holding _ _ (there start) loaded.unpack.ensures)
+          (in_turn _ _ (one start) (two start) _ _ _ _ held.take-turn.ensures ended.take-turn2.ensures)
           c.before.before.save.ensures,
     )
 

@@ -1,8 +1,8 @@
 -- `lent::bench::take_turn` meets its contract.
 use mathlib.Core.List.{[], ◌∷◌, ◌++◌}
 use borrow.Author.Rules.{rules}
-use Rattle.lent.specs.Run.{gap, wellReceived, ticks}
-use Rattle.lent.proofs.Turns.{safe-after, in-turn, gap-run}
+use Rattle.lent.specs.Run.{gap, well_received, ticks}
+use Rattle.lent.proofs.Turns.{safe_after, in_turn, gap_run}
 use Rattle.lent.proofs.bench.take_turn.Statement.{statement}
 use Rattle.lent.proofs.bench.take_turn.Tie as tie
 
@@ -12,15 +12,15 @@ pause-requires c κs = search rules
 listen-requires : tie.Need-listen-requires
 listen-requires c κs =
     let begun = c.before.before.before in
-    safe-after _ _ (gap ∷ []) _ _ begun.before.before.before.before.requires (gap-run _ _ _ _ begun.pause.ensures)
+    safe_after _ _ (gap ∷ []) _ _ begun.before.before.before.before.requires (gap_run _ _ _ _ begun.pause.ensures)
 
 wait-requires : tie.Need-wait-requires
 wait-requires c κs =
     let heard = c.before.before.before in
     let begun = heard.before.before.before.before in
     let first = begun.before.before.before.before in
-    safe-after _ _ (wellReceived first.args.telegram.now) _ _
-    (safe-after _ _ (gap ∷ []) _ _ first.requires (gap-run _ _ _ _ begun.pause.ensures)) heard.listen.ensures
+    safe_after _ _ (well_received first.args.telegram.now) _ _
+    (safe_after _ _ (gap ∷ []) _ _ first.requires (gap_run _ _ _ _ begun.pause.ensures)) heard.listen.ensures
 
 same_length : tie.Need-same-length
 same_length c = search rules
@@ -31,10 +31,10 @@ returns c =
     let heard = waited.before.before.before.before in
     let begun = heard.before.before.before.before in
     let first = begun.before.before.before.before in
-    let octets = wellReceived first.args.telegram.now in
+    let octets = well_received first.args.telegram.now in
     let waits = ticks first.args.count in
-    in-turn _ _ (gap ∷ []) (octets ++ waits) _ _ _ _ (gap-run _ _ _ _ begun.pause.ensures)
-    (in-turn _ _ octets waits _ _ _ _ heard.listen.ensures waited.wait.ensures)
+    in_turn _ _ (gap ∷ []) (octets ++ waits) _ _ _ _ (gap_run _ _ _ _ begun.pause.ensures)
+    (in_turn _ _ octets waits _ _ _ _ heard.listen.ensures waited.wait.ensures)
 
 pub take-turn-spec : {M : Type 1} → statement M
 take-turn-spec =

@@ -51,12 +51,12 @@ use Rattle.state.proofs.state.State.TheLaws as T'
 use Rattle.steps.specs.Safe.{Safe}
 use Rattle.steps.specs.Stepped.{Steps}
 use Rattle.steps.specs.Bus.{elapsed}
-use Rattle.lent.specs.Run.{tick, runBeats, ticks}
+use Rattle.lent.specs.Run.{tick, run_beats, ticks}
 use Rattle.lent.proofs.Value.{R, value, values, value_tells, head, typed, over}
-use Rattle.lent.proofs.Loops.{word, refT, refB, sliceM, sliceE, fits_unit, by_bool, next_fits, nearer, reached}
+use Rattle.lent.proofs.Loops.{word, ref_t, ref_b, slice_m, slice_e, fits_unit, by_bool, next_fits, nearer, reached}
 use Rattle.lent.proofs.OnLocal as on
 use Rattle.lent.proofs.OnLocal.{Tick}
-use Rattle.lent.proofs.Partly.{Partly, partly_none, partly_more, partly-all, all-ticks, next-tick, no-tick}
+use Rattle.lent.proofs.Partly.{Partly, partly_none, partly_more, partly_all, all_ticks, next_tick, no_tick}
 use Rattle.lent.proofs.tick.Symbol as tick-def
 use Rattle.lent.proofs.tick.Symbol.{name as #lent·tick}
 use Rattle.lent.proofs.tick.Met as tick-thm
@@ -118,7 +118,7 @@ module _ {M : Type 1} {𝓤 : Ura M} (𝓛 : Logic 𝓤) (at_mem : Memory → SP
   abbrev Post : Val → SProp 𝓤
   Post = (walk_of 𝓛 wait.ended stayed (wait.clauses 𝓛 at_mem run')).post (((κ, tt), (q, tt), tt, a, vals), tt)
 
-  exits : (t : State) (zs : List ℕ) → Steps (runBeats h ys (ticks n)) t zs → length zs ≡ length ys → ent 𝓤 (⋆ 𝓛 (‵ (R.own t (values t)) ∷ Mem zs ∷ [])) (Post (value t))
+  exits : (t : State) (zs : List ℕ) → Steps (run_beats h ys (ticks n)) t zs → length zs ≡ length ys → ent 𝓤 (⋆ 𝓛 (‵ (R.own t (values t)) ∷ Mem zs ∷ [])) (Post (value t))
   exits t zs e len =
       qed 𝓛 (‵ (R.own t (values t)) ∷ Mem zs ∷ []) ∵
       suffices ! _ (ends_at 𝓛 wait.ended stayed (wait.clauses 𝓛 at_mem run') (((κ, tt), (q, tt), tt, a, vals), tt) (value t) t (tt, (zs, (tt, tt))) (tt, (len, (tt, tt)))) $ says ! e $
@@ -145,14 +145,14 @@ module _ {M : Type 1} {𝓤 : Ura M} (𝓛 : Logic 𝓤) (at_mem : Memory → SP
 
     module _ (l₀ l₁ l₂ l₃ l₄ l₅ l₆ l₇ l₈ l₉ l₁₀ : ℕ) where
       abbrev En : Env 𝓤 H
-      En = (laid head, l₀) ∷ (laid head, l₁) ∷ (sliceM, l₂) ∷ (word, l₃) ∷ (laid head, l₄) ∷ (word, l₅) ∷ (ty_bool, l₆) ∷ (ty_unit, l₇) ∷ (refT, l₈) ∷ (refB, l₉) ∷ (sliceE, l₁₀) ∷ []
+      En = (laid head, l₀) ∷ (laid head, l₁) ∷ (slice_m, l₂) ∷ (word, l₃) ∷ (laid head, l₄) ∷ (word, l₅) ∷ (ty_bool, l₆) ∷ (ty_unit, l₇) ∷ (ref_t, l₈) ∷ (ref_b, l₉) ∷ (slice_e, l₁₀) ∷ []
 
       -- what the loop has before each turn
       abbrev At : Pos → List (Item 𝓤)
       At y = Cell l₄ y.0.1.0 ∷ Mem y.0.1.1
-          ∷ ‵ (froom sliceE l₁₀ 0) ∷ ‵ (fdies sliceE l₁₀) ∷ ‵ (froom refB l₉ 0) ∷ ‵ (fdies refB l₉) ∷ ‵ (froom refT l₈ 0) ∷ ‵ (fdies refT l₈) ∷ ‵ (froom ty_unit l₇ 0) ∷ ‵ (fdies ty_unit l₇) ∷ ‵ (froom ty_bool l₆ 0) ∷ ‵ (fdies ty_bool l₆)
+          ∷ ‵ (froom slice_e l₁₀ 0) ∷ ‵ (fdies slice_e l₁₀) ∷ ‵ (froom ref_b l₉ 0) ∷ ‵ (fdies ref_b l₉) ∷ ‵ (froom ref_t l₈ 0) ∷ ‵ (fdies ref_t l₈) ∷ ‵ (froom ty_unit l₇ 0) ∷ ‵ (fdies ty_unit l₇) ∷ ‵ (froom ty_bool l₆ 0) ∷ ‵ (fdies ty_bool l₆)
           ∷ ‵ (fat full_share word l₅ 0 (vint w64 y.0.0)) ∷ ‵ (fdies word l₅) ∷ ‵ (fdies (laid head) l₄) ∷ ‵ (fat full_share word l₃ 0 (vint w64 n)) ∷ ‵ (fdies word l₃)
-          ∷ ‵ (fat full_share sliceM l₂ 0 s) ∷ ‵ (fdies sliceM l₂) ∷ ‵ (fat full_share (laid head) l₁ 0 (value h)) ∷ ‵ (fdies (laid head) l₁) ∷ ‵ (froom (laid head) l₀ 0) ∷ ‵ (fdies (laid head) l₀) ∷ []
+          ∷ ‵ (fat full_share slice_m l₂ 0 s) ∷ ‵ (fdies slice_m l₂) ∷ ‵ (fat full_share (laid head) l₁ 0 (value h)) ∷ ‵ (fdies (laid head) l₁) ∷ ‵ (froom (laid head) l₀ 0) ∷ ‵ (fdies (laid head) l₀) ∷ []
 
       -- a turn's postcondition: it ends nearer to the end, or the loop is left and the rest of the body runs
       abbrev Turned : Pos → Out → SProp 𝓤
@@ -174,12 +174,12 @@ module _ {M : Type 1} {𝓤 : Ura M} (𝓛 : Logic 𝓤) (at_mem : Memory → SP
         abbrev us : List ℕ
         us = (elapsed t zs).memory
 
-        room-now : Room u8 (length zs)
-        room-now = subst (Room u8) (sym y.1.1.long) room
+        room_now : Room u8 (length zs)
+        room_now = subst (Room u8) (sym y.1.1.long) room
 
         -- one Tick more is done
         further : i < n → Partly h ys (ticks n) t₁ us (ticks (n - (i + 1)))
-        further less = partly_more t zs tick (ticks (n - (i + 1))) (subst (Partly h ys (ticks n) t zs) (next-tick n i less) y.1.1)
+        further less = partly_more t zs tick (ticks (n - (i + 1))) (subst (Partly h ys (ticks n) t zs) (next_tick n i less) y.1.1)
 
         -- a turn that makes one Tick
         more : i < n → ltb i n ≡ true → Sq 𝓛 (At y) (runs C Λ En turn_body (any_q (Turned y)))
@@ -192,10 +192,10 @@ module _ {M : Type 1} {𝓤 : Ura M} (𝓛 : Logic 𝓤) (at_mem : Memory → SP
             assigns ! (addr ! (from ! (fld ! refl (hop ! (look_in ! 17 (sub ! 0 refl (whole !))) (stop !))))) (from ! (stop !)) (init ! 4 refl (tt, tt)) $
             assigns ! (agg ! (and_then ! (load ! (from ! (stop !)) (look ! 4 refl)) (and_then ! (load ! (from ! (fld ! refl (stop !))) (look_in ! 17 (sub ! 1 refl (whole !)))) (no_more !)))) (from ! (stop !)) (init ! 2 refl (tt, (tt, (record { fits = room.0 }, tt)))) $
             use2 𝓛 (later (some (λ (ν : ℕ). some (λ (ν' : ℕ). some (λ (δ : GName). some (λ (δ' : GName). raw ((Tick 𝓛 at_mem run').pre (on.to_tick (laid head) mir_is 𝓛 at_mem run' l₄ t κ q γ b o (length ys) zs y.1.1.long y.1.1.safe ν ν' δ δ')) ⊛ raw (on.Kept (laid head) mir_is 𝓛 at_mem run' l₄ t κ q γ b o (length ys) zs y.1.1.long y.1.1.safe ν ν' δ δ')))))))
-            (on.tick-before (laid head) mir_is 𝓛 at_mem run' l₄ t κ q γ b o (length ys) zs y.1.1.long y.1.1.safe (named 0)) $ await ! tt $ pick ! (λ ν. pick ! (λ ν'. pick ! (λ δ. pick ! (λ δ'. split ! $
+            (on.tick_before (laid head) mir_is 𝓛 at_mem run' l₄ t κ q γ b o (length ys) zs y.1.1.long y.1.1.safe (named 0)) $ await ! tt $ pick ! (λ ν. pick ! (λ ν'. pick ! (λ δ. pick ! (λ δ'. split ! $
             calls_at ! fm (Tick 𝓛 at_mem run') known-tick (on.to_tick (laid head) mir_is 𝓛 at_mem run' l₄ t κ q γ b o (length ys) zs y.1.1.long y.1.1.safe ν ν' δ δ')
             (and_then ! (load ! (from ! (stop !)) (look ! 6 refl)) (and_then ! (load ! (from ! (stop !)) (look ! 2 refl)) (no_more !))) (λ w.
-            use2 𝓛 (later (given ((w ≡ vunit) × (length us ≡ length ys)) (Cell l₄ t₁ ⊛ Mem us))) (on.tick-after (laid head) mir_is 𝓛 at_mem run' l₄ t κ q γ b o (length ys) zs y.1.1.long y.1.1.safe (named 0) room-now ν ν' δ δ' w) $ await ! tt $ learn ! (λ e₁. split ! $
+            use2 𝓛 (later (given ((w ≡ vunit) × (length us ≡ length ys)) (Cell l₄ t₁ ⊛ Mem us))) (on.tick_after (laid head) mir_is 𝓛 at_mem run' l₄ t κ q γ b o (length ys) zs y.1.1.long y.1.1.safe (named 0) room_now ν ν' δ δ' w) $ await ! tt $ learn ! (λ e₁. split ! $
             land ! (from ! (stop !)) (init ! 8 refl (fits_unit w e₁.0)) $
             assigns_last ! (bin ! (load ! (from ! (stop !)) (look ! 12 refl)) (lit ! tt) (record { fits = next_fits n-fits less })) (from ! (stop !)) (store ! 12 refl (tt, record { fits = next_fits n-fits less })) $
             forget ! 2 refl $ forget ! 4 refl $ forget ! 6 refl $ forget ! 8 refl $ forget ! 10 refl $
@@ -212,7 +212,7 @@ module _ {M : Type 1} {𝓤 : Ura M} (𝓛 : Logic 𝓤) (at_mem : Memory → SP
             returns ! (look ! 22 refl) $ forget ! 1 refl $ forget ! 11 refl $ forget ! 13 refl $ forget ! 16 refl $ forget ! 18 refl $ forget ! 20 refl $ forget ! 22 refl $
             move ! (22 ∷ 23 ∷ []) $ free1 ! $ move ! (20 ∷ 21 ∷ []) $ free1 ! $ move ! (18 ∷ 19 ∷ []) $ free1 ! $ move ! (16 ∷ 17 ∷ []) $ free1 ! $ move ! (1 ∷ 15 ∷ []) $ free1 ! $ move ! (12 ∷ 13 ∷ []) $ free1 ! $
             move ! (10 ∷ 11 ∷ []) $ free1 ! $ move ! (8 ∷ 9 ∷ []) $ free1 ! $ move ! (6 ∷ 7 ∷ []) $ free1 ! $ move ! (4 ∷ 5 ∷ []) $ free1 ! $ move ! (2 ∷ 3 ∷ []) $ free1 ! $ free0 ! $
-            by ! (exits t zs (partly-all t zs (subst (Partly h ys (ticks n) t zs) (no-tick n i (ltb-false i n e)) y.1.1)) y.1.1.long))
+            by ! (exits t zs (partly_all t zs (subst (Partly h ys (ticks n) t zs) (no_tick n i (ltb-false i n e)) y.1.1)) y.1.1.long))
 
         turns : Sq 𝓛 (At y) (runs C Λ En turn_body (any_q (Turned y)))
         turns = by_bool (ltb i n) (λ e. more (ltb-true i n e) e) ends
@@ -227,27 +227,27 @@ module _ {M : Type 1} {𝓤 : Ura M} (𝓛 : Logic 𝓤) (at_mem : Memory → SP
         -- the local's cell goes together with what it owns, and the memory's slice with its token
         move ! (23 ∷ []) $ fsplit ! $ move ! (1 ∷ []) $ fsplit ! $ move ! (25 ∷ []) $ split ! $ move ! (17 ∷ 4 ∷ []) $ join ! $ move ! (3 ∷ 1 ∷ []) $ join ! $
         keep ! (1 ∷ 0 ∷ 4 ∷ 5 ∷ 6 ∷ 7 ∷ 8 ∷ 9 ∷ 10 ∷ 11 ∷ 12 ∷ 13 ∷ 14 ∷ 15 ∷ 16 ∷ 17 ∷ 18 ∷ 19 ∷ 20 ∷ 21 ∷ 22 ∷ 23 ∷ 24 ∷ []) $
-        first ! $ blocks ! $ loops ! 𝓣 Nearer Nearer-wf (At l₀ l₁ l₂ l₃ l₄ l₅ l₆ l₇ l₈ l₉ l₁₀) (turns l₀ l₁ l₂ l₃ l₄ l₅ l₆ l₇ l₈ l₉ l₁₀) ((0, (h, ys)), (omega arith, subst (Partly h ys (ticks n) h ys) (all-ticks n) (partly_none h ys (ticks n) safe))))))))))))))
+        first ! $ blocks ! $ loops ! 𝓣 Nearer Nearer-wf (At l₀ l₁ l₂ l₃ l₄ l₅ l₆ l₇ l₈ l₉ l₁₀) (turns l₀ l₁ l₂ l₃ l₄ l₅ l₆ l₇ l₈ l₉ l₁₀) ((0, (h, ys)), (omega arith, subst (Partly h ys (ticks n) h ys) (all_ticks n) (partly_none h ys (ticks n) safe))))))))))))))
 
 module _ {M : Type 1} {𝓤 : Ura M} (𝓛 : Logic 𝓤) (mem : Memory → SProp 𝓤) (run' : Routine → Fun 𝓤) (𝓣 : Tables 𝓤 𝓛.H) where
   open 𝓛 use {H}
 
-  wait-walks : FmC 𝓤 H 𝓛.laws 𝓣.C → Triple 𝓤 (𝓣.C #lent·tick) (Tick 𝓛 mem run') → Walks 𝓛 wait.ended stayed (WpFn 𝓤 H 𝓣.C 𝓣.Λ fn) (wait.clauses 𝓛 mem run')
-  wait-walks fm known-tick = walked 𝓛 wait.ended stayed (wait.clauses 𝓛 mem run') (WpFn 𝓤 H 𝓣.C 𝓣.Λ fn)
+  wait_walks : FmC 𝓤 H 𝓛.laws 𝓣.C → Triple 𝓤 (𝓣.C #lent·tick) (Tick 𝓛 mem run') → Walks 𝓛 wait.ended stayed (WpFn 𝓤 H 𝓣.C 𝓣.Λ fn) (wait.clauses 𝓛 mem run')
+  wait_walks fm known-tick = walked 𝓛 wait.ended stayed (wait.clauses 𝓛 mem run') (WpFn 𝓤 H 𝓣.C 𝓣.Λ fn)
       (λ κs. (values, (mut_slice_vals, (uint_vals w64, tt)))) (λ κs. (value_tells, (mut_slice_Tells (named 0) κs.0 u8, (uint_Tells w64, tt))))
       (λ κs qs bounds a g are. needs 𝓤 (Safe a.0 a.1.0.now) _ (λ safe. walk 𝓛 mem run' κs.0 qs.0 a.0 a.1.0.ref_ptr.0 a.1.0.ref_ptr.1 a.1.0.ghost_name a.1.0.now a.1.1.0 are.0 are.1.0.0.1 are.1.1.0.1 safe 𝓣 fm known-tick))
 
-wait-meets : {M : Type 1} {𝓤 : Ura M} (𝓛 : Logic 𝓤) → (mem : Memory → SProp 𝓤) (run' : Routine → Fun 𝓤) (𝓣 : Tables 𝓤 𝓛.H) → Triple 𝓤 (𝓣.C #lent·tick) (Tick 𝓛 mem run')
+wait_meets : {M : Type 1} {𝓤 : Ura M} (𝓛 : Logic 𝓤) → (mem : Memory → SProp 𝓤) (run' : Routine → Fun 𝓤) (𝓣 : Tables 𝓤 𝓛.H) → Triple 𝓤 (𝓣.C #lent·tick) (Tick 𝓛 mem run')
     → Meets 𝓛 wait.signature (WpFn 𝓤 𝓛.H 𝓣.C 𝓣.Λ code.function) (wait.spec 𝓛 mem run')
-wait-meets {𝓤 = 𝓤} 𝓛 mem run' 𝓣 known-tick =
+wait_meets {𝓤 = 𝓤} 𝓛 mem run' 𝓣 known-tick =
     walk_Meets 𝓛 wait.ended stayed (Goes-none 𝓛 1 (λ _. R) yes (λ κs x f. refl), (Goes-slice 𝓛 1 0 tt (plain (λ _. u8)), (Goes-none 𝓛 1 (λ _. usize) yes (λ κs x f. refl), tt))) (wait.clauses 𝓛 mem run')
     (WpFn 𝓤 𝓛.H 𝓣.C 𝓣.Λ code.function) (WpFn-mono 𝓤 𝓛.H 𝓛.laws 𝓣 code.function)
-    (subst (λ (f : Fn). Walks 𝓛 wait.ended stayed (WpFn 𝓤 𝓛.H 𝓣.C 𝓣.Λ f) (wait.clauses 𝓛 mem run')) (sym same) (wait-walks 𝓛 mem run' 𝓣 (fm_of 𝓤 𝓛.H 𝓛.laws 𝓣) known-tick))
+    (subst (λ (f : Fn). Walks 𝓛 wait.ended stayed (WpFn 𝓤 𝓛.H 𝓣.C 𝓣.Λ f) (wait.clauses 𝓛 mem run')) (sym same) (wait_walks 𝓛 mem run' 𝓣 (fm_of 𝓤 𝓛.H 𝓛.laws 𝓣) known-tick))
 
 pub wait_spec : {M : Type 1} → stated.statement M
 unfolding code.routine tables_of
 wait_spec 𝓤 𝓛 𝓜 𝓡 =
     entered 𝓤 𝓛.H (triple_of 𝓛 wait.signature (wait.spec 𝓛 𝓜.mem 𝓡.run))
     (tables 𝓤 𝓛.H 𝓜 𝓡 code.env).C (tables 𝓤 𝓛.H 𝓜 𝓡 code.env).Λ #lent·wait code.function (code.unfolded 𝓤 𝓛.H 𝓜 𝓡)
-    (wait-meets 𝓛 𝓜.mem 𝓡.run (tables_of 𝓤 𝓛.H 𝓜 (tables 𝓤 𝓛.H 𝓜 𝓡 code.env))
+    (wait_meets 𝓛 𝓜.mem 𝓡.run (tables_of 𝓤 𝓛.H 𝓜 (tables 𝓤 𝓛.H 𝓜 𝓡 code.env))
     (cited 𝓤 𝓛.H (Tick 𝓛 𝓜.mem 𝓡.run) 𝓜 𝓡 code.env #lent·tick tick-def.routine code.calls-lent::tick (tick-thm.met 𝓤 𝓛 𝓜 𝓡)))

@@ -1,5 +1,5 @@
 use borrow.Author.Rules.{rules}
-use Rattle.steps.specs.Outcome.{afterReply}
+use Rattle.steps.specs.Outcome.{after_reply}
 use Rattle.outcomes.proofs.carry.after_reply.Statement.{statement}
 use Rattle.outcomes.proofs.carry.after_reply.Tie as tie
 
@@ -16,10 +16,10 @@ diagnosis-changed-requires : tie.Need-diagnosis-changed-requires
 diagnosis-changed-requires c κs = search rules
 
 returns : tie.Need-returns
-unfolding afterReply
+unfolding after_reply
 returns c =
     rw (
-      c.diagnosis-changed.ensures,
+      c.diagnosis_changed_lem.ensures,
       c.before.caught-up.ensures,
       ← c.before.before.before.diagnosis-leaves.ensures,
       ← c.before.before.before.before.is-delayed.ensures,
@@ -27,7 +27,7 @@ returns c =
     )
 
 returns-2 : tie.Need-returns-2
-unfolding afterReply
+unfolding after_reply
 returns-2 c = rw (← c.before.diagnosis-leaves.ensures, ← c.before.before.is-delayed.ensures, c.if1.false)
 
 pub after-reply-spec : {M : Type 1} → statement M

@@ -1,8 +1,8 @@
 use borrow.Author.Rules.{rules}
 use native.Mathlib.Omega.{arith}
 use Rattle.buffers.specs.Roles as role
-use Rattle.state.specs.Layout.{outputRow}
-use Rattle.steps.proofs.KeepsSafe.{buffer-room}
+use Rattle.state.specs.Layout.{output_row}
+use Rattle.steps.proofs.KeepsSafe.{buffer_room}
 use Rattle.outcomes.proofs.carry.clear_next.Statement.{statement}
 use Rattle.outcomes.proofs.carry.clear_next.Tie as tie
 
@@ -18,7 +18,7 @@ cast-clear-at c = search rules
 clear-at-requires : tie.Need-clear-at-requires
 clear-at-requires c κs =
     rw (c.before.before.outputs-at.ensures, c.before.before.before.next.ensures)
-    (buffer-room _ _ outputRow _ c.before.before.before.before.before.requires
+    (buffer_room _ _ output_row _ c.before.before.before.before.before.requires
     (c.before.before.before.before.before.requires.outputs.within role.next (omega arith)))
 
 same_length : tie.Need-same-length

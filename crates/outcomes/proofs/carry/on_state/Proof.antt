@@ -19,8 +19,8 @@ returns c =
     rw (
       c.on-sets2.ensures,
       c.before.on-sets.ensures,
-      c.before.before.on-inputs.ensures,
-      c.before.before.before.on-outputs.ensures,
+      c.before.before.on_inputs_lem.ensures,
+      c.before.before.before.on_outputs_lem.ensures,
     )
 
 pub on-state-spec : {M : Type 1} → statement M

@@ -1,6 +1,6 @@
 use borrow.Author.Rules.{rules}
 use Rattle.steps.specs.Outcome.{settle}
-use Rattle.steps.proofs.KeepsSafe.{safe-after-reply}
+use Rattle.steps.proofs.KeepsSafe.{safe_after_reply}
 use Rattle.outcomes.proofs.carry.settle_waiting.Statement.{statement}
 use Rattle.outcomes.proofs.carry.settle_waiting.Tie as tie
 
@@ -16,7 +16,7 @@ clear-noted-requires c κs = search rules
 carry-out-requires : tie.Need-carry-out-requires
 carry-out-requires c κs =
     rw c.before.before.before.after-reply.ensures
-    (safe-after-reply _ _ c.before.before.before.before.before.requires)
+    (safe_after_reply _ _ c.before.before.before.before.before.requires)
 
 same_length : tie.Need-same-length
 same_length c = search rules

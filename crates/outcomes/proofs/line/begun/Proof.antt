@@ -1,5 +1,5 @@
 use mathlib.Core.Path.{ap, ◌∙◌}
-use Rattle.steps.specs.Line.{isInside}
+use Rattle.steps.specs.Line.{is_inside}
 use borrow.Author.Rules.{rules}
 use Rattle.outcomes.proofs.line.begun.Statement.{statement}
 use Rattle.outcomes.proofs.line.begun.Tie as tie
@@ -11,7 +11,7 @@ is-inside-requires : tie.Need-is-inside-requires
 is-inside-requires c κs = search rules
 
 returns : tie.Need-returns
-returns c = c.is-inside.ensures ∙ ap isInside c.before.status.ensures
+returns c = c.is_inside_lem.ensures ∙ ap is_inside c.before.status.ensures
 
 pub begun-spec : {M : Type 1} → statement M
 begun-spec = tie.close (tie.spec status-requires is-inside-requires returns)

@@ -19,7 +19,7 @@ left-requires : tie.Need-left-requires
 left-requires c κs = search rules
 
 returns : tie.Need-returns
-returns c = rw (c.left.ensures, c.before.is-inside.ensures, c.before.before.status.ensures, c.before.before.before.before.reply.ensures, c.before.before.before.before.before.before.incoming.ensures)
+returns c = rw (c.left.ensures, c.before.is_inside_lem.ensures, c.before.before.status.ensures, c.before.before.before.before.reply.ensures, c.before.before.before.before.before.before.incoming.ensures)
 
 pub busy-in-spec : {M : Type 1} → statement M
 busy-in-spec =

@@ -1,7 +1,7 @@
 -- `outcomes::over::carry_over` meets its contract.
 use native.Mathlib.Omega.{arith}
 use Rattle.state.specs.Unpack.{unpacked}
-use Rattle.outcomes.proofs.CarriedOver.{safe-then, carried-over}
+use Rattle.outcomes.proofs.CarriedOver.{safe_then, carried_over}
 use borrow.Author.Rules.{rules}
 use Rattle.outcomes.proofs.over.carry_over.Statement.{statement}
 use Rattle.outcomes.proofs.over.carry_over.Tie as tie
@@ -12,7 +12,7 @@ save-control-requires c κs = search rules
 carry-buffers-requires : tie.Need-carry-buffers-requires
 carry-buffers-requires c κs =
     let x = c.before.before.before.before.before.before in
-    safe-then x.args.mem.now (unpacked x.args.mem.now) x.args.o x.args.count x.requires _ c.before.before.before.save-control.ensures
+    safe_then x.args.mem.now (unpacked x.args.mem.now) x.args.o x.args.count x.requires _ c.before.before.before.save-control.ensures
 
 outputs-requires : tie.Need-outputs-requires
 outputs-requires c κs =
@@ -96,7 +96,7 @@ returns : tie.Need-returns
 returns c =
     let x = c.before.before.before.before.before.before.before.before.before.before.before.before.before.before.before.before.before.before.before.before.before.before.before.before.before.before.before.before.before.before.before.before.before in
     let m = x.args.mem.now in
-    carried-over m (unpacked m) x.args.o x.args.count x.requires _ c.before.before.before.before.before.before.before.before.before.before.before.before.before.before.before.before.before.before.before.before.before.before.before.before.before.before.before.before.before.before.save-control.ensures
+    carried_over m (unpacked m) x.args.o x.args.count x.requires _ c.before.before.before.before.before.before.before.before.before.before.before.before.before.before.before.before.before.before.before.before.before.before.before.before.before.before.before.before.before.before.save-control.ensures
     c.before.before.before.before.before.before.before.before.before.before.before.before.before.before.before.before.before.before.before.before.before.before.before.before.before.before.carry-buffers.new.1.0
     c.before.before.before.before.before.before.before.before.before.before.before.before.before.before.before.before.before.before.before.before.put-outputs.new.1.1.0
     c.before.before.before.before.before.before.before.before.before.before.before.before.before.before.put-inputs.new.1.1.0

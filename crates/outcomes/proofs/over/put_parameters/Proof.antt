@@ -1,7 +1,7 @@
 -- `outcomes::over::put_parameters` meets its contract.
 use mathlib.Core.Path.{◌∙◌}
 use Rattle.state.specs.Memory.{kept}
-use Rattle.state.specs.With.{withParameters}
+use Rattle.state.specs.With.{with_parameters}
 use Rattle.outcomes.proofs.CarriedOver.{put}
 use borrow.Author.Rules.{rules}
 use Rattle.outcomes.proofs.over.put_parameters.Statement.{statement}
@@ -38,25 +38,25 @@ save-parameters-requires-3 : tie.Need-save-parameters-requires-3
 save-parameters-requires-3 c κs = search rules
 
 returns : tie.Need-returns
-returns c = rw c.enum_told.given.1 (λ s e f. f ∙ (λ i. kept (withParameters s (e i)) c.before.before.before.args.mem.now))
+returns c = rw c.enum_told.given.1 (λ s e f. f ∙ (λ i. kept (with_parameters s (e i)) c.before.before.before.args.mem.now))
 
 same_length : tie.Need-same-length
 same_length c = search rules
 
 returns-2 : tie.Need-returns-2
-returns-2 c = rw c.before.before.before.before.before.enum-told2.given.1 (λ s _. put withParameters c.before.before.save-parameters.ensures c.before.before.before.before.on-sets.ensures s)
+returns-2 c = rw c.before.before.before.before.before.enum-told2.given.1 (λ s _. put with_parameters c.before.before.save-parameters.ensures c.before.before.before.before.on-sets.ensures s)
 
 same-length-2 : tie.Need-same-length-2
 same-length-2 c = search rules
 
 returns-3 : tie.Need-returns-3
-returns-3 c = rw c.before.before.before.before.before.enum-told3.given.1 (λ s _. put withParameters c.before.before.save-parameters2.ensures c.before.before.before.before.on-sets2.ensures s)
+returns-3 c = rw c.before.before.before.before.before.enum-told3.given.1 (λ s _. put with_parameters c.before.before.save-parameters2.ensures c.before.before.before.before.on-sets2.ensures s)
 
 same-length-3 : tie.Need-same-length-3
 same-length-3 c = search rules
 
 returns-4 : tie.Need-returns-4
-returns-4 c = rw c.before.before.before.before.before.enum-told4.given.1 (λ s _. put withParameters c.before.before.save-parameters3.ensures c.before.before.before.before.on-sets3.ensures s)
+returns-4 c = rw c.before.before.before.before.before.enum-told4.given.1 (λ s _. put with_parameters c.before.before.save-parameters3.ensures c.before.before.before.before.on-sets3.ensures s)
 
 pub put-parameters-spec : {M : Type 1} → statement M
 put-parameters-spec =

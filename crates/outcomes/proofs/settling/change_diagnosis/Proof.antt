@@ -2,7 +2,7 @@
 use mathlib.Core.Bool.{not}
 use mathlib.Core.Path.{◌∙◌}
 use Rattle.state.specs.Memory.{kept}
-use Rattle.state.specs.With.{withControlButChain, withSwapped}
+use Rattle.state.specs.With.{with_control_but_chain, with_swapped}
 use Rattle.state.proofs.Written.{then}
 use borrow.Author.Rules.{rules}
 use Rattle.outcomes.proofs.settling.change_diagnosis.Statement.{statement}
@@ -27,7 +27,7 @@ returns c =
     let control = d.before.before.before.args.control in
     λ s e front.
     then _ _ _ _ _ c.before.before.before.before.before.before.save-control.ensures c.before.before.save-swapped.ensures s front
-    ∙ (λ i. kept (withSwapped (withControlButChain s control) (not ((d.swapped.ensures ∙ (λ j. (e j).swapped)) i))) m)
+    ∙ (λ i. kept (with_swapped (with_control_but_chain s control) (not ((d.swapped.ensures ∙ (λ j. (e j).swapped)) i))) m)
 
 pub change-diagnosis-spec : {M : Type 1} → statement M
 change-diagnosis-spec =

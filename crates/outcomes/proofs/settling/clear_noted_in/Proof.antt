@@ -1,7 +1,7 @@
 -- `outcomes::settling::clear_noted_in` meets its contract.
 use Rattle.state.specs.Unpack.{unpacked}
-use Rattle.state.proofs.Damage.{fronted-same}
-use Rattle.outcomes.proofs.Settled.{clears, clears-none}
+use Rattle.state.proofs.Damage.{fronted_same}
+use Rattle.outcomes.proofs.Settled.{clears, clears_none}
 use borrow.Author.Rules.{rules}
 use Rattle.outcomes.proofs.settling.clear_noted_in.Statement.{statement}
 use Rattle.outcomes.proofs.settling.clear_noted_in.Tie as tie
@@ -37,8 +37,8 @@ same-length-2 c = search rules
 returns-2 : tie.Need-returns-2
 returns-2 c =
     let m = c.before.before.before.before.before.before.args.mem.now in
-    clears-none (unpacked m) m c.before.before.before.noted.ensures c.before.busy-in.ensures c.if1.false
-    (fronted-same m (unpacked m) c.before.before.before.before.before.before.requires)
+    clears_none (unpacked m) m c.before.before.before.noted.ensures c.before.busy-in.ensures c.if1.false
+    (fronted_same m (unpacked m) c.before.before.before.before.before.before.requires)
 
 pub clear-noted-in-spec : {M : Type 1} → statement M
 clear-noted-in-spec =

@@ -1,7 +1,7 @@
 -- `outcomes::settling::settle_over` meets its contract.
 use Rattle.state.specs.Unpack.{unpacked}
-use Rattle.state.proofs.Damage.{fronted-same}
-use Rattle.outcomes.proofs.Settled.{settles-none}
+use Rattle.state.proofs.Damage.{fronted_same}
+use Rattle.outcomes.proofs.Settled.{settles_none}
 use borrow.Author.Rules.{rules}
 use Rattle.outcomes.proofs.settling.settle_over.Statement.{statement}
 use Rattle.outcomes.proofs.settling.settle_over.Tie as tie
@@ -24,7 +24,7 @@ same-length-2 c = search rules
 returns-2 : tie.Need-returns-2
 returns-2 c =
     let m = c.before.before.before.before.args.mem.now in
-    settles-none (unpacked m) m c.before.waits.ensures c.if1.false (fronted-same m (unpacked m) c.before.before.before.before.requires)
+    settles_none (unpacked m) m c.before.waits.ensures c.if1.false (fronted_same m (unpacked m) c.before.before.before.before.requires)
 
 pub settle-over-spec : {M : Type 1} → statement M
 settle-over-spec =

@@ -1,6 +1,6 @@
 -- `outcomes::settling::settle_waiting` meets its contract.
 use Rattle.state.specs.Unpack.{unpacked}
-use Rattle.outcomes.proofs.Settled.{holds-front, caught-fronts, settles}
+use Rattle.outcomes.proofs.Settled.{holds_front, caught_fronts, settles}
 use borrow.Author.Rules.{rules}
 use Rattle.outcomes.proofs.settling.settle_waiting.Statement.{statement}
 use Rattle.outcomes.proofs.settling.settle_waiting.Tie as tie
@@ -11,7 +11,7 @@ catch-up-requires c κs = search rules
 clear-noted-in-requires : tie.Need-clear-noted-in-requires
 clear-noted-in-requires c κs =
     let m = c.before.before.before.before.before.before.args.mem.now in
-    holds-front (caught-fronts (unpacked m) m c.before.before.before.before.before.before.requires c.before.before.before.catch-up.ensures)
+    holds_front (caught_fronts (unpacked m) m c.before.before.before.before.before.before.requires c.before.before.before.catch-up.ensures)
 
 same_length : tie.Need-same-length
 same_length c = search rules

@@ -1,6 +1,6 @@
 -- `ranges::checks::four_halves` meets its contract.
 use Rattle.std.proofs.Common.{◌+◌, ◌≤◌, length, arith, rules}
-use Rattle.ranges.proofs.Words.{half-none, four-none}
+use Rattle.ranges.proofs.Words.{half_none, four_none}
 use Rattle.ranges.proofs.checks.four_halves.Statement.{statement}
 use Rattle.ranges.proofs.checks.four_halves.Tie as tie
 
@@ -35,11 +35,11 @@ returns c =
     let h2 = c.before.before.half2 in
     let h3 = c.before.half3 in
     let h4 = c.half4 in
-    four-none m at 4 h.result h2.result h3.result h4.result (omega arith)
-    (half-none m at h.result (omega arith) h.ensures)
-    (half-none m (at + 4) h2.result (omega arith) h2.ensures)
-    (half-none m (at + 8) h3.result (omega arith) h3.ensures)
-    (half-none m (at + 12) h4.result (omega arith) h4.ensures)
+    four_none m at 4 h.result h2.result h3.result h4.result (omega arith)
+    (half_none m at h.result (omega arith) h.ensures)
+    (half_none m (at + 4) h2.result (omega arith) h2.ensures)
+    (half_none m (at + 8) h3.result (omega arith) h3.ensures)
+    (half_none m (at + 12) h4.result (omega arith) h4.ensures)
 
 pub four-halves-spec : {M : Type 1} → statement M
 four-halves-spec =

@@ -1,7 +1,7 @@
 -- `ranges::checks::nothing_across` meets its contract.
 use Rattle.std.proofs.Common.{◌+◌, ◌*◌, ◌≤◌, length, arith, rules}
-use Rattle.ranges.specs.Octets.{nothingAt}
-use Rattle.ranges.proofs.Words.{half-none, or-four}
+use Rattle.ranges.specs.Octets.{nothing_at}
+use Rattle.ranges.proofs.Words.{half_none, or_four}
 use Rattle.ranges.proofs.checks.nothing_across.Statement.{statement}
 use Rattle.ranges.proofs.checks.nothing_across.Tie as tie
 
@@ -33,7 +33,7 @@ half-requires-4 : tie.Need-half-requires-4
 half-requires-4 c κs = search rules
 
 returns : tie.Need-returns
-unfolding nothingAt
+unfolding nothing_at
 returns c =
     let start = c.before.before.before.before.before in
     let m = start.args.mem.now in
@@ -44,11 +44,11 @@ returns c =
     let h2 = c.before.before.half2 in
     let h3 = c.before.half3 in
     let h4 = c.half4 in
-    or-four h.result h2.result h3.result h4.result
-    (half-none m at h.result (omega arith) h.ensures)
-    (half-none m (at + step) h2.result (omega arith) h2.ensures)
-    (half-none m (at + 2 * step) h3.result (omega arith) h3.ensures)
-    (half-none m (at + 3 * step) h4.result (omega arith) h4.ensures)
+    or_four h.result h2.result h3.result h4.result
+    (half_none m at h.result (omega arith) h.ensures)
+    (half_none m (at + step) h2.result (omega arith) h2.ensures)
+    (half_none m (at + 2 * step) h3.result (omega arith) h3.ensures)
+    (half_none m (at + 3 * step) h4.result (omega arith) h4.ensures)
 
 pub nothing-across-spec : {M : Type 1} → statement M
 nothing-across-spec =

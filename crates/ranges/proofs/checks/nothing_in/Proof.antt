@@ -1,6 +1,6 @@
 -- `ranges::checks::nothing_in` meets its contract.
 use Rattle.std.proofs.Common.{◌+◌, ◌≤◌, length, arith, rules}
-use Rattle.ranges.proofs.Words.{four-none}
+use Rattle.ranges.proofs.Words.{four_none}
 use Rattle.ranges.proofs.checks.nothing_in.Statement.{statement}
 use Rattle.ranges.proofs.checks.nothing_in.Tie as tie
 
@@ -35,7 +35,7 @@ returns c =
     let h2 = c.before.before.four-halves2 in
     let h3 = c.before.four-halves3 in
     let h4 = c.four-halves4 in
-    four-none m at 16 h.result h2.result h3.result h4.result (omega arith) h.ensures h2.ensures h3.ensures h4.ensures
+    four_none m at 16 h.result h2.result h3.result h4.result (omega arith) h.ensures h2.ensures h3.ensures h4.ensures
 
 pub nothing-in-spec : {M : Type 1} → statement M
 nothing-in-spec =

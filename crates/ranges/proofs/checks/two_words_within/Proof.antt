@@ -1,7 +1,7 @@
 -- `ranges::checks::two_words_within` meets its contract.
 use Rattle.std.proofs.Common.{ℕ, ◌+◌, ◌<◌, ◌≤◌, ◌&&◌, length, get_or, sym, ap, ◌∙◌, ap₂, arith, rules}
 use Rattle.ranges.specs.Octets.{octets, at_most, lows}
-use Rattle.ranges.proofs.Words.{or-zero, octets-part, two-words}
+use Rattle.ranges.proofs.Words.{or_zero, octets_part, two_words}
 use Rattle.ranges.proofs.checks.two_words_within.Statement.{statement}
 use Rattle.ranges.proofs.checks.two_words_within.Tie as tie
 
@@ -29,11 +29,11 @@ returns c =
     let second = lows (octets 8 start.args.second) in
     let fits : at + 16 ≤ length m = start.pre in
     let small : (i : ℕ) → get_or m i 0 < 256 = λ i. (c.before.before.before.before.shared-slice-known.given i).fits in
-    let same = ap (octets 8) c.before.before.before.word.ensures ∙ octets-part m small 8 at (omega arith) in
-    let same2 = ap (octets 8) c.before.word2.ensures ∙ octets-part m small 8 (at + 8) (omega arith) in
-    or-zero c.before.before.above.result c.above2.result
+    let same = ap (octets 8) c.before.before.before.word.ensures ∙ octets_part m small 8 at (omega arith) in
+    let same2 = ap (octets 8) c.before.word2.ensures ∙ octets_part m small 8 (at + 8) (omega arith) in
+    or_zero c.before.before.above.result c.above2.result
     ∙ ap₂ ◌&&◌ (c.before.before.above.ensures ∙ ap (λ l. at_most l first) same) (c.above2.ensures ∙ ap (λ l. at_most l second) same2)
-    ∙ sym (two-words m at start.args.first start.args.second (omega arith))
+    ∙ sym (two_words m at start.args.first start.args.second (omega arith))
 
 pub two-words-within-spec : {M : Type 1} → statement M
 two-words-within-spec =

@@ -1,7 +1,7 @@
 -- `ranges::checks::word_between` meets its contract.
 use Rattle.std.proofs.Common.{◌&&◌, ap, ◌∙◌, rules}
 use Rattle.ranges.specs.Octets.{octets, at_most, lows}
-use Rattle.ranges.proofs.Words.{octets-part}
+use Rattle.ranges.proofs.Words.{octets_part}
 use Rattle.ranges.proofs.checks.word_between.Statement.{statement}
 use Rattle.ranges.proofs.checks.word_between.Tie as tie
 
@@ -16,7 +16,7 @@ returns c =
     let start = c.before.before.before in
     let same =
     ap (octets 8) c.before.word.ensures
-    ∙ octets-part start.args.mem.now (λ i. (c.before.before.shared-slice-known.given i).fits) 8 start.args.at start.pre in
+    ∙ octets_part start.args.mem.now (λ i. (c.before.before.shared-slice-known.given i).fits) 8 start.args.at start.pre in
     c.outside.ensures
     ∙ ap (λ l. at_most l (lows (octets 8 start.args.most)) && at_most (lows (octets 8 start.args.least)) l) same
 

@@ -1,8 +1,8 @@
 -- `ranges::word::outside` meets its contract.
 use Rattle.std.proofs.Common.{◌&&◌, eqb, ap, ◌∙◌, arith, rules}
 use lib.Bits.{bit_and, and_le_r}
-use Rattle.ranges.proofs.Words.{or-zero}
-use Rattle.ranges.proofs.Limits.{rep, both-are}
+use Rattle.ranges.proofs.Words.{or_zero}
+use Rattle.ranges.proofs.Limits.{rep, both_are}
 use Rattle.ranges.proofs.word.outside.Statement.{statement}
 use Rattle.ranges.proofs.word.outside.Tie as tie
 
@@ -21,9 +21,9 @@ unfolding rep
 returns c =
     let args = c.before.before.args in
     let below = c.before.wrapping-sub-u64.result in
-    or-zero c.above.result (bit_and below (rep 8 128))
+    or_zero c.above.result (bit_and below (rep 8 128))
     ∙ ap (λ t. t && eqb (bit_and below (rep 8 128)) 0) c.above.ensures
-    ∙ both-are args.x args.most args.least below (omega arith) (omega arith) c.before.wrapping-sub-u64.ensures
+    ∙ both_are args.x args.most args.least below (omega arith) (omega arith) c.before.wrapping-sub-u64.ensures
 
 pub outside-spec : {M : Type 1} → statement M
 outside-spec =

@@ -2,7 +2,7 @@
 use Rattle.std.proofs.Common.{arith}
 use lib.Bits.{bit_or, and_le_r}
 use Rattle.ranges.proofs.Limits.{rep}
-use Rattle.ranges.proofs.Halves.{unpaired-is}
+use Rattle.ranges.proofs.Halves.{unpaired_is}
 use Rattle.ranges.proofs.word.unpaired.Statement.{statement}
 use Rattle.ranges.proofs.word.unpaired.Tie as tie
 
@@ -20,7 +20,7 @@ add-second c = omega (arith, and_le_r c.args.y (rep 4 127))
 
 returns : tie.Need-returns
 unfolding rep
-returns c = unpaired-is 4 c.args.x c.args.y (omega arith) (omega arith)
+returns c = unpaired_is 4 c.args.x c.args.y (omega arith) (omega arith)
 
 pub unpaired-spec : {M : Type 1} → statement M
 unpaired-spec = tie.close (tie.spec add-some add-first add-second returns)

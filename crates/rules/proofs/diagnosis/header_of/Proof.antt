@@ -1,5 +1,5 @@
 use borrow.Author.Rules.{rules}
-use Rattle.rules.specs.Diagnosis.{headerOf}
+use Rattle.rules.specs.Diagnosis.{header_of}
 use Rattle.rules.proofs.diagnosis.header_of.Statement.{statement}
 use Rattle.rules.proofs.diagnosis.header_of.Tie as tie
 
@@ -13,7 +13,7 @@ status3-requires : tie.Need-status3-requires
 status3-requires c κs = search rules
 
 returns : tie.Need-returns
-unfolding headerOf
+unfolding header_of
 returns c = rw (c.status3.ensures, c.before.status2.ensures, c.before.before.status1.ensures)
 
 pub header-of-spec : {M : Type 1} → statement M

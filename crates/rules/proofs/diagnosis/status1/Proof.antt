@@ -46,7 +46,7 @@ returns c =
       c.before.one3.ensures.0,
       c.before.before.one2.ensures.0,
       c.before.before.before.one.ensures.0,
-      c.before.before.before.before.in-exchange.ensures,
+      c.before.before.before.before.in_exchange_lem.ensures,
     )
 
 pub status1-spec : {M : Type 1} → statement M

@@ -1,5 +1,5 @@
 use borrow.Author.Rules.{rules}
-use Rattle.rules.specs.Phases.{dataExch}
+use Rattle.rules.specs.Phases.{data_exch}
 use Rattle.rules.proofs.phases.data_exch.Statement.{statement}
 use Rattle.rules.proofs.phases.data_exch.Tie as tie
 
@@ -10,7 +10,7 @@ raise-requires : tie.Need-raise-requires
 raise-requires c κs = search rules
 
 returns : tie.Need-returns
-unfolding dataExch
+unfolding data_exch
 returns c = rw (c.raise.ensures, c.before.with-phase.ensures)
 
 pub data-exch-spec : {M : Type 1} → statement M

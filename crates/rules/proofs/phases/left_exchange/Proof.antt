@@ -9,10 +9,10 @@ raise-requires : tie.Need-raise-requires
 raise-requires c κs = search rules
 
 returns : tie.Need-returns
-returns c = rw (← c.before.before.in-exchange.ensures, c.before.if1.true, c.raise.ensures)
+returns c = rw (← c.before.before.in_exchange_lem.ensures, c.before.if1.true, c.raise.ensures)
 
 returns-2 : tie.Need-returns-2
-returns-2 c = rw (← c.before.in-exchange.ensures, c.if1.false)
+returns-2 c = rw (← c.before.in_exchange_lem.ensures, c.if1.false)
 
 pub left-exchange-spec : {M : Type 1} → statement M
 left-exchange-spec = tie.close (tie.spec in-exchange-requires raise-requires returns returns-2)

@@ -1,5 +1,5 @@
 -- `rules::phases::wait_prm` meets its contract.
-use Rattle.rules.specs.Phases.{waitPrm}
+use Rattle.rules.specs.Phases.{wait_prm}
 use borrow.Author.Rules.{rules}
 use Rattle.rules.proofs.phases.wait_prm.Statement.{statement}
 use Rattle.rules.proofs.phases.wait_prm.Tie as tie
@@ -20,7 +20,7 @@ ended-requires : tie.Need-ended-requires
 ended-requires c κs = search rules
 
 returns : tie.Need-returns
-unfolding waitPrm
+unfolding wait_prm
 returns c =
     rw (
       c.ended.ensures,

@@ -3,7 +3,7 @@ use Rattle.points.specs.declared.Point.{Point}
 use Rattle.points.specs.declared.Point.TheVariants as point
 use Rattle.points.specs.Points.{number_of}
 use Rattle.rules.specs.Requests.{point_of}
-use Rattle.rules.proofs.Points.{asked, asked-at-point}
+use Rattle.rules.proofs.Points.{asked, asked_at_point}
 use borrow.Author.Rules.{rules}
 use Rattle.rules.proofs.requests.asked_at.Statement.{statement}
 use Rattle.rules.proofs.requests.asked_at.Tie as tie
@@ -43,7 +43,7 @@ enum-told-7 c = search rules
 
 -- the match knows the point
 at : (c : tie.Start) (p : Point) → c.args.point ≡ p → asked p c.args.r.count ≡ point_of c.args.r
-at c p e = asked-at-point p c.args.r (ap number_of (sym e) ∙ c.requires)
+at c p e = asked_at_point p c.args.r (ap number_of (sym e) ∙ c.requires)
 
 returns : tie.Need-returns
 returns c = at c.before.before point.SetPrm c.enum_told.given.1

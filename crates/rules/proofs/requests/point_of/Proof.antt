@@ -1,6 +1,6 @@
 use borrow.Author.Rules.{rules}
 use Rattle.points.proofs.Promises.{found_number, none_found}
-use Rattle.rules.proofs.Points.{asked-nowhere}
+use Rattle.rules.proofs.Points.{asked_nowhere}
 use Rattle.rules.proofs.requests.point_of.Statement.{statement}
 use Rattle.rules.proofs.requests.point_of.Tie as tie
 
@@ -20,7 +20,7 @@ returns : tie.Need-returns
 returns c = search rules
 
 returns-2 : tie.Need-returns-2
-returns-2 c = asked-nowhere c.before.before.before.args.r (none_found c.before.before.look_up.ensures c.enum_told.given.1)
+returns-2 c = asked_nowhere c.before.before.before.args.r (none_found c.before.before.look_up.ensures c.enum_told.given.1)
 
 pub point-of-spec : {M : Type 1} → statement M
 point-of-spec =

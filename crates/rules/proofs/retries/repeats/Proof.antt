@@ -2,30 +2,30 @@
 use Prim.Native.Nat.{ℕ}
 use native.Mathlib.Omega.{arith}
 use mathlib.Core.Path.{◌≡◌, sym, ap, ◌∙◌}
-use mathlib.Core.Bool.{Bool, true, false, ◌&&◌, and-true, and-false}
+use mathlib.Core.Bool.{Bool, true, false, ◌&&◌, and_true, and-false}
 use lib.Dec.{eqb}
 use borrow.Author.Tests.{eq-eqb, ne_eqb, not-true, not-false}
-use Rattle.state.specs.Chain.{fcbIn}
+use Rattle.state.specs.Chain.{fcb_in}
 use Rattle.rules.specs.declared.request.Request.{Request}
-use Rattle.rules.specs.Requests.{masterOf}
-use Rattle.rules.specs.Retries.{asks, fcvOf, fcbOf, same}
+use Rattle.rules.specs.Requests.{master_of}
+use Rattle.rules.specs.Retries.{asks, fcv_of, fcb_of, same}
 use borrow.Author.Rules.{rules}
 use Rattle.rules.proofs.retries.repeats.Statement.{statement}
 use Rattle.rules.proofs.retries.repeats.Tie as tie
 
 -- a request whose frame count bit counts
 abbrev request : Request → Bool
-request r = asks r && fcvOf r
+request r = asks r && fcv_of r
 
 -- the last of three tests fails, or the one before it, or both hold
-last-fails : (x m s : Bool) → s ≡ false → false ≡ (x && m && s)
-last-fails x m s e = sym (ap (λ (t : Bool). x && m && t) e ∙ and-false (x && m))
+last_fails : (x m s : Bool) → s ≡ false → false ≡ (x && m && s)
+last_fails x m s e = sym (ap (λ (t : Bool). x && m && t) e ∙ and-false (x && m))
 
-middle-fails : (x m s : Bool) → m ≡ false → false ≡ (x && m && s)
-middle-fails x m s e = sym (ap (λ (t : Bool). t && s) (ap (λ (t : Bool). x && t) e ∙ and-false x))
+middle_fails : (x m s : Bool) → m ≡ false → false ≡ (x && m && s)
+middle_fails x m s e = sym (ap (λ (t : Bool). t && s) (ap (λ (t : Bool). x && t) e ∙ and-false x))
 
 both_hold : (x m s : Bool) → m ≡ true → s ≡ true → x ≡ (x && m && s)
-both_hold x m s e f = sym ((λ i. x && e i && f i) ∙ and-true (x && true) ∙ and-true x)
+both_hold x m s e f = sym ((λ i. x && e i && f i) ∙ and_true (x && true) ∙ and_true x)
 
 master-of-requires : tie.Need-master-of-requires
 master-of-requires c κs = search rules
@@ -39,8 +39,8 @@ same-requires c κs = search rules
 returns : tie.Need-returns
 returns c =
     let x = c.before.before.before.before.before.args in
-    last-fails (request x.r) (eqb (masterOf x.r) x.chain.master) (same (fcbOf x.r) (fcbIn x.chain))
-    (sym (c.before.same.ensures ∙ ap (same (fcbOf x.r)) c.before.before.fcb.ensures) ∙ not-true _ c.if1.true)
+    last_fails (request x.r) (eqb (master_of x.r) x.chain.master) (same (fcb_of x.r) (fcb_in x.chain))
+    (sym (c.before.same.ensures ∙ ap (same (fcb_of x.r)) c.before.before.fcb.ensures) ∙ not-true _ c.if1.true)
 
 returns-2 : tie.Need-returns-2
 returns-2 c =
@@ -48,7 +48,7 @@ returns-2 c =
     let x = asked.before.args in
     let found = c.if2.true in
     let other : asked.master-of.result ≡ x.chain.master → ⊥ = λ e. omega arith in
-    middle-fails (request x.r) (eqb (masterOf x.r) x.chain.master) (same (fcbOf x.r) (fcbIn x.chain))
+    middle_fails (request x.r) (eqb (master_of x.r) x.chain.master) (same (fcb_of x.r) (fcb_in x.chain))
     (ap (λ (n : ℕ). eqb n x.chain.master) (sym asked.master-of.ensures) ∙ ne_eqb _ _ other)
 
 asks-requires : tie.Need-asks-requires
@@ -61,10 +61,10 @@ returns-3 c =
     let x = asked.before.args in
     let found = c.before.before.if2.false in
     let equal : asked.master-of.result ≡ x.chain.master = omega arith in
-    (λ i. c.before.asks.ensures i && fcvOf x.r)
-    ∙ both_hold (request x.r) (eqb (masterOf x.r) x.chain.master) (same (fcbOf x.r) (fcbIn x.chain))
+    (λ i. c.before.asks.ensures i && fcv_of x.r)
+    ∙ both_hold (request x.r) (eqb (master_of x.r) x.chain.master) (same (fcb_of x.r) (fcb_in x.chain))
     (ap (λ (n : ℕ). eqb n x.chain.master) (sym asked.master-of.ensures) ∙ eq-eqb _ _ equal)
-    (sym (tested.before.same.ensures ∙ ap (same (fcbOf x.r)) tested.before.before.fcb.ensures) ∙ not-false _ tested.if1.false)
+    (sym (tested.before.same.ensures ∙ ap (same (fcb_of x.r)) tested.before.before.fcb.ensures) ∙ not-false _ tested.if1.false)
 
 pub repeats-spec : {M : Type 1} → statement M
 repeats-spec =

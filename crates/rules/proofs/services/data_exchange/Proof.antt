@@ -1,5 +1,5 @@
 use borrow.Author.Rules.{rules}
-use Rattle.rules.specs.Services.{dataExchange}
+use Rattle.rules.specs.Services.{data_exchange}
 use Rattle.rules.proofs.services.data_exchange.Statement.{statement}
 use Rattle.rules.proofs.services.data_exchange.Tie as tie
 
@@ -10,14 +10,14 @@ drawing-requires : tie.Need-drawing-requires
 drawing-requires c κs = search rules
 
 returns : tie.Need-returns
-unfolding dataExchange
+unfolding data_exchange
 returns c = rw (← c.before.before.before.before.exchanges.ensures, c.before.if1.true, c.drawing.ensures)
 
 cfg-fault-requires : tie.Need-cfg-fault-requires
 cfg-fault-requires c κs = search rules
 
 returns-2 : tie.Need-returns-2
-unfolding dataExchange
+unfolding data_exchange
 returns-2 c =
     rw (
       ← c.before.before.before.before.before.exchanges.ensures,
@@ -30,7 +30,7 @@ good-exchange-requires : tie.Need-good-exchange-requires
 good-exchange-requires c κs = search rules
 
 returns-3 : tie.Need-returns-3
-unfolding dataExchange
+unfolding data_exchange
 returns-3 c =
     rw (
       ← c.before.before.before.before.before.exchanges.ensures,

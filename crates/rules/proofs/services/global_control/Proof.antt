@@ -1,5 +1,5 @@
 use borrow.Author.Rules.{rules}
-use Rattle.rules.specs.Services.{globalControl}
+use Rattle.rules.specs.Services.{global_control}
 use Rattle.rules.proofs.services.global_control.Statement.{statement}
 use Rattle.rules.proofs.services.global_control.Tie as tie
 
@@ -10,14 +10,14 @@ obeyed-requires : tie.Need-obeyed-requires
 obeyed-requires c κs = search rules
 
 returns : tie.Need-returns
-unfolding globalControl
+unfolding global_control
 returns c = rw (← c.before.before.controls.ensures, c.before.if1.true, c.obeyed.ensures)
 
 drawing-requires : tie.Need-drawing-requires
 drawing-requires c κs = search rules
 
 returns-2 : tie.Need-returns-2
-unfolding globalControl
+unfolding global_control
 returns-2 c = rw (← c.before.before.controls.ensures, c.before.if1.false, c.drawing.ensures)
 
 pub global-control-spec : {M : Type 1} → statement M

@@ -1,8 +1,8 @@
 -- `rules::services::outcome_by` meets its contract.
 use mathlib.Core.Path.{◌≡◌, sym, ap, ◌∙◌}
 use mathlib.Core.Bool.{Bool, false, cond, ◌&&◌}
-use Rattle.rules.specs.Requests.{refilled, serviceOf}
-use Rattle.rules.specs.Retries.{isRepeat, chained, repeated}
+use Rattle.rules.specs.Requests.{refilled, service_of}
+use Rattle.rules.specs.Retries.{is_repeat, chained, repeated}
 use Rattle.rules.specs.Services.{serve}
 use borrow.Author.Rules.{rules}
 use Rattle.rules.proofs.services.outcome_by.Statement.{statement}
@@ -36,7 +36,7 @@ returns-2 c =
     let x = tested.before.before.before.args in
     let g = x.setup in
     let r = x.r in
-    let once : isRepeat g x.control r ≡ false =
+    let once : is_repeat g x.control r ≡ false =
     sym (λ i. tested.before.before.acts.ensures i && tested.before.repeats.ensures i) ∙ tested.if1.false in
     let served = c.before.serve.ensures
     ∙ (λ i. serve (tested.before.before.before.requires i) g (c.before.before.refilled.ensures i) x.occupied r x.octets) in
@@ -44,7 +44,7 @@ returns-2 c =
     ∙ (λ i. chained g r (served i))
     ∙ sym
     (ap
-    (λ (t : Bool). cond t (repeated g x.control r) (chained g r (serve (serviceOf g r) g (refilled g x.control r) x.occupied r x.octets)))
+    (λ (t : Bool). cond t (repeated g x.control r) (chained g r (serve (service_of g r) g (refilled g x.control r) x.occupied r x.octets)))
     once)
 
 pub outcome-by-spec : {M : Type 1} → statement M

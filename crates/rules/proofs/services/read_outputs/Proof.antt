@@ -9,13 +9,13 @@ drawing-requires : tie.Need-drawing-requires
 drawing-requires c κs = search rules
 
 returns : tie.Need-returns
-returns c = rw (← c.before.before.in-exchange.ensures, c.before.if1.true, c.drawing.ensures)
+returns c = rw (← c.before.before.in_exchange_lem.ensures, c.before.if1.true, c.drawing.ensures)
 
 drawing-requires-2 : tie.Need-drawing-requires-2
 drawing-requires-2 c κs = search rules
 
 returns-2 : tie.Need-returns-2
-returns-2 c = rw (← c.before.before.in-exchange.ensures, c.before.if1.false, c.drawing2.ensures)
+returns-2 c = rw (← c.before.before.in_exchange_lem.ensures, c.before.if1.false, c.drawing2.ensures)
 
 pub read-outputs-spec : {M : Type 1} → statement M
 read-outputs-spec =

@@ -78,16 +78,16 @@ returns-3 : tie.Need-returns-3
 returns-3 c = rw (c.drawing3.ensures, c.before.enum-told3.given.1)
 
 returns-4 : tie.Need-returns-4
-returns-4 c = rw (c.global-control.ensures, c.before.enum-told4.given.1)
+returns-4 c = rw (c.global_control_lem.ensures, c.before.enum-told4.given.1)
 
 returns-5 : tie.Need-returns-5
-returns-5 c = rw (c.data-exchange.ensures, c.before.enum-told5.given.1)
+returns-5 c = rw (c.data_exchange_lem.ensures, c.before.enum-told5.given.1)
 
 returns-6 : tie.Need-returns-6
-returns-6 c = rw (c.set-prm.ensures, c.before.enum-told6.given.1)
+returns-6 c = rw (c.set_prm_lem.ensures, c.before.enum-told6.given.1)
 
 returns-7 : tie.Need-returns-7
-returns-7 c = rw (c.chk-cfg.ensures, c.before.enum-told7.given.1)
+returns-7 c = rw (c.chk_cfg_lem.ensures, c.before.enum-told7.given.1)
 
 returns-8 : tie.Need-returns-8
 returns-8 c = rw (c.slave-diag.ensures, c.before.enum-told8.given.1)

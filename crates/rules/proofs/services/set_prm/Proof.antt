@@ -3,8 +3,8 @@ use mathlib.Core.Path.{◌≡◌}
 use mathlib.Core.Bool.{false}
 use borrow.Author.Tests.{eq-eqb, ne_eqb}
 use borrow.Author.Rules.{rules}
-use Rattle.rules.specs.Services.{otherOwns, setPrm}
-use Rattle.rules.specs.Requests.{masterOf}
+use Rattle.rules.specs.Services.{other_owns, set_prm}
+use Rattle.rules.specs.Requests.{master_of}
 use Rattle.rules.proofs.services.set_prm.Statement.{statement}
 use Rattle.rules.proofs.services.set_prm.Tie as tie
 
@@ -18,7 +18,7 @@ drawing-requires : tie.Need-drawing-requires
 drawing-requires c κs = search rules
 
 returns : tie.Need-returns
-unfolding setPrm
+unfolding set_prm
 returns c =
     let asked = c.before.before.before.before.before in
     rw (← asked.before.master-of.ensures, ← asked.other-owns.ensures, c.before.if1.true, c.drawing.ensures)
@@ -26,8 +26,8 @@ returns c =
 -- the first test is passed: no other master owns
 free :
     (c : tie.Else1) →
-    otherOwns c.before.before.before.before.before.before.args.control
-    (masterOf c.before.before.before.before.before.before.args.r) ≡ false
+    other_owns c.before.before.before.before.before.before.args.control
+    (master_of c.before.before.before.before.before.before.args.r) ≡ false
 free c =
     let asked = c.before.before.before.before in
     rw (← asked.before.master-of.ensures, ← asked.other-owns.ensures) c.if1.false
@@ -36,14 +36,14 @@ prm-fault-requires : tie.Need-prm-fault-requires
 prm-fault-requires c κs = search rules
 
 returns-2 : tie.Need-returns-2
-unfolding setPrm
+unfolding set_prm
 returns-2 c = rw (free c.before.before, c.before.if2.true, c.prm-fault.ensures)
 
 entering-wait-prm-requires : tie.Need-entering-wait-prm-requires
 entering-wait-prm-requires c κs = search rules
 
 returns-3 : tie.Need-returns-3
-unfolding setPrm
+unfolding set_prm
 returns-3 c =
     let at2 = c.before.before in
     let at1 = at2.before in
@@ -53,7 +53,7 @@ drawing-requires-2 : tie.Need-drawing-requires-2
 drawing-requires-2 c κs = search rules
 
 returns-4 : tie.Need-returns-4
-unfolding setPrm
+unfolding set_prm
 returns-4 c =
     let at3 = c.before.before in
     let at2 = at3.before in
@@ -70,7 +70,7 @@ prm-fault-requires-2 : tie.Need-prm-fault-requires-2
 prm-fault-requires-2 c κs = search rules
 
 returns-5 : tie.Need-returns-5
-unfolding setPrm
+unfolding set_prm
 returns-5 c =
     let at4 = c.before.before.before.before in
     let at3 = at4.before in
@@ -91,7 +91,7 @@ good-prm-requires : tie.Need-good-prm-requires
 good-prm-requires c κs = search rules
 
 returns-6 : tie.Need-returns-6
-unfolding setPrm
+unfolding set_prm
 returns-6 c =
     let at4 = c.before.before.before.before in
     let at3 = at4.before in
@@ -105,7 +105,7 @@ returns-6 c =
       ← c.before.before.before.other-ident.ensures,
       ← c.before.before.bad-watchdog.ensures,
       c.before.if5.false,
-      c.good-prm.ensures,
+      c.good_prm_lem.ensures,
     )
 
 pub set-prm-spec : {M : Type 1} → statement M

@@ -1,5 +1,5 @@
 use borrow.Author.Rules.{rules}
-use Rattle.rules.specs.User.{judgedConfiguration}
+use Rattle.rules.specs.User.{judged_configuration}
 use Rattle.rules.proofs.user.judged_configuration.Statement.{statement}
 use Rattle.rules.proofs.user.judged_configuration.Tie as tie
 
@@ -7,7 +7,7 @@ changing-sets-requires : tie.Need-changing-sets-requires
 changing-sets-requires c κs = search rules
 
 returns : tie.Need-returns
-unfolding judgedConfiguration
+unfolding judged_configuration
 returns c = rw (c.before.if1.true, c.changing-sets.ensures)
 
 clear-requires : tie.Need-clear-requires
@@ -20,7 +20,7 @@ changing-sets-requires-2 : tie.Need-changing-sets-requires-2
 changing-sets-requires-2 c κs = search rules
 
 returns-2 : tie.Need-returns-2
-unfolding judgedConfiguration
+unfolding judged_configuration
 returns-2 c =
     rw (
       c.before.before.before.before.if1.false,
@@ -34,7 +34,7 @@ entering-wait-prm-requires : tie.Need-entering-wait-prm-requires
 entering-wait-prm-requires c κs = search rules
 
 returns-3 : tie.Need-returns-3
-unfolding judgedConfiguration
+unfolding judged_configuration
 returns-3 c =
     rw (
       c.before.before.before.before.if1.false,

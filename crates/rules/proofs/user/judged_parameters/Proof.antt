@@ -1,5 +1,5 @@
 use borrow.Author.Rules.{rules}
-use Rattle.rules.specs.User.{judgedParameters}
+use Rattle.rules.specs.User.{judged_parameters}
 use Rattle.rules.proofs.user.judged_parameters.Statement.{statement}
 use Rattle.rules.proofs.user.judged_parameters.Tie as tie
 
@@ -7,7 +7,7 @@ changing-sets-requires : tie.Need-changing-sets-requires
 changing-sets-requires c κs = search rules
 
 returns : tie.Need-returns
-unfolding judgedParameters
+unfolding judged_parameters
 returns c = rw (c.before.if1.true, c.changing-sets.ensures)
 
 clear-requires : tie.Need-clear-requires
@@ -17,7 +17,7 @@ changing-sets-requires-2 : tie.Need-changing-sets-requires-2
 changing-sets-requires-2 c κs = search rules
 
 returns-2 : tie.Need-returns-2
-unfolding judgedParameters
+unfolding judged_parameters
 returns-2 c =
     rw (
       c.before.before.before.before.if1.false,
@@ -30,7 +30,7 @@ entering-wait-prm-requires : tie.Need-entering-wait-prm-requires
 entering-wait-prm-requires c κs = search rules
 
 returns-3 : tie.Need-returns-3
-unfolding judgedParameters
+unfolding judged_parameters
 returns-3 c =
     rw (
       c.before.before.before.before.if1.false,

@@ -1,7 +1,7 @@
 -- `state::layout::diagnosis_at` meets its contract.
 use native.Mathlib.Omega.{arith}
-use Rattle.state.specs.Layout.{diagnosisRow, rowBase, start_of}
-use Rattle.state.proofs.Places.{base-small}
+use Rattle.state.specs.Layout.{diagnosis_row, row_base, start_of}
+use Rattle.state.proofs.Places.{base_small}
 use borrow.Author.Rules.{rules}
 use Rattle.state.proofs.layout.diagnosis_at.Statement.{statement}
 use Rattle.state.proofs.layout.diagnosis_at.Tie as tie
@@ -10,13 +10,13 @@ configuration-at-requires : tie.Need-configuration-at-requires
 configuration-at-requires c κs = search rules
 
 place-at-requires : tie.Need-place-at-requires
-unfolding rowBase start_of
+unfolding row_base start_of
 place-at-requires c κs =
-    let u = base-small c.before.args.s diagnosisRow (search rules) (omega arith) in
+    let u = base_small c.before.args.s diagnosis_row (search rules) (omega arith) in
     omega arith
 
 returns : tie.Need-returns
-unfolding rowBase start_of
+unfolding row_base start_of
 returns c = search rules
 
 pub diagnosis-at-spec : {M : Type 1} → statement M

@@ -67,8 +67,8 @@ returns c =
       owner = get_or m 0 0;
       group = get_or m 1 0;
       stored = get_or m 2 0;
-      watchdog = record { reload = reloaded.double-at2.ensures i; remaining = reloaded.before.double-at.ensures i };
-      flags = flagged.flags-in.ensures i;
+      watchdog = record { reload = reloaded.double-at2.ensures i; remaining = reloaded.before.double_at_lem.ensures i };
+      flags = flagged.flags_in_lem.ensures i;
       events = raised.events.ensures i;
       noted = noted.noted.ensures i;
       diagnosis = diagnosed.diagnosis.ensures i;

@@ -1,6 +1,6 @@
 -- `state::load::double_at` meets its contract.
 use mathlib.Core.Path.{◌∙◌}
-use Rattle.state.proofs.ByWords.{double-read}
+use Rattle.state.proofs.ByWords.{double_read}
 use borrow.Author.Rules.{rules}
 use Rattle.state.proofs.load.double_at.Statement.{statement}
 use Rattle.state.proofs.load.double_at.Tie as tie
@@ -11,7 +11,7 @@ half-requires c κs = search rules
 returns : tie.Need-returns
 returns c =
     let start = c.before.before in
-    c.half.ensures ∙ double-read start.args.mem.now start.args.i start.requires
+    c.half.ensures ∙ double_read start.args.mem.now start.args.i start.requires
 
 pub double-at-spec : {M : Type 1} → statement M
 double-at-spec = tie.close (tie.spec half-requires returns)

@@ -1,7 +1,7 @@
 -- `state::load::incoming` meets its contract.
 use mathlib.Core.Path.{◌∙◌}
 use lib.ListN.{get_or}
-use Rattle.state.specs.Unpack.{readerIn, unpacked}
+use Rattle.state.specs.Unpack.{reader_in, unpacked}
 use borrow.Author.Rules.{rules}
 use Rattle.state.proofs.load.incoming.Statement.{statement}
 use Rattle.state.proofs.load.incoming.Tie as tie
@@ -32,7 +32,7 @@ unfolding unpacked
 returns c =
     let m = c.before.before.before.before.before.before.before.before.args.mem.now in
     let r = c.before.before in
-    let e = r.reader-in.ensures ∙ (λ j. readerIn m (r.before.before.before.reading-numbered.ensures j) (r.before.kind-numbered.ensures j)) in
+    let e = r.reader-in.ensures ∙ (λ j. reader_in m (r.before.before.before.reading_numbered_lem.ensures j) (r.before.kind-numbered.ensures j)) in
     λ i. record { reader = e i; first = get_or m 40 0; second = get_or m 41 0 }
 
 pub incoming-spec : {M : Type 1} → statement M

@@ -1,7 +1,7 @@
 -- `state::load::reply` meets its contract.
 use mathlib.Core.Path.{◌∙◌}
 use lib.ListN.{get_or}
-use Rattle.state.specs.Unpack.{senderIn, unpacked}
+use Rattle.state.specs.Unpack.{sender_in, unpacked}
 use borrow.Author.Rules.{rules}
 use Rattle.state.proofs.load.reply.Statement.{statement}
 use Rattle.state.proofs.load.reply.Tie as tie
@@ -38,7 +38,7 @@ unfolding unpacked
 returns c =
     let m = c.before.before.before.before.before.before.before.before.before.before.args.mem.now in
     let s = c.before.before in
-    let e = s.sender-in.ensures ∙ (λ j. senderIn m (s.before.before.before.stage-numbered.ensures j) (s.before.kind-numbered.ensures j)) in
+    let e = s.sender-in.ensures ∙ (λ j. sender_in m (s.before.before.before.stage_numbered_lem.ensures j) (s.before.kind-numbered.ensures j)) in
     λ i. record { drawn = c.before.before.before.before.before.before.before.drawn-numbered.ensures i; sender = e i; place = get_or m 19 0; header = c.header-in.ensures i }
 
 pub reply-spec : {M : Type 1} → statement M

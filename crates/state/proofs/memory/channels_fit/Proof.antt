@@ -7,9 +7,9 @@ use lib.Dec.{leb}
 use lib.ListN.{length, get_or}
 use borrow.Author.Tests.{le-leb}
 use Rattle.channels.specs.Image.{channels}
-use Rattle.channels.specs.Rules.{wellAt, eachFrom, wellChannels}
-use Rattle.channels.specs.Places.{lengthsIn, roomOf, surveyed}
-use Rattle.channels.proofs.Found.{survey-well, says-found, found-small, told-damaged}
+use Rattle.channels.specs.Rules.{well_at, each_from, well_channels}
+use Rattle.channels.specs.Places.{lengths_in, room_of, surveyed}
+use Rattle.channels.proofs.Found.{survey_well, says_found, found_small, told_damaged}
 use Rattle.state.specs.Layout.{end_of, last_end}
 use Rattle.state.specs.Unpack.{unpacked}
 use borrow.Author.Rules.{rules}
@@ -30,7 +30,7 @@ add-if1 c =
     let start = c.before.before.before.before.before in
     let m = start.args.mem.now in
     let small : (i : ℕ) → get_or m i 0 < 256 = λ i. (c.before.before.before.before.shared-slice-known.given i).fits in
-    let u = found-small m 0 channels _ small (says-found m 0 channels _ (sym c.before.before.before.survey-of.ensures ∙ c.before.found.given.1)) in
+    let u = found_small m 0 channels _ small (says_found m 0 channels _ (sym c.before.before.before.survey-of.ensures ∙ c.before.found.given.1)) in
     omega arith
 
 returns : tie.Need-returns
@@ -38,10 +38,10 @@ unfolding last_end
 returns c =
     let start = c.before.before.before.before.before.before in
     let m = start.args.mem.now in
-    let found = survey-well m _ (sym c.before.before.before.before.survey-of.ensures ∙ c.before.before.found.given.1) in
+    let found = survey_well m _ (sym c.before.before.before.before.survey-of.ensures ∙ c.before.before.found.given.1) in
     let room = found.1 in
     let ends = start.requires.1 in
-    let fits = le-leb (end_of (unpacked m).setup + roomOf (lengthsIn m)) (length m) (omega arith) in
+    let fits = le-leb (end_of (unpacked m).setup + room_of (lengths_in m)) (length m) (omega arith) in
     sym (λ i. found.0 i && fits i)
 
 setup-requires : tie.Need-setup-requires
@@ -55,7 +55,7 @@ add-result c =
     let start = c.before.before.before.before.before.before.before.before in
     let m = start.args.mem.now in
     let small : (i : ℕ) → get_or m i 0 < 256 = λ i. (c.before.before.before.before.before.before.before.shared-slice-known.given i).fits in
-    let u = found-small m 0 channels _ small (says-found m 0 channels _ (sym c.before.before.before.before.before.before.survey-of.ensures ∙ c.before.before.before.before.found.given.1)) in
+    let u = found_small m 0 channels _ small (says_found m 0 channels _ (sym c.before.before.before.before.before.before.survey-of.ensures ∙ c.before.before.before.before.found.given.1)) in
     let e = c.end_of_lem.ensures.1 in
     omega arith
 
@@ -64,17 +64,17 @@ unfolding last_end
 returns-3 c =
     let start = c.before.before.before.before.before.before.before.before in
     let m = start.args.mem.now in
-    let found = survey-well m _ (sym c.before.before.before.before.before.before.survey-of.ensures ∙ c.before.before.before.before.found.given.1) in
+    let found = survey_well m _ (sym c.before.before.before.before.before.before.survey-of.ensures ∙ c.before.before.before.before.found.given.1) in
     let end = c.end_of_lem.ensures.0 ∙ ap end_of c.before.setup.ensures in
     λ i. sym found.0 i && leb (end i + found.1 i) (length m)
 
 returns-2 : tie.Need-returns-2
-unfolding wellChannels surveyed
+unfolding well_channels surveyed
 returns-2 c =
     let start = c.before.before.before.before in
     let m = start.args.mem.now in
-    let e = told-damaged (eachFrom (wellAt m) 0 channels) _ (sym c.before.before.survey-of.ensures ∙ c.enum_told.given.1) in
-    λ i. sym e i && leb (last_end (lengthsIn m) (unpacked m).setup) (length m)
+    let e = told_damaged (each_from (well_at m) 0 channels) _ (sym c.before.before.survey-of.ensures ∙ c.enum_told.given.1) in
+    λ i. sym e i && leb (last_end (lengths_in m) (unpacked m).setup) (length m)
 
 pub channels-fit-spec : {M : Type 1} → statement M
 channels-fit-spec =

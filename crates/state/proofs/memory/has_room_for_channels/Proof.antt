@@ -7,25 +7,25 @@ use mathlib.Core.List.{List, ◌++◌}
 use lib.Dec.{leb}
 use lib.ListN.{length}
 use borrow.Author.Tests.{not-true, not-false}
-use Rattle.channels.specs.Rules.{wellChannels}
-use Rattle.channels.specs.Places.{lengthsIn}
+use Rattle.channels.specs.Rules.{well_channels}
+use Rattle.channels.specs.Places.{lengths_in}
 use Rattle.state.specs.Layout.{last_end}
-use Rattle.state.specs.Unpack.{unpacked, setupIn}
-use Rattle.state.specs.Well.{all, exchangesNothing, rangeTests, chainTests, lengthsTests}
-use Rattle.state.proofs.ShortLengths.{short-lengths-are, long-end}
-use Rattle.state.proofs.Tests.{test-first}
+use Rattle.state.specs.Unpack.{unpacked, setup_in}
+use Rattle.state.specs.Well.{all, exchanges_nothing, range_tests, chain_tests, lengths_tests}
+use Rattle.state.proofs.ShortLengths.{short_lengths_are, long_end_lem}
+use Rattle.state.proofs.Tests.{test_first}
 use borrow.Author.Rules.{rules}
 use Rattle.state.proofs.memory.has_room_for_channels.Statement.{statement}
 use Rattle.state.proofs.memory.has_room_for_channels.Tie as tie
 
 -- the channels, and that the last buffer ends in the memory
 abbrev rest : List ℕ → Bool
-rest m = wellChannels m && leb (last_end (lengthsIn m) (unpacked m).setup) (length m)
+rest m = well_channels m && leb (last_end (lengths_in m) (unpacked m).setup) (length m)
 
 -- the test of lengths is that of outputs or inputs and of each by itself
-lengths-by : (m : List ℕ) (nothing well : Bool) → nothing ≡ exchangesNothing (setupIn m 0) → well ≡ all (chainTests m ++ rangeTests (setupIn m 0))
-    → (not nothing && well) ≡ all (lengthsTests m)
-lengths-by m nothing well e f = (λ i. not (e i) && f i) ∙ test-first (not (exchangesNothing (setupIn m 0))) (chainTests m) (rangeTests (setupIn m 0))
+lengths_by : (m : List ℕ) (nothing well : Bool) → nothing ≡ exchanges_nothing (setup_in m 0) → well ≡ all (chain_tests m ++ range_tests (setup_in m 0))
+    → (not nothing && well) ≡ all (lengths_tests m)
+lengths_by m nothing well e f = (λ i. not (e i) && f i) ∙ test_first (not (exchanges_nothing (setup_in m 0))) (chain_tests m) (range_tests (setup_in m 0))
 
 short-lengths-requires : tie.Need-short-lengths-requires
 short-lengths-requires c κs = search rules
@@ -34,13 +34,13 @@ channels-fit-requires : tie.Need-channels-fit-requires
 channels-fit-requires c κs =
     let start = c.before.before.before in
     let m = start.args.mem.now in
-    (start.requires, (short-lengths-are m (sym c.before.short_lengths.ensures ∙ c.if1.true)).ends, omega arith)
+    (start.requires, (short_lengths_are m (sym c.before.short_lengths.ensures ∙ c.if1.true)).ends, omega arith)
 
 returns : tie.Need-returns
 returns c =
     let start = c.before.before.before.before in
     let m = start.args.mem.now in
-    let pass = (short-lengths-are m (sym c.before.before.short_lengths.ensures ∙ c.before.if1.true)).pass in
+    let pass = (short_lengths_are m (sym c.before.before.short_lengths.ensures ∙ c.before.if1.true)).pass in
     c.channels-fit.ensures ∙ (λ i. sym pass i && rest m)
 
 exchanges-nothing-requires : tie.Need-exchanges-nothing-requires
@@ -50,7 +50,7 @@ returns-2 : tie.Need-returns-2
 returns-2 c =
     let start = c.before.before.before.before.before in
     let m = start.args.mem.now in
-    let fails = sym (λ i. not ((sym c.before.exchanges-nothing.ensures ∙ c.if2.true) i) && all (chainTests m ++ rangeTests (setupIn m 0))) ∙ test-first (not (exchangesNothing (setupIn m 0))) (chainTests m) (rangeTests (setupIn m 0)) in
+    let fails = sym (λ i. not ((sym c.before.exchanges-nothing.ensures ∙ c.if2.true) i) && all (chain_tests m ++ range_tests (setup_in m 0))) ∙ test_first (not (exchanges_nothing (setup_in m 0))) (chain_tests m) (range_tests (setup_in m 0)) in
     λ i. fails i && rest m
 
 well-lengths-requires : tie.Need-well-lengths-requires
@@ -62,23 +62,23 @@ returns-3 c =
     let m = start.args.mem.now in
     let some = c.before.before.if2.false in
     let bad = not-true _ c.if3.true in
-    let fails = sym (λ i. not (some i) && bad i) ∙ lengths-by m _ _ c.before.before.before.exchanges-nothing.ensures c.before.well-lengths.ensures in
+    let fails = sym (λ i. not (some i) && bad i) ∙ lengths_by m _ _ c.before.before.before.exchanges-nothing.ensures c.before.well-lengths.ensures in
     λ i. fails i && rest m
 
 -- the lengths passed
-pass : (c : tie.Else3) → all (lengthsTests c.before.before.before.before.before.before.before.args.mem.now) ≡ true
+pass : (c : tie.Else3) → all (lengths_tests c.before.before.before.before.before.before.before.args.mem.now) ≡ true
 pass c =
     let start = c.before.before.before.before.before.before.before in
     let m = start.args.mem.now in
     let nothing = c.before.before.before.exchanges-nothing in
     let well = c.before.well-lengths in
     let good = not-false well.result c.if3.false in
-    sym (lengths-by m nothing.result well.result nothing.ensures well.ensures) ∙ (λ i. not (c.before.before.if2.false i) && good i)
+    sym (lengths_by m nothing.result well.result nothing.ensures well.ensures) ∙ (λ i. not (c.before.before.if2.false i) && good i)
 
 channels-fit-requires-2 : tie.Need-channels-fit-requires-2
 channels-fit-requires-2 c κs =
     let start = c.before.before.before.before.before.before.before in
-    (start.requires, long-end start.args.mem.now (pass c), omega arith)
+    (start.requires, long_end_lem start.args.mem.now (pass c), omega arith)
 
 returns-4 : tie.Need-returns-4
 returns-4 c =

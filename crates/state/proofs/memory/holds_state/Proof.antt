@@ -7,35 +7,35 @@ use mathlib.Core.List.{List, [], ◌∷◌, ◌++◌}
 use lib.Dec.{leb}
 use lib.ListN.{length, get_or}
 use borrow.Author.Tests.{not-true}
-use Rattle.channels.specs.Rules.{wellChannels}
-use Rattle.channels.specs.Places.{lengthsIn, roomOf}
-use Rattle.channels.proofs.Found.{rows-nothing}
+use Rattle.channels.specs.Rules.{well_channels}
+use Rattle.channels.specs.Places.{lengths_in, room_of}
+use Rattle.channels.proofs.Found.{rows_nothing}
 use Rattle.state.specs.Layout.{end_of, last_end}
-use Rattle.state.specs.Memory.{holdsState}
+use Rattle.state.specs.Memory.{holds_state}
 use Rattle.state.specs.Unpack.{unpacked}
-use Rattle.state.specs.Well.{all, lengthsTests, imageTests, wellImage}
-use Rattle.state.proofs.Damage.{short-fails}
-use Rattle.state.proofs.Tests.{all-fails, others-decide}
+use Rattle.state.specs.Well.{all, lengths_tests, image_tests, well_image}
+use Rattle.state.proofs.Damage.{short_fails}
+use Rattle.state.proofs.Tests.{all_fails, others_decide}
 use borrow.Author.Rules.{rules}
 use Rattle.state.proofs.memory.holds_state.Statement.{statement}
 use Rattle.state.proofs.memory.holds_state.Tie as tie
 
 -- the tests of the image, and that the buffers end in the memory
 abbrev tests : List ℕ → List Bool
-tests m = imageTests m ++ leb (last_end (lengthsIn m) (unpacked m).setup) (length m) ∷ []
+tests m = image_tests m ++ leb (last_end (lengths_in m) (unpacked m).setup) (length m) ∷ []
 
 -- where the second of two tests fails both do
-second-fails : (a b : Bool) → false ≡ b → false ≡ (a && b)
-second-fails true b e = e
-second-fails false b e = refl
+second_fails : (a b : Bool) → false ≡ b → false ≡ (a && b)
+second_fails true b e = e
+second_fails false b e = refl
 
 -- one of the tests fails
-fails : (m : List ℕ) (k : ℕ) → get_or (tests m) k true ≡ false → false ≡ holdsState m
-unfolding holdsState wellImage
-fails m k e = second-fails (wellChannels m) _ (all-fails (tests m) k e)
+fails : (m : List ℕ) (k : ℕ) → get_or (tests m) k true ≡ false → false ≡ holds_state m
+unfolding holds_state well_image
+fails m k e = second_fails (well_channels m) _ (all_fails (tests m) k e)
 
 returns : tie.Need-returns
-returns c = short-fails _ c.if1.true
+returns c = short_fails _ c.if1.true
 
 well-counts-requires : tie.Need-well-counts-requires
 well-counts-requires c κs = search rules
@@ -62,7 +62,7 @@ has-room-requires : tie.Need-has-room-requires
 has-room-requires c κs = search rules
 
 returns-5 : tie.Need-returns-5
-unfolding holdsState wellImage wellChannels last_end
+unfolding holds_state well_image well_channels last_end
 returns-5 c =
     let s₄ = c.before.before.before in
     let s₃ = s₄.before.before in
@@ -71,25 +71,25 @@ returns-5 c =
     let counts = ap not (sym s₂.before.well-counts.ensures) ∙ s₂.if2.false in
     let line = ap not (sym s₃.before.well-line.ensures) ∙ s₃.if3.false in
     let codes = ap not (sym s₄.before.well-codes.ensures) ∙ s₄.if4.false in
-    let found = rows-nothing m (sym c.before.before.nothing-in.ensures ∙ c.before.if5.true) in
+    let found = rows_nothing m (sym c.before.before.nothing_in.ensures ∙ c.before.if5.true) in
     let room = found.1 in
-    let end : end_of (unpacked m).setup ≡ end_of (unpacked m).setup + roomOf (lengthsIn m) = omega arith in
+    let end : end_of (unpacked m).setup ≡ end_of (unpacked m).setup + room_of (lengths_in m) = omega arith in
     c.has_room.ensures
-    ∙ (λ i. all (lengthsTests m) && leb (end i) (length m))
-    ∙ others-decide 3 (tests m) (counts, (line, (codes, tt)))
+    ∙ (λ i. all (lengths_tests m) && leb (end i) (length m))
+    ∙ others_decide 3 (tests m) (counts, (line, (codes, tt)))
     ∙ (λ i. sym found.0 i && all (tests m))
 
 has-room-for-channels-requires : tie.Need-has-room-for-channels-requires
 has-room-for-channels-requires c κs = search rules
 
 -- of three tests the second may come first
-second-first : (a b c : Bool) → (a && (b && c)) ≡ (b && (a && c))
-second-first true b c = refl
-second-first false true c = refl
-second-first false false c = refl
+second_first : (a b c : Bool) → (a && (b && c)) ≡ (b && (a && c))
+second_first true b c = refl
+second_first false true c = refl
+second_first false false c = refl
 
 returns-6 : tie.Need-returns-6
-unfolding holdsState wellImage
+unfolding holds_state well_image
 returns-6 c =
     let s₄ = c.before.before.before in
     let s₃ = s₄.before.before in
@@ -99,8 +99,8 @@ returns-6 c =
     let line = ap not (sym s₃.before.well-line.ensures) ∙ s₃.if3.false in
     let codes = ap not (sym s₄.before.well-codes.ensures) ∙ s₄.if4.false in
     c.has-room-for-channels.ensures
-    ∙ second-first (all (lengthsTests m)) (wellChannels m) _
-    ∙ (λ i. wellChannels m && others-decide 3 (tests m) (counts, (line, (codes, tt))) i)
+    ∙ second_first (all (lengths_tests m)) (well_channels m) _
+    ∙ (λ i. well_channels m && others_decide 3 (tests m) (counts, (line, (codes, tt))) i)
 
 pub holds-state-spec : {M : Type 1} → statement M
 holds-state-spec =

@@ -1,61 +1,61 @@
 -- `state::number::reading_numbered` meets its contract.
 use mathlib.Core.Path.{sym, ap}
 use Rattle.state.proofs.Count.{past, passed}
-use Rattle.state.specs.Number.{readingCases, readingNumbered}
+use Rattle.state.specs.Number.{reading_cases, reading_numbered}
 use Rattle.state.proofs.number.reading_numbered.Statement.{statement}
 use Rattle.state.proofs.number.reading_numbered.Tie as tie
 
 returns : tie.Need-returns
-unfolding readingNumbered
-returns c = ap readingNumbered (sym c.match.keys1)
+unfolding reading_numbered
+returns c = ap reading_numbered (sym c.match.keys1)
 
 returns-2 : tie.Need-returns-2
-unfolding readingNumbered
-returns-2 c = ap readingNumbered (sym c.match.keys2)
+unfolding reading_numbered
+returns-2 c = ap reading_numbered (sym c.match.keys2)
 
 returns-3 : tie.Need-returns-3
-unfolding readingNumbered
-returns-3 c = ap readingNumbered (sym c.match.keys3)
+unfolding reading_numbered
+returns-3 c = ap reading_numbered (sym c.match.keys3)
 
 returns-4 : tie.Need-returns-4
-unfolding readingNumbered
-returns-4 c = ap readingNumbered (sym c.match.keys4)
+unfolding reading_numbered
+returns-4 c = ap reading_numbered (sym c.match.keys4)
 
 returns-5 : tie.Need-returns-5
-unfolding readingNumbered
-returns-5 c = ap readingNumbered (sym c.match.keys5)
+unfolding reading_numbered
+returns-5 c = ap reading_numbered (sym c.match.keys5)
 
 returns-6 : tie.Need-returns-6
-unfolding readingNumbered
-returns-6 c = ap readingNumbered (sym c.match.keys6)
+unfolding reading_numbered
+returns-6 c = ap reading_numbered (sym c.match.keys6)
 
 returns-7 : tie.Need-returns-7
-unfolding readingNumbered
-returns-7 c = ap readingNumbered (sym c.match.keys7)
+unfolding reading_numbered
+returns-7 c = ap reading_numbered (sym c.match.keys7)
 
 returns-8 : tie.Need-returns-8
-unfolding readingNumbered
-returns-8 c = ap readingNumbered (sym c.match.keys8)
+unfolding reading_numbered
+returns-8 c = ap reading_numbered (sym c.match.keys8)
 
 returns-9 : tie.Need-returns-9
-unfolding readingNumbered
-returns-9 c = ap readingNumbered (sym c.match.keys9)
+unfolding reading_numbered
+returns-9 c = ap reading_numbered (sym c.match.keys9)
 
 returns-10 : tie.Need-returns-10
-unfolding readingNumbered
-returns-10 c = ap readingNumbered (sym c.match.keys10)
+unfolding reading_numbered
+returns-10 c = ap reading_numbered (sym c.match.keys10)
 
 returns-11 : tie.Need-returns-11
-unfolding readingNumbered
-returns-11 c = ap readingNumbered (sym c.match.keys11)
+unfolding reading_numbered
+returns-11 c = ap reading_numbered (sym c.match.keys11)
 
 returns-12 : tie.Need-returns-12
-unfolding readingNumbered
-returns-12 c = ap readingNumbered (sym c.match.keys12)
+unfolding reading_numbered
+returns-12 c = ap reading_numbered (sym c.match.keys12)
 
 returns-13 : tie.Need-returns-13
-unfolding readingNumbered
-returns-13 c = past readingCases c.before.args.n (passed 12 c.match.rest)
+unfolding reading_numbered
+returns-13 c = past reading_cases c.before.args.n (passed 12 c.match.rest)
 
 pub reading-numbered-spec : {M : Type 1} → statement M
 reading-numbered-spec = tie.close (tie.spec returns returns-2 returns-3 returns-4 returns-5 returns-6 returns-7 returns-8 returns-9 returns-10 returns-11 returns-12 returns-13)

@@ -1,5 +1,5 @@
 -- `state::saving::save_control` meets its contract.
-use Rattle.state.specs.With.{withStanding, withEventWord, withTicks}
+use Rattle.state.specs.With.{with_standing, with_event_word, with_ticks}
 use Rattle.state.proofs.Written.{then}
 use borrow.Author.Rules.{rules}
 use Rattle.state.proofs.saving.save_control.Statement.{statement}
@@ -23,9 +23,9 @@ returns c =
     let m = c.before.before.before.before.before.before.before.before.before.before.before.before.before.args.mem.now in
     let n = c.before.before.before.before.before.before.before.before.before.before.save-standing.new.1.0 in
     let l = c.before.before.before.before.before.before.save-events.new.1.0 in
-    then m l c.before.before.save-ticks.new.1.0 (λ s. withEventWord (withStanding s control) control.events)
-    (λ s. withTicks s control.watchdog.remaining)
-    (then m n l (λ s. withStanding s control) (λ s. withEventWord s control.events)
+    then m l c.before.before.save-ticks.new.1.0 (λ s. with_event_word (with_standing s control) control.events)
+    (λ s. with_ticks s control.watchdog.remaining)
+    (then m n l (λ s. with_standing s control) (λ s. with_event_word s control.events)
     c.before.before.before.before.before.before.before.before.before.before.save-standing.ensures
     c.before.before.before.before.before.before.save-events.ensures)
     c.before.before.save-ticks.ensures

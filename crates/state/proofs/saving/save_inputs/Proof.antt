@@ -2,7 +2,7 @@
 use mathlib.Core.Path.{◌∙◌}
 use mathlib.Core.List.{[], ◌∷◌}
 use lib.ListN.{length-set}
-use Rattle.state.proofs.Written.{wrote, inputs-saved}
+use Rattle.state.proofs.Written.{wrote, inputs_saved}
 use borrow.Author.Rules.{rules}
 use Rattle.state.proofs.saving.save_inputs.Statement.{statement}
 use Rattle.state.proofs.saving.save_inputs.Tie as tie
@@ -17,7 +17,7 @@ same_length : tie.Need-same-length
 same_length c = simp length-set
 
 returns : tie.Need-returns
-returns c = let m = c.before.before.args.mem.now in λ s e. (λ j. wrote m 23 (c.inputs-code.ensures j ∷ [])) ∙ inputs-saved m s e _
+returns c = let m = c.before.before.args.mem.now in λ s e. (λ j. wrote m 23 (c.inputs-code.ensures j ∷ [])) ∙ inputs_saved m s e _
 
 pub save-inputs-spec : {M : Type 1} → statement M
 save-inputs-spec = tie.close (tie.spec inputs-code-requires slice-write-mem same_length returns)

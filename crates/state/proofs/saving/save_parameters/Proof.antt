@@ -3,7 +3,7 @@ use native.Mathlib.Omega.{arith}
 use mathlib.Core.Path.{◌∙◌}
 use mathlib.Core.List.{[], ◌∷◌}
 use lib.ListN.{length-set}
-use Rattle.state.proofs.Written.{in-front, wrote, parameters-saved}
+use Rattle.state.proofs.Written.{in_front, wrote, parameters_saved}
 use borrow.Author.Rules.{rules}
 use Rattle.state.proofs.saving.save_parameters.Statement.{statement}
 use Rattle.state.proofs.saving.save_parameters.Tie as tie
@@ -15,16 +15,16 @@ slice-write-mem : tie.Need-slice-write-mem
 slice-write-mem c = search rules
 
 slice-write-mem-2 : tie.Need-slice-write-mem-2
-slice-write-mem-2 c = simp length-set (in-front c.before.before.args.mem.now c.before.before.requires 58 (omega arith))
+slice-write-mem-2 c = simp length-set (in_front c.before.before.args.mem.now c.before.before.requires 58 (omega arith))
 
 slice-write-mem-3 : tie.Need-slice-write-mem-3
-slice-write-mem-3 c = simp length-set (in-front c.before.before.args.mem.now c.before.before.requires 59 (omega arith))
+slice-write-mem-3 c = simp length-set (in_front c.before.before.args.mem.now c.before.before.requires 59 (omega arith))
 
 same_length : tie.Need-same-length
 same_length c = simp length-set
 
 returns : tie.Need-returns
-returns c = let m = c.before.before.args.mem.now in let i = c.before.before.args.parameters in λ s e. (λ j. wrote (wrote m 24 (c.number.ensures j ∷ [])) 58 (i.shown ∷ i.waiting ∷ [])) ∙ parameters-saved m s e _
+returns c = let m = c.before.before.args.mem.now in let i = c.before.before.args.parameters in λ s e. (λ j. wrote (wrote m 24 (c.number.ensures j ∷ [])) 58 (i.shown ∷ i.waiting ∷ [])) ∙ parameters_saved m s e _
 
 pub save-parameters-spec : {M : Type 1} → statement M
 save-parameters-spec =

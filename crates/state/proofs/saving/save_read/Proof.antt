@@ -1,7 +1,7 @@
 -- `state::saving::save_read` meets its contract.
 use native.Mathlib.Omega.{arith}
 use lib.ListN.{length-set}
-use Rattle.state.proofs.Written.{in-front, read-saved}
+use Rattle.state.proofs.Written.{in_front, read_saved}
 use borrow.Author.Rules.{rules}
 use Rattle.state.proofs.saving.save_read.Statement.{statement}
 use Rattle.state.proofs.saving.save_read.Tie as tie
@@ -10,13 +10,13 @@ slice-write-mem : tie.Need-slice-write-mem
 slice-write-mem c = search rules
 
 slice-write-mem-2 : tie.Need-slice-write-mem-2
-slice-write-mem-2 c = simp length-set (in-front c.args.mem.now c.requires 39 (omega arith))
+slice-write-mem-2 c = simp length-set (in_front c.args.mem.now c.requires 39 (omega arith))
 
 same_length : tie.Need-same-length
 same_length c = simp length-set
 
 returns : tie.Need-returns
-returns c = λ s e. read-saved c.args.mem.now s e _ _
+returns c = λ s e. read_saved c.args.mem.now s e _ _
 
 pub save-read-spec : {M : Type 1} → statement M
 save-read-spec = tie.close (tie.spec slice-write-mem slice-write-mem-2 same_length returns)

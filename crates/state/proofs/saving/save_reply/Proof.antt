@@ -1,5 +1,5 @@
 -- `state::saving::save_reply` meets its contract.
-use Rattle.state.specs.With.{withSender, withOutline}
+use Rattle.state.specs.With.{with_sender, with_outline}
 use Rattle.state.proofs.Written.{then}
 use borrow.Author.Rules.{rules}
 use Rattle.state.proofs.saving.save_reply.Statement.{statement}
@@ -17,8 +17,8 @@ same_length c = search rules
 returns : tie.Need-returns
 returns c =
     let reply = c.before.before.before.before.before.before.before.before.before.args.reply in
-    then c.before.before.before.before.before.before.before.before.before.args.mem.now c.before.before.before.before.before.before.save-outline.new.1.0 c.before.before.save-sender.new.1.0 (λ s. withOutline s reply)
-    (λ s. withSender s reply.sender)
+    then c.before.before.before.before.before.before.before.before.before.args.mem.now c.before.before.before.before.before.before.save-outline.new.1.0 c.before.before.save-sender.new.1.0 (λ s. with_outline s reply)
+    (λ s. with_sender s reply.sender)
     c.before.before.before.before.before.before.save-outline.ensures
     c.before.before.save-sender.ensures
 

@@ -3,7 +3,7 @@ use native.Mathlib.Omega.{arith}
 use mathlib.Core.Path.{◌∙◌}
 use mathlib.Core.List.{[], ◌∷◌}
 use lib.ListN.{length-set}
-use Rattle.state.proofs.Written.{in-front, wrote, four, standing-saved}
+use Rattle.state.proofs.Written.{in_front, wrote, four, standing_saved}
 use borrow.Author.Rules.{rules}
 use Rattle.state.proofs.saving.save_standing.Statement.{statement}
 use Rattle.state.proofs.saving.save_standing.Tie as tie
@@ -27,49 +27,49 @@ array-read-mem : tie.Need-array-read-mem
 array-read-mem c = search rules
 
 slice-write-mem-2 : tie.Need-slice-write-mem-2
-slice-write-mem-2 c = simp length-set (in-front c.before.before.before.before.before.args.mem.now c.before.before.before.before.before.requires 64 (omega arith))
+slice-write-mem-2 c = simp length-set (in_front c.before.before.before.before.before.args.mem.now c.before.before.before.before.before.requires 64 (omega arith))
 
 array-read-mem-2 : tie.Need-array-read-mem-2
 array-read-mem-2 c = search rules
 
 slice-write-mem-3 : tie.Need-slice-write-mem-3
-slice-write-mem-3 c = simp length-set (in-front c.before.before.before.before.before.args.mem.now c.before.before.before.before.before.requires 65 (omega arith))
+slice-write-mem-3 c = simp length-set (in_front c.before.before.before.before.before.args.mem.now c.before.before.before.before.before.requires 65 (omega arith))
 
 array-read-mem-3 : tie.Need-array-read-mem-3
 array-read-mem-3 c = search rules
 
 slice-write-mem-4 : tie.Need-slice-write-mem-4
-slice-write-mem-4 c = simp length-set (in-front c.before.before.before.before.before.args.mem.now c.before.before.before.before.before.requires 66 (omega arith))
+slice-write-mem-4 c = simp length-set (in_front c.before.before.before.before.before.args.mem.now c.before.before.before.before.before.requires 66 (omega arith))
 
 array-read-mem-4 : tie.Need-array-read-mem-4
 array-read-mem-4 c = search rules
 
 slice-write-mem-5 : tie.Need-slice-write-mem-5
-slice-write-mem-5 c = simp length-set (in-front c.before.before.before.before.before.args.mem.now c.before.before.before.before.before.requires 67 (omega arith))
+slice-write-mem-5 c = simp length-set (in_front c.before.before.before.before.before.args.mem.now c.before.before.before.before.before.requires 67 (omega arith))
 
 slice-write-mem-6 : tie.Need-slice-write-mem-6
-slice-write-mem-6 c = simp length-set (in-front c.before.before.before.before.before.args.mem.now c.before.before.before.before.before.requires 0 (omega arith))
+slice-write-mem-6 c = simp length-set (in_front c.before.before.before.before.before.args.mem.now c.before.before.before.before.before.requires 0 (omega arith))
 
 slice-write-mem-7 : tie.Need-slice-write-mem-7
-slice-write-mem-7 c = simp length-set (in-front c.before.before.before.before.before.args.mem.now c.before.before.before.before.before.requires 1 (omega arith))
+slice-write-mem-7 c = simp length-set (in_front c.before.before.before.before.before.args.mem.now c.before.before.before.before.before.requires 1 (omega arith))
 
 slice-write-mem-8 : tie.Need-slice-write-mem-8
-slice-write-mem-8 c = simp length-set (in-front c.before.before.before.before.before.args.mem.now c.before.before.before.before.before.requires 2 (omega arith))
+slice-write-mem-8 c = simp length-set (in_front c.before.before.before.before.before.args.mem.now c.before.before.before.before.before.requires 2 (omega arith))
 
 slice-write-mem-9 : tie.Need-slice-write-mem-9
-slice-write-mem-9 c = simp length-set (in-front c.before.before.before.before.before.args.mem.now c.before.before.before.before.before.requires 3 (omega arith))
+slice-write-mem-9 c = simp length-set (in_front c.before.before.before.before.before.args.mem.now c.before.before.before.before.before.requires 3 (omega arith))
 
 slice-write-mem-10 : tie.Need-slice-write-mem-10
-slice-write-mem-10 c = simp length-set (in-front c.before.before.before.before.before.args.mem.now c.before.before.before.before.before.requires 26 (omega arith))
+slice-write-mem-10 c = simp length-set (in_front c.before.before.before.before.before.args.mem.now c.before.before.before.before.before.requires 26 (omega arith))
 
 slice-write-mem-11 : tie.Need-slice-write-mem-11
-slice-write-mem-11 c = simp length-set (in-front c.before.before.before.before.before.args.mem.now c.before.before.before.before.before.requires 27 (omega arith))
+slice-write-mem-11 c = simp length-set (in_front c.before.before.before.before.before.args.mem.now c.before.before.before.before.before.requires 27 (omega arith))
 
 slice-write-mem-12 : tie.Need-slice-write-mem-12
-slice-write-mem-12 c = simp length-set (in-front c.before.before.before.before.before.args.mem.now c.before.before.before.before.before.requires 56 (omega arith))
+slice-write-mem-12 c = simp length-set (in_front c.before.before.before.before.before.args.mem.now c.before.before.before.before.before.requires 56 (omega arith))
 
 slice-write-mem-13 : tie.Need-slice-write-mem-13
-slice-write-mem-13 c = simp length-set (in-front c.before.before.before.before.before.args.mem.now c.before.before.before.before.before.requires 57 (omega arith))
+slice-write-mem-13 c = simp length-set (in_front c.before.before.before.before.before.args.mem.now c.before.before.before.before.before.requires 57 (omega arith))
 
 same_length : tie.Need-same-length
 same_length c = simp length-set
@@ -91,7 +91,7 @@ returns c =
     0 (x.owner ∷ x.group ∷ x.stored ∷ flagged.flags.ensures j ∷ []))
     26 (x.diagnosis.delayed_flags ∷ moded.modes.ensures j ∷ []))
     56 (x.diagnosis.count ∷ x.diagnosis.delayed_count ∷ []))
-    ∙ standing-saved m s e x
+    ∙ standing_saved m s e x
 
 pub save-standing-spec : {M : Type 1} → statement M
 save-standing-spec =

@@ -1,6 +1,6 @@
 -- `state::start::initial` meets its contract.
 use mathlib.Core.Bool.{false}
-use Rattle.state.specs.Start.{initialState}
+use Rattle.state.specs.Start.{initial_state}
 use borrow.Author.Rules.{rules}
 use Rattle.state.proofs.start.initial.Statement.{statement}
 use Rattle.state.proofs.start.initial.Tie as tie
@@ -27,7 +27,7 @@ no-reply-requires : tie.Need-no-reply-requires
 no-reply-requires c κs = search rules
 
 returns : tie.Need-returns
-unfolding initialState
+unfolding initial_state
 returns c =
     λ i.
     record {
@@ -39,7 +39,7 @@ returns c =
       configuration = c.before.before.no-sets2.ensures i;
       swapped = false;
       incoming = record { reader = c.before.off.ensures i; first = 0; second = 0 };
-      reply = c.no-reply.ensures i;
+      reply = c.no_reply_lem.ensures i;
     }
 
 pub initial-spec : {M : Type 1} → statement M

@@ -1,11 +1,11 @@
 -- `state::start::lengths_ok` meets its contract.
 use mathlib.Core.Path.{refl}
-use Rattle.state.specs.Start.{lengthsOk}
+use Rattle.state.specs.Start.{lengths_ok}
 use Rattle.state.proofs.start.lengths_ok.Statement.{statement}
 use Rattle.state.proofs.start.lengths_ok.Tie as tie
 
 returns : tie.Need-returns
-unfolding lengthsOk
+unfolding lengths_ok
 returns c = refl
 
 pub lengths-ok-spec : {M : Type 1} → statement M

@@ -2,19 +2,19 @@
 use native.Mathlib.Omega.{arith}
 use mathlib.Core.Path.{◌∙◌}
 use Rattle.state.specs.Start.{wiped}
-use Rattle.state.proofs.Places.{get-cfg-inside, end-behind}
+use Rattle.state.proofs.Places.{get_cfg_inside, end_behind}
 use borrow.Author.Rules.{rules}
 use Rattle.state.proofs.start.wipe.Statement.{statement}
 use Rattle.state.proofs.start.wipe.Tie as tie
 
 sub-clear-at : tie.Need-overflow-sub-clear-at
 sub-clear-at c =
-    let h = end-behind c.before.before.before.args.setup in
+    let h = end_behind c.before.before.before.args.setup in
     omega arith
 
 clear-at-requires : tie.Need-clear-at-requires
 clear-at-requires c κs =
-    let h = end-behind c.before.before.before.args.setup in
+    let h = end_behind c.before.before.before.args.setup in
     omega arith
 
 get-cfg-at-requires : tie.Need-get-cfg-at-requires
@@ -23,7 +23,7 @@ get-cfg-at-requires c κs = search rules
 copy-at-requires : tie.Need-copy-at-requires
 copy-at-requires c κs =
     let s = c.before.before.before.before.before.before.before.before.args.setup in
-    let h = get-cfg-inside s s.get_cfg_len (omega arith) in
+    let h = get_cfg_inside s s.get_cfg_len (omega arith) in
     let k = c.before.before.before.before.clear_at.auto.1.0 in
     omega arith
 

@@ -1,7 +1,7 @@
 -- `state::well::set_counts` meets its contract.
 use mathlib.Core.Path.{sym, ◌∙◌}
 use borrow.Author.Tests.{eq-eqb, not-true, not-false}
-use Rattle.state.proofs.Tests.{set-counts-out, set-counts-in}
+use Rattle.state.proofs.Tests.{set_counts_out, set_counts_in}
 use borrow.Author.Rules.{rules}
 use Rattle.state.proofs.well.set_counts.Statement.{statement}
 use Rattle.state.proofs.well.set_counts.Tie as tie
@@ -14,7 +14,7 @@ within-requires c κs = search rules
 
 returns-2 : tie.Need-returns-2
 returns-2 c =
-    set-counts-out _ _ c.before.before.before.args.waiting _ c.before.before.if1.false
+    set_counts_out _ _ c.before.before.before.args.waiting _ c.before.before.if1.false
     (sym c.before.within.ensures ∙ not-true _ c.if2.true)
 
 none-or-requires : tie.Need-none-or-requires
@@ -23,7 +23,7 @@ none-or-requires c κs = search rules
 returns-3 : tie.Need-returns-3
 returns-3 c =
     c.none_or.ensures
-    ∙ set-counts-in _ _ c.before.before.before.before.args.waiting _ c.before.before.before.if1.false
+    ∙ set_counts_in _ _ c.before.before.before.before.args.waiting _ c.before.before.before.if1.false
     (sym c.before.before.within.ensures ∙ not-false _ c.before.if2.false)
 
 pub set-counts-spec : {M : Type 1} → statement M

@@ -6,16 +6,16 @@ use mathlib.Core.List.{List, ◌∷◌}
 use lib.Dec.{leb}
 use lib.ListN.{get_or}
 use borrow.Author.Tests.{not-true}
-use Rattle.state.specs.Unpack.{setupIn}
-use Rattle.state.specs.Well.{rangeTests}
-use Rattle.state.proofs.Tests.{all-fails, others-decide}
+use Rattle.state.specs.Unpack.{setup_in}
+use Rattle.state.specs.Well.{range_tests}
+use Rattle.state.proofs.Tests.{all_fails, others_decide}
 use borrow.Author.Rules.{rules}
 use Rattle.state.proofs.well.well_lengths.Statement.{statement}
 use Rattle.state.proofs.well.well_lengths.Tie as tie
 
 -- the tests, the two of the chain in one
 abbrev tests : List ℕ → List Bool
-tests m = (leb (get_or m 54 0) 17 && leb (get_or m 55 0) 127) ∷ rangeTests (setupIn m 0)
+tests m = (leb (get_or m 54 0) 17 && leb (get_or m 55 0) 127) ∷ range_tests (setup_in m 0)
 
 shared-slice-read-if1 : tie.Need-shared-slice-read-if1
 shared-slice-read-if1 c = search rules
@@ -24,7 +24,7 @@ shared-slice-read-if1-2 : tie.Need-shared-slice-read-if1-2
 shared-slice-read-if1-2 c = search rules
 
 returns : tie.Need-returns
-returns c = all-fails (tests c.before.before.before.before.args.mem.now) 0 (not-true _ c.if1.true)
+returns c = all_fails (tests c.before.before.before.before.args.mem.now) 0 (not-true _ c.if1.true)
 
 shared-slice-read-if2 : tie.Need-shared-slice-read-if2
 shared-slice-read-if2 c = search rules
@@ -32,7 +32,7 @@ shared-slice-read-if2 c = search rules
 returns-2 : tie.Need-returns-2
 returns-2 c =
     let s₁ = c.before.before in
-    all-fails (tests s₁.before.before.before.before.args.mem.now) 1 (not-true _ c.if2.true)
+    all_fails (tests s₁.before.before.before.before.args.mem.now) 1 (not-true _ c.if2.true)
 
 shared-slice-read-if3 : tie.Need-shared-slice-read-if3
 shared-slice-read-if3 c = search rules
@@ -40,7 +40,7 @@ shared-slice-read-if3 c = search rules
 returns-3 : tie.Need-returns-3
 returns-3 c =
     let s₁ = c.before.before.before.before in
-    all-fails (tests s₁.before.before.before.before.args.mem.now) 2 (not-true _ c.if3.true)
+    all_fails (tests s₁.before.before.before.before.args.mem.now) 2 (not-true _ c.if3.true)
 
 shared-slice-read-within : tie.Need-shared-slice-read-within
 shared-slice-read-within c = search rules
@@ -51,7 +51,7 @@ within-requires c κs = search rules
 returns-4 : tie.Need-returns-4
 returns-4 c =
     let s₁ = c.before.before.before.before.before.before.before in
-    all-fails (tests s₁.before.before.before.before.args.mem.now) 3 (sym c.before.within.ensures ∙ not-true _ c.if4.true)
+    all_fails (tests s₁.before.before.before.before.args.mem.now) 3 (sym c.before.within.ensures ∙ not-true _ c.if4.true)
 
 shared-slice-read-within-2 : tie.Need-shared-slice-read-within-2
 shared-slice-read-within-2 c = search rules
@@ -62,7 +62,7 @@ within-requires-2 c κs = search rules
 returns-5 : tie.Need-returns-5
 returns-5 c =
     let s₁ = c.before.before.before.before.before.before.before.before.before.before in
-    all-fails (tests s₁.before.before.before.before.args.mem.now) 4 (sym c.before.within2.ensures ∙ not-true _ c.if5.true)
+    all_fails (tests s₁.before.before.before.before.args.mem.now) 4 (sym c.before.within2.ensures ∙ not-true _ c.if5.true)
 
 shared-slice-read-within-3 : tie.Need-shared-slice-read-within-3
 shared-slice-read-within-3 c = search rules
@@ -73,7 +73,7 @@ within-requires-3 c κs = search rules
 returns-6 : tie.Need-returns-6
 returns-6 c =
     let s₁ = c.before.before.before.before.before.before.before.before.before.before.before.before.before in
-    all-fails (tests s₁.before.before.before.before.args.mem.now) 5 (sym c.before.within3.ensures ∙ not-true _ c.if6.true)
+    all_fails (tests s₁.before.before.before.before.args.mem.now) 5 (sym c.before.within3.ensures ∙ not-true _ c.if6.true)
 
 shared-slice-read-within-4 : tie.Need-shared-slice-read-within-4
 shared-slice-read-within-4 c = search rules
@@ -93,7 +93,7 @@ returns-7 c =
     let p₅ = ap not (sym s₅.before.within2.ensures) ∙ s₅.if5.false in
     let p₆ = ap not (sym s₆.before.within3.ensures) ∙ s₆.if6.false in
     c.within4.ensures
-    ∙ others-decide 6 (tests s₁.before.before.before.before.args.mem.now)
+    ∙ others_decide 6 (tests s₁.before.before.before.before.args.mem.now)
     (s₁.if1.false, (s₂.if2.false, (s₃.if3.false, (p₄, (p₅, (p₆, tt))))))
 
 pub well-lengths-spec : {M : Type 1} → statement M

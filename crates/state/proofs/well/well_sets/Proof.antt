@@ -2,8 +2,8 @@
 use mathlib.Core.Path.{sym, ap, ◌∙◌}
 use mathlib.Core.Bool.{not}
 use borrow.Author.Tests.{not-true}
-use Rattle.state.specs.Well.{setTests}
-use Rattle.state.proofs.Tests.{all-fails, others-decide}
+use Rattle.state.specs.Well.{set_tests}
+use Rattle.state.proofs.Tests.{all_fails, others_decide}
 use borrow.Author.Rules.{rules}
 use Rattle.state.proofs.well.well_sets.Statement.{statement}
 use Rattle.state.proofs.well.well_sets.Tie as tie
@@ -18,7 +18,7 @@ none-or-requires : tie.Need-none-or-requires
 none-or-requires c κs = search rules
 
 returns : tie.Need-returns
-returns c = all-fails (setTests c.before.before.before.before.before.args.mem.now) 0 (sym c.before.none_or.ensures ∙ not-true _ c.if1.true)
+returns c = all_fails (set_tests c.before.before.before.before.before.args.mem.now) 0 (sym c.before.none_or.ensures ∙ not-true _ c.if1.true)
 
 shared-slice-read-set-counts : tie.Need-shared-slice-read-set-counts
 shared-slice-read-set-counts c = search rules
@@ -33,7 +33,7 @@ set-counts-requires : tie.Need-set-counts-requires
 set-counts-requires c κs = search rules
 
 returns-2 : tie.Need-returns-2
-returns-2 c = all-fails (setTests c.before.before.before.before.before.before.before.before.before.before.args.mem.now) 1 (sym c.before.set-counts.ensures ∙ not-true _ c.if2.true)
+returns-2 c = all_fails (set_tests c.before.before.before.before.before.before.before.before.before.before.args.mem.now) 1 (sym c.before.set-counts.ensures ∙ not-true _ c.if2.true)
 
 shared-slice-read-set-counts-4 : tie.Need-shared-slice-read-set-counts-4
 shared-slice-read-set-counts-4 c = search rules
@@ -48,7 +48,7 @@ set-counts-requires-2 : tie.Need-set-counts-requires-2
 set-counts-requires-2 c κs = search rules
 
 returns-3 : tie.Need-returns-3
-returns-3 c = all-fails (setTests c.before.before.before.before.before.before.before.before.before.before.before.before.before.before.before.args.mem.now) 2 (sym c.before.set-counts2.ensures ∙ not-true _ c.if3.true)
+returns-3 c = all_fails (set_tests c.before.before.before.before.before.before.before.before.before.before.before.before.before.before.before.args.mem.now) 2 (sym c.before.set-counts2.ensures ∙ not-true _ c.if3.true)
 
 shared-slice-read-result : tie.Need-shared-slice-read-result
 shared-slice-read-result c = search rules
@@ -64,7 +64,7 @@ returns-4 c =
     let p₁ = ap not (sym s₁.before.none_or.ensures) ∙ s₁.if1.false in
     let p₂ = ap not (sym s₂.before.set-counts.ensures) ∙ s₂.if2.false in
     let p₃ = ap not (sym s₃.before.set-counts2.ensures) ∙ s₃.if3.false in
-    others-decide 3 (setTests s₁.before.before.before.before.before.args.mem.now) (p₁, (p₂, (p₃, tt)))
+    others_decide 3 (set_tests s₁.before.before.before.before.before.args.mem.now) (p₁, (p₂, (p₃, tt)))
 
 pub well-sets-spec : {M : Type 1} → statement M
 well-sets-spec =

@@ -1,6 +1,6 @@
 -- `station::bus::elapse` meets its contract.
 use Rattle.std.proofs.Common.{refl, rules}
-use Rattle.station.proofs.Ticking.{tick-drops, tick-carries, tick-rests, tick-counts}
+use Rattle.station.proofs.Ticking.{tick_drops, tick_carries, tick_rests, tick_counts}
 use Rattle.station.proofs.bus.elapse.Statement.{statement}
 use Rattle.station.proofs.bus.elapse.Tie as tie
 
@@ -13,7 +13,7 @@ same_length c = search rules
 returns : tie.Need-returns
 returns c =
     let a = c.before.before.before.before.before.before.args in
-    rw (tick-drops a.s a.mem.now _ refl c.before.before.before.before.if1.true) c.before.before.silence.ensures
+    rw (tick_drops a.s a.mem.now _ refl c.before.before.before.before.if1.true) c.before.before.silence.ensures
 
 counts-requires : tie.Need-counts-requires
 counts-requires c κs = search rules
@@ -21,7 +21,7 @@ counts-requires c κs = search rules
 returns-2 : tie.Need-returns-2
 returns-2 c =
     let a = c.before.before.before.before.args in
-    rw (tick-rests a.s a.mem.now _ refl c.before.before.if1.false _ c.before.counts.ensures c.if2.true)
+    rw (tick_rests a.s a.mem.now _ refl c.before.before.if1.false _ c.before.counts.ensures c.if2.true)
     (record { states = refl; leaves = refl })
 
 sub-less : tie.Need-overflow-sub-less
@@ -31,7 +31,7 @@ returns-3 : tie.Need-returns-3
 returns-3 c =
     let d = c.before.before in
     let a = d.before.before.before.before.args in
-    rw (tick-counts a.s a.mem.now _ refl d.before.before.if1.false _ d.before.counts.ensures d.if2.false c.before.if3.true)
+    rw (tick_counts a.s a.mem.now _ refl d.before.before.if1.false _ d.before.counts.ensures d.if2.false c.before.if3.true)
     (record { states = refl; leaves = refl })
 
 busy-requires : tie.Need-busy-requires
@@ -49,7 +49,7 @@ same-length-2 c = search rules
 returns-4 : tie.Need-returns-4
 returns-4 c =
     let a = c.before.before.before.before.before.before.before.before.before.before.before.args in
-    rw (tick-carries a.s a.mem.now _ refl c.before.before.before.before.before.before.before.before.before.if1.false _ _ c.before.before.before.before.busy.ensures c.before.before.before.ticked.ensures)
+    rw (tick_carries a.s a.mem.now _ refl c.before.before.before.before.before.before.before.before.before.if1.false _ _ c.before.before.before.before.busy.ensures c.before.before.before.ticked.ensures)
     c.before.before.carry-out.ensures
 
 pub elapse-spec : {M : Type 1} → statement M

@@ -1,6 +1,6 @@
 -- `station::bus::gap` meets its contract.
-use Rattle.outcomes.proofs.Settled.{holds-front, settled-front}
-use Rattle.station.proofs.SentOverMemory.{paused-fronts}
+use Rattle.outcomes.proofs.Settled.{holds_front, settled_front}
+use Rattle.station.proofs.SentOverMemory.{paused_fronts}
 use Rattle.steps.specs.Bus.{paused}
 use Rattle.std.proofs.Common.{rules}
 use Rattle.station.proofs.bus.gap.Statement.{statement}
@@ -20,8 +20,8 @@ save-incoming-requires c κs = search rules
 
 settle-over-requires : tie.Need-settle-over-requires
 settle-over-requires c κs =
-    holds-front
-    (paused-fronts _ _ c.before.before.before.before.before.before.before.before.before.before.requires c.before.before.before.before.before.before.before.incoming.ensures c.before.before.before.before.before.before.start.ensures c.before.before.before.before.before.read-on.ensures c.before.before.before.save-incoming.ensures)
+    holds_front
+    (paused_fronts _ _ c.before.before.before.before.before.before.before.before.before.before.requires c.before.before.before.before.before.before.before.incoming.ensures c.before.before.before.before.before.before.start.ensures c.before.before.before.before.before.read-on.ensures c.before.before.before.save-incoming.ensures)
 
 same_length : tie.Need-same-length
 same_length c = search rules
@@ -29,8 +29,8 @@ same_length c = search rules
 returns : tie.Need-returns
 unfolding paused
 returns c =
-    settled-front
-    (paused-fronts _ _ c.before.before.before.before.before.before.before.before.before.before.before.before.before.requires c.before.before.before.before.before.before.before.before.before.before.incoming.ensures c.before.before.before.before.before.before.before.before.before.start.ensures c.before.before.before.before.before.before.before.before.read-on.ensures c.before.before.before.before.before.before.save-incoming.ensures)
+    settled_front
+    (paused_fronts _ _ c.before.before.before.before.before.before.before.before.before.before.before.before.before.requires c.before.before.before.before.before.before.before.before.before.before.incoming.ensures c.before.before.before.before.before.before.before.before.before.start.ensures c.before.before.before.before.before.before.before.before.read-on.ensures c.before.before.before.before.before.before.save-incoming.ensures)
     c.before.before.settle-over.ensures
 
 pub gap-spec : {M : Type 1} → statement M

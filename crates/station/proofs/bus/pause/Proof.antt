@@ -1,7 +1,7 @@
 -- `station::bus::pause` meets its contract.
 use Rattle.std.proofs.Common.{rules}
 use Rattle.steps.specs.Bus.{paused}
-use Rattle.steps.proofs.KeepsSafe.{safe-read-by}
+use Rattle.steps.proofs.KeepsSafe.{safe_read_by}
 use Rattle.station.proofs.bus.pause.Statement.{statement}
 use Rattle.station.proofs.bus.pause.Tie as tie
 
@@ -12,7 +12,7 @@ read-by-requires : tie.Need-read-by-requires
 read-by-requires c κs = search rules
 
 settle-requires : tie.Need-settle-requires
-settle-requires c κs = rw c.before.read_by_lem.ensures (safe-read-by _ _ _ c.before.before.before.before.requires)
+settle-requires c κs = rw c.before.read_by_lem.ensures (safe_read_by _ _ _ c.before.before.before.before.requires)
 
 same_length : tie.Need-same-length
 same_length c = search rules

@@ -1,7 +1,7 @@
 -- `station::bus::send` meets its contract.
 use borrow.Author.Tests.{not-true, not-false}
-use Rattle.outcomes.proofs.Settled.{holds-front, settled-front}
-use Rattle.station.proofs.SentOverMemory.{nothing_left, sent-fronts, octet-left}
+use Rattle.outcomes.proofs.Settled.{holds_front, settled_front}
+use Rattle.station.proofs.SentOverMemory.{nothing_left, sent_fronts, octet_left}
 use Rattle.std.proofs.Common.{rules}
 use Rattle.station.proofs.bus.send.Statement.{statement}
 use Rattle.station.proofs.bus.send.Tie as tie
@@ -32,8 +32,8 @@ save-sender-requires c κs = search rules
 
 settle-over-requires : tie.Need-settle-over-requires
 settle-over-requires c κs =
-    holds-front
-    (sent-fronts _ _ c.before.before.before.before.before.before.before.before.before.before.before.reply.ensures c.before.before.before.before.before.before.asked-for.ensures c.before.before.before.before.before.send.ensures c.before.before.before.before.before.before.before.before.before.before.before.before.before.before.requires c.before.before.before.save-sender.ensures)
+    holds_front
+    (sent_fronts _ _ c.before.before.before.before.before.before.before.before.before.before.before.reply.ensures c.before.before.before.before.before.before.asked-for.ensures c.before.before.before.before.before.send.ensures c.before.before.before.before.before.before.before.before.before.before.before.before.before.before.requires c.before.before.before.save-sender.ensures)
 
 cast-result : tie.Need-overflow-cast-result
 cast-result c = search rules
@@ -43,9 +43,9 @@ same-length-2 c = search rules
 
 returns-2 : tie.Need-returns-2
 returns-2 c =
-    octet-left _ _ c.before.before.before.before.before.before.before.before.before.before.before.before.before.before.before.reply.ensures c.before.before.before.before.before.before.before.before.before.before.asked-for.ensures c.before.before.before.before.before.before.before.before.before.send.ensures c.before.before.before.before.before.before.before.before.before.before.before.before.before.left.ensures (not-false _ c.before.before.before.before.before.before.before.before.before.before.before.before.if1.false)
-    (settled-front
-    (sent-fronts _ _ c.before.before.before.before.before.before.before.before.before.before.before.before.before.before.before.reply.ensures c.before.before.before.before.before.before.before.before.before.before.asked-for.ensures c.before.before.before.before.before.before.before.before.before.send.ensures c.before.before.before.before.before.before.before.before.before.before.before.before.before.before.before.before.before.before.requires c.before.before.before.before.before.before.before.save-sender.ensures)
+    octet_left _ _ c.before.before.before.before.before.before.before.before.before.before.before.before.before.before.before.reply.ensures c.before.before.before.before.before.before.before.before.before.before.asked-for.ensures c.before.before.before.before.before.before.before.before.before.send.ensures c.before.before.before.before.before.before.before.before.before.before.before.before.before.left.ensures (not-false _ c.before.before.before.before.before.before.before.before.before.before.before.before.if1.false)
+    (settled_front
+    (sent_fronts _ _ c.before.before.before.before.before.before.before.before.before.before.before.before.before.before.before.reply.ensures c.before.before.before.before.before.before.before.before.before.before.asked-for.ensures c.before.before.before.before.before.before.before.before.before.send.ensures c.before.before.before.before.before.before.before.before.before.before.before.before.before.before.before.before.before.before.requires c.before.before.before.before.before.before.before.save-sender.ensures)
     c.before.before.before.settle-over.ensures)
 
 pub send-spec : {M : Type 1} → statement M

@@ -1,5 +1,5 @@
 -- `station::bus::silence` meets its contract.
-use Rattle.steps.proofs.KeepsSafe.{safe-beginning}
+use Rattle.steps.proofs.KeepsSafe.{safe_beginning}
 use Rattle.std.proofs.Common.{rules}
 use Rattle.station.proofs.bus.silence.Statement.{statement}
 use Rattle.station.proofs.bus.silence.Tie as tie
@@ -18,7 +18,7 @@ no-reply-requires c κs = search rules
 
 settle-requires : tie.Need-settle-requires
 settle-requires c κs =
-    rw (c.before.no-reply.ensures, c.before.before.read_by_lem.ensures) (safe-beginning _ _ _ c.before.before.before.before.before.before.requires)
+    rw (c.before.no_reply_lem.ensures, c.before.before.read_by_lem.ensures) (safe_beginning _ _ _ c.before.before.before.before.before.before.requires)
 
 same_length : tie.Need-same-length
 same_length c = search rules
@@ -26,7 +26,7 @@ same_length c = search rules
 returns : tie.Need-returns
 returns c =
     rw (
-      c.before.before.before.before.no-reply.ensures,
+      c.before.before.before.before.no_reply_lem.ensures,
       c.before.before.before.before.before.read_by_lem.ensures,
       c.before.before.before.before.before.before.silenced-reader.ensures,
       c.before.before.before.before.before.before.before.begun.ensures,

@@ -1,6 +1,6 @@
 -- `station::bus::silence_over` meets its contract.
-use Rattle.outcomes.proofs.Settled.{holds-front, settled-front}
-use Rattle.station.proofs.Ticking.{silenced-fronts}
+use Rattle.outcomes.proofs.Settled.{holds_front, settled_front}
+use Rattle.station.proofs.Ticking.{silenced_fronts}
 use Rattle.std.proofs.Common.{rules}
 use Rattle.station.proofs.bus.silence_over.Statement.{statement}
 use Rattle.station.proofs.bus.silence_over.Tie as tie
@@ -25,16 +25,16 @@ drop-reply-requires c κs = search rules
 
 settle-waiting-requires : tie.Need-settle-waiting-requires
 settle-waiting-requires c κs =
-    holds-front
-    (silenced-fronts _ _ c.before.before.before.before.before.before.before.before.before.before.before.before.before.requires c.before.before.before.before.before.before.before.before.before.before.incoming.ensures c.before.before.before.before.before.before.before.before.status.ensures c.before.before.before.before.before.before.before.is-inside.ensures c.before.before.before.before.before.silenced-reader.ensures c.before.before.before.before.read-on.ensures c.before.before.before.drop-reply.ensures)
+    holds_front
+    (silenced_fronts _ _ c.before.before.before.before.before.before.before.before.before.before.before.before.before.requires c.before.before.before.before.before.before.before.before.before.before.incoming.ensures c.before.before.before.before.before.before.before.before.status.ensures c.before.before.before.before.before.before.before.is_inside_lem.ensures c.before.before.before.before.before.silenced-reader.ensures c.before.before.before.before.read-on.ensures c.before.before.before.drop-reply.ensures)
 
 same_length : tie.Need-same-length
 same_length c = search rules
 
 returns : tie.Need-returns
 returns c =
-    settled-front
-    (silenced-fronts _ _ c.before.before.before.before.before.before.before.before.before.before.before.before.before.before.before.before.requires c.before.before.before.before.before.before.before.before.before.before.before.before.before.incoming.ensures c.before.before.before.before.before.before.before.before.before.before.before.status.ensures c.before.before.before.before.before.before.before.before.before.before.is-inside.ensures c.before.before.before.before.before.before.before.before.silenced-reader.ensures c.before.before.before.before.before.before.before.read-on.ensures c.before.before.before.before.before.before.drop-reply.ensures)
+    settled_front
+    (silenced_fronts _ _ c.before.before.before.before.before.before.before.before.before.before.before.before.before.before.before.before.requires c.before.before.before.before.before.before.before.before.before.before.before.before.before.incoming.ensures c.before.before.before.before.before.before.before.before.before.before.before.status.ensures c.before.before.before.before.before.before.before.before.before.before.is_inside_lem.ensures c.before.before.before.before.before.before.before.before.silenced-reader.ensures c.before.before.before.before.before.before.before.read-on.ensures c.before.before.before.before.before.before.drop-reply.ensures)
     c.before.before.settle-waiting.ensures
 
 pub silence-over-spec : {M : Type 1} → statement M

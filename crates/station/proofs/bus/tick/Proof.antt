@@ -1,6 +1,6 @@
 -- `station::bus::tick` meets its contract.
-use Rattle.state.proofs.Damage.{fronted-same}
-use Rattle.station.proofs.Ticking.{tick-rests, tick-counts}
+use Rattle.state.proofs.Damage.{fronted_same}
+use Rattle.station.proofs.Ticking.{tick_rests, tick_counts}
 use Rattle.state.specs.Unpack.{unpacked}
 use Rattle.std.proofs.Common.{rules}
 use Rattle.station.proofs.bus.tick.Statement.{statement}
@@ -27,8 +27,8 @@ same-length-2 c = search rules
 returns-2 : tie.Need-returns-2
 returns-2 c =
     let m = c.before.before.before.before.before.before.args.mem.now in
-    rw (tick-rests (unpacked m) m _ c.before.before.before.control.ensures c.before.before.if1.false _ c.before.counts.ensures c.if2.true)
-    (fronted-same _ _ c.before.before.before.before.before.before.requires)
+    rw (tick_rests (unpacked m) m _ c.before.before.before.control.ensures c.before.before.if1.false _ c.before.counts.ensures c.if2.true)
+    (fronted_same _ _ c.before.before.before.before.before.before.requires)
 
 sub-save-ticks : tie.Need-overflow-sub-save-ticks
 sub-save-ticks c = search rules
@@ -43,9 +43,9 @@ returns-3 : tie.Need-returns-3
 returns-3 c =
     let d = c.before.before.before.before.before in
     let m = d.before.before.before.before.before.before.args.mem.now in
-    rw (tick-counts (unpacked m) m _ d.before.before.before.control.ensures d.before.before.if1.false _ d.before.counts.ensures d.if2.false
+    rw (tick_counts (unpacked m) m _ d.before.before.before.control.ensures d.before.before.if1.false _ d.before.counts.ensures d.if2.false
     c.before.before.before.before.if3.true)
-    (c.before.before.save-ticks.ensures _ (fronted-same _ _ d.before.before.before.before.before.before.requires))
+    (c.before.before.save-ticks.ensures _ (fronted_same _ _ d.before.before.before.before.before.before.requires))
 
 tick-whole-requires-2 : tie.Need-tick-whole-requires-2
 tick-whole-requires-2 c κs = search rules

@@ -1,5 +1,5 @@
 -- `station::bus::tick_whole` meets its contract.
-use Rattle.station.proofs.Ticking.{tick-drops, tick-carries-over}
+use Rattle.station.proofs.Ticking.{tick_drops, tick_carries_over}
 use Rattle.state.specs.Unpack.{unpacked}
 use Rattle.std.proofs.Common.{rules}
 use Rattle.station.proofs.bus.tick_whole.Statement.{statement}
@@ -18,7 +18,7 @@ returns : tie.Need-returns
 returns c =
     let d = c.before.before.before.before in
     let m = d.before.before.before.before.args.mem.now in
-    rw (tick-drops (unpacked m) m _ d.before.control.ensures d.if1.true) c.before.before.silence-over.ensures
+    rw (tick_drops (unpacked m) m _ d.before.control.ensures d.if1.true) c.before.before.silence-over.ensures
 
 busy-in-requires : tie.Need-busy-in-requires
 busy-in-requires c κs = search rules
@@ -36,7 +36,7 @@ returns-2 : tie.Need-returns-2
 returns-2 c =
     let d = c.before.before.before.before.before.before.before in
     let m = d.before.before.before.before.args.mem.now in
-    rw (tick-carries-over (unpacked m) m _ d.before.control.ensures d.if1.false _ _ c.before.before.before.before.busy-in.ensures
+    rw (tick_carries_over (unpacked m) m _ d.before.control.ensures d.if1.false _ _ c.before.before.before.before.busy-in.ensures
     c.before.before.before.ticked.ensures)
     c.before.before.carry_over.ensures
 

@@ -22,7 +22,7 @@ same-length-2 c = search rules
 returns-2 : tie.Need-returns-2
 returns-2 c =
     let d = c.before.before.before.before in
-    passed _ _ _ d.before.is-well.ensures d.if1.false c.before.before.hand-over.ensures
+    passed _ _ _ d.before.is-well.ensures d.if1.false c.before.before.hand_over_lem.ensures
 
 pub hand-over-spec : {M : Type 1} → statement M
 hand-over-spec = tie.close (tie.spec is-well-requires same_length returns hand-over-requires same-length-2 returns-2)

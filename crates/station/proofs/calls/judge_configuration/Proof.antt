@@ -22,7 +22,7 @@ same-length-2 c = search rules
 returns-2 : tie.Need-returns-2
 returns-2 c =
     let d = c.before.before.before.before in
-    passed _ _ _ d.before.is-well.ensures d.if1.false c.before.before.judge-configuration.ensures
+    passed _ _ _ d.before.is-well.ensures d.if1.false c.before.before.judge_configuration_lem.ensures
 
 pub judge-configuration-spec : {M : Type 1} → statement M
 judge-configuration-spec = tie.close (tie.spec is-well-requires same_length returns judge-configuration-requires same-length-2 returns-2)

@@ -22,7 +22,7 @@ same-length-2 c = search rules
 returns-2 : tie.Need-returns-2
 returns-2 c =
     let d = c.before.before.before.before in
-    passed _ _ _ d.before.is-well.ensures d.if1.false c.before.before.judge-parameters.ensures
+    passed _ _ _ d.before.is-well.ensures d.if1.false c.before.before.judge_parameters_lem.ensures
 
 pub judge-parameters-spec : {M : Type 1} → statement M
 judge-parameters-spec = tie.close (tie.spec is-well-requires same_length returns judge-parameters-requires same-length-2 returns-2)

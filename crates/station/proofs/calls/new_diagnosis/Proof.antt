@@ -22,7 +22,7 @@ same-length-2 c = search rules
 returns-2 : tie.Need-returns-2
 returns-2 c =
     let d = c.before.before.before.before in
-    passed _ _ _ d.before.is-well.ensures d.if1.false c.before.before.new-diagnosis.ensures
+    passed _ _ _ d.before.is-well.ensures d.if1.false c.before.before.new_diagnosis_lem.ensures
 
 pub new-diagnosis-spec : {M : Type 1} → statement M
 new-diagnosis-spec = tie.close (tie.spec is-well-requires same_length returns new-diagnosis-requires same-length-2 returns-2)

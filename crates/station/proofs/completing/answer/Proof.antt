@@ -1,7 +1,7 @@
 -- `station::completing::answer` meets its contract.
 use Rattle.std.proofs.Common.{arith, rules}
 use Rattle.state.specs.Unpack.{unpacked}
-use Rattle.station.proofs.CompletedOverMemory.{answered-over}
+use Rattle.station.proofs.CompletedOverMemory.{answered_over}
 use Rattle.station.proofs.completing.answer.Statement.{statement}
 use Rattle.station.proofs.completing.answer.Tie as tie
 
@@ -65,14 +65,14 @@ returns c =
     let drawn = carried.before.before in
     let start = drawn.before.before.before.before.before.before.before.before.before in
     let m = start.args.mem.now in
-    answered-over m (unpacked m) start.args.i start.args.r _ _ _ _ _
+    answered_over m (unpacked m) start.args.i start.args.r _ _ _ _ _
     drawn.before.before.before.before.before.before.setup.ensures
     drawn.before.before.before.before.outputs.ensures
     drawn.before.before.held.ensures
     drawn.before.master-of.ensures
     start.requires.1
     start.args.o _
-    drawn.before.before.before.on-outputs.ensures
+    drawn.before.before.before.on_outputs_lem.ensures
     drawn.draw.ensures
     carried.carry_over.new.0
     incoming.save-incoming.new.1.0

@@ -1,12 +1,12 @@
 -- `station::completing::apply` meets its contract.
 use Rattle.std.proofs.Common.{sym, ap, ◌∙◌, rules}
 use Rattle.state.specs.Unpack.{unpacked}
-use Rattle.state.specs.With.{withIncoming}
+use Rattle.state.specs.With.{with_incoming}
 use Rattle.rules.specs.declared.outcome.Outcome.{Outcome}
-use Rattle.steps.specs.Stepped.{packedAfter}
+use Rattle.steps.specs.Stepped.{packed_after}
 use Rattle.steps.specs.Reading.{answered}
-use Rattle.station.specs.Completing.{answeredBy}
-use Rattle.station.proofs.CompletedOverMemory.{others-once}
+use Rattle.station.specs.Completing.{answered_by}
+use Rattle.station.proofs.CompletedOverMemory.{others_once}
 use Rattle.station.proofs.completing.apply.Statement.{statement}
 use Rattle.station.proofs.completing.apply.Tie as tie
 
@@ -55,9 +55,9 @@ returns-3 c =
     let i = start.args.i in
     let r = start.args.r in
     c.before.before.answer.ensures
-    ∙ ap (answeredBy m i r) c.before.before.before.served-in.ensures
-    ∙ ap (λ (o : Outcome). packedAfter (answered (withIncoming (unpacked m) i) m o r))
-    (sym (others-once (unpacked m) m r start.requires.3 (sym tested.before.is-good-exchange.ensures ∙ tested.if1.false)))
+    ∙ ap (answered_by m i r) c.before.before.before.served-in.ensures
+    ∙ ap (λ (o : Outcome). packed_after (answered (with_incoming (unpacked m) i) m o r))
+    (sym (others_once (unpacked m) m r start.requires.3 (sym tested.before.is-good-exchange.ensures ∙ tested.if1.false)))
 
 pub apply-spec : {M : Type 1} → statement M
 apply-spec =

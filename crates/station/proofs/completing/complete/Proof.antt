@@ -6,13 +6,13 @@ use Rattle.state.specs.declared.setup.Setup.{Setup}
 use Rattle.rules.specs.declared.request.Request.{Request}
 use Rattle.rules.specs.Requests.{acts}
 use Rattle.rules.specs.Retries.{repeats}
-use Rattle.station.proofs.CompletedOverMemory.{acting-service}
+use Rattle.station.proofs.CompletedOverMemory.{acting_service}
 use Rattle.station.proofs.completing.complete.Statement.{statement}
 use Rattle.station.proofs.completing.complete.Tie as tie
 
 -- what the code looked at by the setup that it read
-looked-at : {read setup : Setup} {b : Bool} (r : Request) → read ≡ setup → b ≡ acts read r → acts setup r ≡ b
-looked-at r e f = ap (λ (g : Setup). acts g r) (sym e) ∙ sym f
+looked_at : {read setup : Setup} {b : Bool} (r : Request) → read ≡ setup → b ≡ acts read r → acts setup r ≡ b
+looked_at r e f = ap (λ (g : Setup). acts g r) (sym e) ∙ sym f
 
 -- and by the chain
 compared : {read chain : Chain} {b : Bool} (r : Request) → read ≡ chain → b ≡ repeats read r → repeats chain r ≡ b
@@ -30,7 +30,7 @@ acts-requires c κs = search rules
 pass-by-requires : tie.Need-pass-by-requires
 pass-by-requires c κs =
     let request = c.before.before.before.before.before in
-    (request.before.before.before.requires, looked-at request.request-by.result c.before.before.before.setup.ensures c.before.before.acts.ensures ∙ not-true _ c.before.if1.true)
+    (request.before.before.before.requires, looked_at request.request-by.result c.before.before.before.setup.ensures c.before.before.acts.ensures ∙ not-true _ c.before.if1.true)
 
 same_length : tie.Need-same-length
 same_length c = search rules
@@ -49,7 +49,7 @@ repeat-requires c κs =
     let tested = c.before.before in
     let acted = tested.before.before.before.before in
     let request = acted.before.before.before in
-    let acting = looked-at request.request-by.result acted.before.setup.ensures acted.acts.ensures ∙ not-false _ tested.before.before.before.if1.false in
+    let acting = looked_at request.request-by.result acted.before.setup.ensures acted.acts.ensures ∙ not-false _ tested.before.before.before.if1.false in
     let again = compared request.request-by.result tested.before.chain.ensures tested.repeats.ensures ∙ c.before.if2.true in
     (request.before.before.before.requires, λ j. acting j && again j)
 
@@ -67,9 +67,9 @@ apply-requires c κs =
     let tested = c.before.before.before in
     let acted = tested.before.before.before.before in
     let request = acted.before.before.before in
-    let acting = looked-at request.request-by.result acted.before.setup.ensures acted.acts.ensures ∙ not-false _ tested.before.before.before.if1.false in
+    let acting = looked_at request.request-by.result acted.before.setup.ensures acted.acts.ensures ∙ not-false _ tested.before.before.before.if1.false in
     let once = compared request.request-by.result tested.before.chain.ensures tested.repeats.ensures ∙ c.before.before.if2.false in
-    (request.before.before.before.requires, c.function-service.ensures ∙ acting-service _ _ acting, acting, λ j. acting j && once j)
+    (request.before.before.before.requires, c.function-service.ensures ∙ acting_service _ _ acting, acting, λ j. acting j && once j)
 
 same-length-3 : tie.Need-same-length-3
 same-length-3 c = search rules

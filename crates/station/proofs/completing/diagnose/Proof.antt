@@ -1,8 +1,8 @@
 -- `station::completing::diagnose` meets its contract.
 use Rattle.std.proofs.Common.{refl, arith, rules}
 use Rattle.state.specs.Unpack.{unpacked}
-use Rattle.state.proofs.Damage.{fronted-same}
-use Rattle.station.proofs.CompletedOverMemory.{diagnosed-over}
+use Rattle.state.proofs.Damage.{fronted_same}
+use Rattle.station.proofs.CompletedOverMemory.{diagnosed_over}
 use Rattle.station.proofs.completing.diagnose.Statement.{statement}
 use Rattle.station.proofs.completing.diagnose.Tie as tie
 
@@ -75,12 +75,12 @@ returns c =
     let drawn = incoming.before.before in
     let start = drawn.before.before.before.before.before.before.before.before.before.before.before.before in
     let m = start.args.mem.now in
-    diagnosed-over m (unpacked m) start.args.i start.args.r _ _ _ _ _
+    diagnosed_over m (unpacked m) start.args.i start.args.r _ _ _ _ _
     drawn.before.before.before.before.before.before.before.before.before.setup.ensures
     drawn.before.before.before.outputs.ensures
     drawn.before.before.held.ensures
     drawn.before.master-of.ensures
-    (fronted-same m (unpacked m) start.requires.0)
+    (fronted_same m (unpacked m) start.requires.0)
     start.requires.1
     start.requires.2 _ _ _ _ _
     drawn.before.before.before.before.before.before.before.control.ensures

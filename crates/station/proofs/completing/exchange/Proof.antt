@@ -1,8 +1,8 @@
 -- `station::completing::exchange` meets its contract.
 use Rattle.std.proofs.Common.{refl, arith, rules}
 use Rattle.state.specs.Unpack.{unpacked}
-use Rattle.state.proofs.Damage.{fronted-same}
-use Rattle.station.proofs.CompletedOverMemory.{exchanged-over}
+use Rattle.state.proofs.Damage.{fronted_same}
+use Rattle.station.proofs.CompletedOverMemory.{exchanged_over}
 use Rattle.station.proofs.completing.exchange.Statement.{statement}
 use Rattle.station.proofs.completing.exchange.Tie as tie
 
@@ -117,21 +117,21 @@ returns c =
     let refilled = published.before.before.before.before in
     let start = refilled.before.before.before.before.before.before in
     let m = start.args.mem.now in
-    exchanged-over m (unpacked m) start.args.i start.args.r _ _ _ _ _
+    exchanged_over m (unpacked m) start.args.i start.args.r _ _ _ _ _
     refilled.before.before.before.setup.ensures
     published.before.outputs.ensures
     taken.held.ensures
     refl
-    (fronted-same m (unpacked m) start.requires.0)
+    (fronted_same m (unpacked m) start.requires.0)
     start.requires.1
     start.requires.2 _ _ _ _ _ _ _ _
     refilled.before.control.ensures
     refilled.refilled.ensures
     published.before.before.before.exchange-outputs.ensures
-    published.on-outputs.ensures
+    published.on_outputs_lem.ensures
     brought.before.before.before.exchange-inputs.ensures
     brought.before.inputs.ensures
-    brought.on-inputs.ensures
+    brought.on_inputs_lem.ensures
     events.before.before.announced.ensures
     taken.before.header_of.ensures
     incoming.save-incoming.new.1.0

@@ -20,7 +20,7 @@ returns c =
     rw (
       c.before.before.exchanges.ensures,
       c.before.before.before.control.ensures,
-      c.before.before.before.before.is-data-exchange.ensures,
+      c.before.before.before.before.is_data_exchange_lem.ensures,
       c.before.before.before.before.before.before.before.requires.1,
       c.before.before.before.before.before.setup.ensures,
     )

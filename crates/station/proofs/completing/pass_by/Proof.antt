@@ -4,8 +4,8 @@ use Rattle.buffers.specs.Roles.{held_of}
 use Rattle.state.specs.declared.state.Drawn.TheVariants.{Nothing}
 use Rattle.state.specs.declared.state.Outputs.{Outputs}
 use Rattle.state.specs.Unpack.{unpacked}
-use Rattle.rules.specs.Diagnosis.{headerOf}
-use Rattle.station.proofs.PassedBy.{passed-by}
+use Rattle.rules.specs.Diagnosis.{header_of}
+use Rattle.station.proofs.PassedBy.{passed_by}
 use Rattle.station.proofs.completing.pass_by.Statement.{statement}
 use Rattle.station.proofs.completing.pass_by.Tie as tie
 
@@ -38,13 +38,13 @@ returns c =
     let m = c.before.before.before.before.before.before.before.before.before.before.before.before.before.before.before.before.args.mem.now in
     let s = unpacked m in
     let outputs = c.before.before.before.before.before.before.before.before.before.before.before.outputs.ensures in
-    passed-by s m c.before.before.before.before.before.before.before.before.before.before.before.before.before.before.before.before.args.r c.before.before.before.before.before.before.before.before.before.before.before.before.before.before.before.before.requires.1 c.before.before.before.before.before.before.before.before.before.before.before.before.before.before.before.before.requires.0 _ _ c.before.before.before.before.before.before.save-incoming.new.1.0 c.before.before.save-reply.new.1.0
+    passed_by s m c.before.before.before.before.before.before.before.before.before.before.before.before.before.before.before.before.args.r c.before.before.before.before.before.before.before.before.before.before.before.before.before.before.before.before.requires.1 c.before.before.before.before.before.before.before.before.before.before.before.before.before.before.before.before.requires.0 _ _ c.before.before.before.before.before.before.save-incoming.new.1.0 c.before.before.save-reply.new.1.0
     (λ j.
     record {
       drawn = Nothing;
       sender = c.before.before.before.before.before.before.before.before.before.empty.ensures j;
       place = (c.before.before.before.before.before.before.before.before.held.ensures ∙ ap (λ (o : Outputs). held_of o.set.place) outputs) j;
-      header = (c.before.before.before.before.before.before.before.before.before.before.header_of.ensures ∙ ap headerOf c.before.before.before.before.before.before.before.before.before.before.before.before.before.control.ensures) j;
+      header = (c.before.before.before.before.before.before.before.before.before.before.header_of.ensures ∙ ap header_of c.before.before.before.before.before.before.before.before.before.before.before.before.before.control.ensures) j;
     })
     c.before.before.before.before.before.before.save-incoming.ensures
     c.before.before.save-reply.ensures

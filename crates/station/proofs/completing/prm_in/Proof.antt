@@ -1,6 +1,6 @@
 -- `station::completing::prm_in` meets its contract.
-use Rattle.steps.proofs.Holding.{holds-safe}
-use Rattle.steps.proofs.KeepsSafe.{prm-room}
+use Rattle.steps.proofs.Holding.{holds_safe}
+use Rattle.steps.proofs.KeepsSafe.{prm_room}
 use Rattle.std.proofs.Common.{rules}
 use Rattle.station.proofs.completing.prm_in.Statement.{statement}
 use Rattle.station.proofs.completing.prm_in.Tie as tie
@@ -20,7 +20,7 @@ parameters-at-requires c κs = search rules
 prm-at-requires : tie.Need-prm-at-requires
 prm-at-requires c κs =
     rw (c.parameters-at.ensures, c.before.fill.ensures, c.before.before.parameters.ensures, c.before.before.before.setup.ensures)
-    (prm-room _ _ (holds-safe _ _ c.before.before.before.before.before.requires))
+    (prm_room _ _ (holds_safe _ _ c.before.before.before.before.before.requires))
 
 returns : tie.Need-returns
 returns c =

@@ -1,8 +1,8 @@
 -- `station::completing::repeat` meets its contract.
 use Rattle.std.proofs.Common.{refl, arith, rules}
 use Rattle.state.specs.Unpack.{unpacked}
-use Rattle.state.proofs.Damage.{fronted-same}
-use Rattle.station.proofs.CompletedOverMemory.{repeated-over}
+use Rattle.state.proofs.Damage.{fronted_same}
+use Rattle.station.proofs.CompletedOverMemory.{repeated_over}
 use Rattle.station.proofs.completing.repeat.Statement.{statement}
 use Rattle.station.proofs.completing.repeat.Tie as tie
 
@@ -60,12 +60,12 @@ returns c =
     let drawn = incoming.before.before in
     let start = drawn.before.before.before.before.before.before.before.before.before.before.before.before.before in
     let m = start.args.mem.now in
-    repeated-over m (unpacked m) start.args.i start.args.r _ _ _ _ _
+    repeated_over m (unpacked m) start.args.i start.args.r _ _ _ _ _
     drawn.before.before.before.before.before.before.before.before.before.before.setup.ensures
     drawn.before.before.before.before.outputs.ensures
     drawn.before.before.held.ensures
     drawn.before.master-of.ensures
-    (fronted-same m (unpacked m) start.requires.0)
+    (fronted_same m (unpacked m) start.requires.0)
     start.requires.1 _ _ _ _
     drawn.before.before.before.before.before.before.before.before.control.ensures
     drawn.before.before.before.before.before.before.before.refilled.ensures

@@ -1,6 +1,6 @@
 -- `station::completing::reply_exchange` meets its contract.
 use Rattle.std.proofs.Common.{arith, rules}
-use Rattle.station.proofs.ExchangeReplied.{drew-inputs, sends-inputs, drew-flag, sends-flag, drew-e5, sends-e5, replied-over}
+use Rattle.station.proofs.ExchangeReplied.{drew_inputs, sends_inputs, drew_flag, sends_flag, drew_e5, sends_e5, replied_over}
 use Rattle.station.proofs.completing.reply_exchange.Statement.{statement}
 use Rattle.station.proofs.completing.reply_exchange.Tie as tie
 
@@ -42,11 +42,11 @@ returns c =
     let made = tested.before.before in
     let start = made.before.before.before in
     let z = tested.if1.true in
-    replied-over start.args.r start.args.setup start.args.control start.args.held _ start.args.header _ _ _ _ _ _ _
+    replied_over start.args.r start.args.setup start.args.control start.args.held _ start.args.header _ _ _ _ _ _ _
     made.before.master-of.ensures
     drawn.chain_by.ensures
-    (drew-inputs start.args.setup start.args.control z)
-    (sends-inputs start.args.setup start.args.control z made.exchange-fc.ensures drawn.before.telegram.ensures)
+    (drew_inputs start.args.setup start.args.control z)
+    (sends_inputs start.args.setup start.args.control z made.exchange-fc.ensures drawn.before.telegram.ensures)
     formed.exchange-reply.ensures
     chain.save-chain.ensures
     reply.save-reply.ensures
@@ -84,11 +84,11 @@ returns-2 c =
     let start = made.before.before.before in
     let z = tested.before.if1.false in
     let f = tested.if2.true in
-    replied-over start.args.r start.args.setup start.args.control start.args.held _ start.args.header _ _ _ _ _ _ _
+    replied_over start.args.r start.args.setup start.args.control start.args.held _ start.args.header _ _ _ _ _ _ _
     made.before.master-of.ensures
     drawn.chain-by2.ensures
-    (drew-flag start.args.setup start.args.control z f)
-    (sends-flag start.args.setup start.args.control z f made.exchange-fc.ensures drawn.before.telegram2.ensures)
+    (drew_flag start.args.setup start.args.control z f)
+    (sends_flag start.args.setup start.args.control z f made.exchange-fc.ensures drawn.before.telegram2.ensures)
     formed.exchange-reply2.ensures
     chain.save-chain2.ensures
     reply.save-reply2.ensures
@@ -126,11 +126,11 @@ returns-3 c =
     let start = made.before.before.before in
     let z = tested.before.if1.false in
     let f = tested.if2.false in
-    replied-over start.args.r start.args.setup start.args.control start.args.held _ start.args.header _ _ _ _ _ _ _
+    replied_over start.args.r start.args.setup start.args.control start.args.held _ start.args.header _ _ _ _ _ _ _
     made.before.master-of.ensures
     drawn.chain-by3.ensures
-    (drew-e5 start.args.setup start.args.control z f)
-    (sends-e5 start.args.setup start.args.control z f _ formed.before.single.ensures)
+    (drew_e5 start.args.setup start.args.control z f)
+    (sends_e5 start.args.setup start.args.control z f _ formed.before.single.ensures)
     formed.exchange-reply3.ensures
     chain.save-chain3.ensures
     reply.save-reply3.ensures

@@ -1,7 +1,7 @@
 -- `station::hearing::drop_reply` meets its contract.
 use Rattle.std.proofs.Common.{◌∙◌, rules}
 use Rattle.state.specs.Memory.{kept}
-use Rattle.state.specs.With.{withIncoming, withReply}
+use Rattle.state.specs.With.{with_incoming, with_reply}
 use Rattle.state.proofs.Written.{then}
 use Rattle.station.proofs.hearing.drop_reply.Statement.{statement}
 use Rattle.station.proofs.hearing.drop_reply.Tie as tie
@@ -26,7 +26,7 @@ returns c =
     λ s e.
     then start.mem.now incoming.save-incoming.new.1.0 reply.save-reply.new.1.0 _ _
     incoming.save-incoming.ensures reply.save-reply.ensures s e
-    ∙ (λ j. kept (withReply (withIncoming s start.i) (reply.before.before.no-reply.ensures j)) start.mem.now)
+    ∙ (λ j. kept (with_reply (with_incoming s start.i) (reply.before.before.no_reply_lem.ensures j)) start.mem.now)
 
 pub drop-reply-spec : {M : Type 1} → statement M
 drop-reply-spec =

@@ -1,6 +1,6 @@
 -- `station::hearing::hear_other` meets its contract.
 use Rattle.state.specs.Unpack.{unpacked}
-use Rattle.station.proofs.HeardOverMemory.{leaves-ignored, leaves-plain, leaves-turn}
+use Rattle.station.proofs.HeardOverMemory.{leaves_ignored, leaves_plain, leaves_turn}
 use Rattle.station.proofs.TurnedOverMemory.{turning}
 use Rattle.std.proofs.Common.{rules}
 use Rattle.station.proofs.hearing.hear_other.Statement.{statement}
@@ -21,7 +21,7 @@ same_length c = search rules
 returns : tie.Need-returns
 returns c =
     let m = c.before.before.before.before.before.before.before.args.mem.now in
-    leaves-ignored m (unpacked m) c.before.before.before.before.before.before.before.requires.0 c.before.before.before.before.before.before.before.args.b c.before.before.before.before.incoming.result c.before.before.before.before.incoming.ensures c.before.before.before.before.before.before.before.args.bad _ _
+    leaves_ignored m (unpacked m) c.before.before.before.before.before.before.before.requires.0 c.before.before.before.before.before.before.before.args.b c.before.before.before.before.incoming.result c.before.before.before.before.incoming.ensures c.before.before.before.before.before.before.before.args.bad _ _
     c.before.before.status.ensures c.before.is-ignored.ensures c.if1.true
 
 receive-requires : tie.Need-receive-requires
@@ -42,7 +42,7 @@ same-length-2 c = search rules
 returns-2 : tie.Need-returns-2
 returns-2 c =
     let m = c.before.before.before.before.before.before.before.before.before.before.before.before.before.before.before.args.mem.now in
-    leaves-plain m (unpacked m) c.before.before.before.before.before.before.before.before.before.before.before.before.before.before.before.requires.0 c.before.before.before.before.before.before.before.before.before.before.before.before.before.before.before.args.b c.before.before.before.before.before.before.before.before.before.before.before.before.incoming.result c.before.before.before.before.before.before.before.before.before.before.before.before.incoming.ensures c.before.before.before.before.before.before.before.before.before.before.before.before.before.before.before.args.bad _
+    leaves_plain m (unpacked m) c.before.before.before.before.before.before.before.before.before.before.before.before.before.before.before.requires.0 c.before.before.before.before.before.before.before.before.before.before.before.before.before.before.before.args.b c.before.before.before.before.before.before.before.before.before.before.before.before.incoming.result c.before.before.before.before.before.before.before.before.before.before.before.before.incoming.ensures c.before.before.before.before.before.before.before.before.before.before.before.before.before.before.before.args.bad _
     c.before.before.before.before.before.before.before.receive.ensures _ _ _ c.before.before.before.before.before.before.is_plain.ensures c.before.before.before.before.before.if2.true c.before.before.before.before.read-on.ensures c.before.before.save-incoming.ensures
 
 status-requires-2 : tie.Need-status-requires-2
@@ -59,7 +59,7 @@ same-length-3 c = search rules
 returns-3 : tie.Need-returns-3
 returns-3 c =
     let m = c.before.before.before.before.before.before.before.before.before.before.before.before.before.before.before.args.mem.now in
-    leaves-turn m (unpacked m) c.before.before.before.before.before.before.before.before.before.before.before.before.before.before.before.requires.0 c.before.before.before.before.before.before.before.before.before.before.before.before.before.before.before.args.b c.before.before.before.before.before.before.before.before.before.before.before.before.incoming.result c.before.before.before.before.before.before.before.before.before.before.before.before.incoming.ensures c.before.before.before.before.before.before.before.before.before.before.before.before.before.before.before.args.bad _
+    leaves_turn m (unpacked m) c.before.before.before.before.before.before.before.before.before.before.before.before.before.before.before.requires.0 c.before.before.before.before.before.before.before.before.before.before.before.before.before.before.before.args.b c.before.before.before.before.before.before.before.before.before.before.before.before.incoming.result c.before.before.before.before.before.before.before.before.before.before.before.before.incoming.ensures c.before.before.before.before.before.before.before.before.before.before.before.before.before.before.before.args.bad _
     c.before.before.before.before.before.before.before.receive.ensures _ _ c.before.before.before.before.before.before.before.before.before.before.status.ensures c.before.before.before.before.before.before.before.before.before.is-ignored.ensures c.before.before.before.before.before.before.before.before.if1.false _ c.before.before.before.before.status2.ensures _ c.before.before.turn.ensures
 
 pub hear-other-spec : {M : Type 1} → statement M

@@ -2,9 +2,9 @@
 -- set was, `at` where its fill buffer is found.
 use Rattle.std.proofs.Common.{arith, rules}
 use Rattle.buffers.specs.Roles as role
-use Rattle.state.specs.Layout.{outputRow, parameterRow, configurationRow}
-use Rattle.steps.proofs.Holding.{holds-safe}
-use Rattle.station.proofs.StoredOverMemory.{fill-room, fill-stored, names-outputs, names-parameters, names-configuration, names-none}
+use Rattle.state.specs.Layout.{output_row, parameter_row, configuration_row}
+use Rattle.steps.proofs.Holding.{holds_safe}
+use Rattle.station.proofs.StoredOverMemory.{fill_room, fill_stored, names_outputs, names_parameters, names_configuration, names_none}
 use Rattle.station.proofs.hearing.store_received.Statement.{statement}
 use Rattle.station.proofs.hearing.store_received.Tie as tie
 
@@ -31,8 +31,8 @@ store-at-requires c κs =
     let at = c.before.before in
     let set = at.before.before in
     let read = set.before.before.before.before in
-    let safe = holds-safe _ _ read.before.before.before.before.before.requires in
-    fill-room safe read.before.before.setup.ensures outputRow (λ i. (set.outputs.ensures i).set.place)
+    let safe = holds_safe _ _ read.before.before.before.before.before.requires in
+    fill_room safe read.before.before.setup.ensures output_row (λ i. (set.outputs.ensures i).set.place)
     at.before.fill.ensures at.outputs-at.ensures (safe.outputs.within role.fill (omega arith))
 
 same_length : tie.Need-same-length
@@ -43,10 +43,10 @@ returns c =
     let at = c.before.before.before.before.before in
     let set = at.before.before in
     let read = set.before.before.before.before in
-    let safe = holds-safe _ _ read.before.before.before.before.before.requires in
-    fill-stored safe read.before.before.setup.ensures outputRow (λ i. (set.outputs.ensures i).set.place)
+    let safe = holds_safe _ _ read.before.before.before.before.before.requires in
+    fill_stored safe read.before.before.setup.ensures output_row (λ i. (set.outputs.ensures i).set.place)
     at.before.fill.ensures at.outputs-at.ensures _ _ _
-    (names-outputs safe read.incoming.ensures _ _ set.before.before.if1.true)
+    (names_outputs safe read.incoming.ensures _ _ set.before.before.if1.true)
     c.before.before.store_at.ensures
 
 parameters-requires : tie.Need-parameters-requires
@@ -66,8 +66,8 @@ store-at-requires-2 c κs =
     let at = c.before.before in
     let set = at.before.before in
     let read = set.before.before.before.before.before.before in
-    let safe = holds-safe _ _ read.before.before.before.before.before.requires in
-    fill-room safe read.before.before.setup.ensures parameterRow (λ i. (set.parameters.ensures i).set.place)
+    let safe = holds_safe _ _ read.before.before.before.before.before.requires in
+    fill_room safe read.before.before.setup.ensures parameter_row (λ i. (set.parameters.ensures i).set.place)
     at.before.fill2.ensures at.parameters-at.ensures (safe.parameters.within role.fill (omega arith))
 
 same-length-2 : tie.Need-same-length-2
@@ -78,10 +78,10 @@ returns-2 c =
     let at = c.before.before.before.before.before in
     let set = at.before.before in
     let read = set.before.before.before.before.before.before in
-    let safe = holds-safe _ _ read.before.before.before.before.before.requires in
-    fill-stored safe read.before.before.setup.ensures parameterRow (λ i. (set.parameters.ensures i).set.place)
+    let safe = holds_safe _ _ read.before.before.before.before.before.requires in
+    fill_stored safe read.before.before.setup.ensures parameter_row (λ i. (set.parameters.ensures i).set.place)
     at.before.fill2.ensures at.parameters-at.ensures _ _ _
-    (names-parameters safe read.incoming.ensures _ _ set.before.before.before.before.if1.false set.before.before.if2.true)
+    (names_parameters safe read.incoming.ensures _ _ set.before.before.before.before.if1.false set.before.before.if2.true)
     c.before.before.store-at2.ensures
 
 configuration-requires : tie.Need-configuration-requires
@@ -101,8 +101,8 @@ store-at-requires-3 c κs =
     let at = c.before.before in
     let set = at.before.before in
     let read = set.before.before.before.before.before.before.before.before in
-    let safe = holds-safe _ _ read.before.before.before.before.before.requires in
-    fill-room safe read.before.before.setup.ensures configurationRow (λ i. (set.configuration.ensures i).set.place)
+    let safe = holds_safe _ _ read.before.before.before.before.before.requires in
+    fill_room safe read.before.before.setup.ensures configuration_row (λ i. (set.configuration.ensures i).set.place)
     at.before.fill3.ensures at.configuration-at.ensures (safe.configuration.within role.fill (omega arith))
 
 same-length-3 : tie.Need-same-length-3
@@ -113,10 +113,10 @@ returns-3 c =
     let at = c.before.before.before.before.before in
     let set = at.before.before in
     let read = set.before.before.before.before.before.before.before.before in
-    let safe = holds-safe _ _ read.before.before.before.before.before.requires in
-    fill-stored safe read.before.before.setup.ensures configurationRow (λ i. (set.configuration.ensures i).set.place)
+    let safe = holds_safe _ _ read.before.before.before.before.before.requires in
+    fill_stored safe read.before.before.setup.ensures configuration_row (λ i. (set.configuration.ensures i).set.place)
     at.before.fill3.ensures at.configuration-at.ensures _ _ _
-    (names-configuration safe read.incoming.ensures _ _ set.before.before.before.before.before.before.if1.false set.before.before.before.before.if2.false set.before.before.if3.true)
+    (names_configuration safe read.incoming.ensures _ _ set.before.before.before.before.before.before.if1.false set.before.before.before.before.if2.false set.before.before.if3.true)
     c.before.before.store-at3.ensures
 
 same-length-4 : tie.Need-same-length-4
@@ -125,7 +125,7 @@ same-length-4 c = search rules
 returns-4 : tie.Need-returns-4
 returns-4 c =
     let read = c.before.before.before.before.before.before in
-    names-none (holds-safe _ _ read.before.before.before.before.before.requires) read.incoming.ensures _ _ c.before.before.before.before.if1.false c.before.before.if2.false c.if3.false
+    names_none (holds_safe _ _ read.before.before.before.before.before.requires) read.incoming.ensures _ _ c.before.before.before.before.if1.false c.before.before.if2.false c.if3.false
 
 pub store-received-spec : {M : Type 1} → statement M
 store-received-spec =

@@ -1,5 +1,5 @@
 -- `station::over_memory::acknowledge` meets its contract.
-use Rattle.steps.specs.Step.{stepOver}
+use Rattle.steps.specs.Step.{step_over}
 use Rattle.std.proofs.Common.{rules}
 use Rattle.station.proofs.over_memory.acknowledge.Statement.{statement}
 use Rattle.station.proofs.over_memory.acknowledge.Tie as tie
@@ -11,7 +11,7 @@ same_length : tie.Need-same-length
 same_length c = search rules
 
 returns : tie.Need-returns
-unfolding stepOver
+unfolding step_over
 returns c = c.before.before.acknowledge.ensures
 
 pub acknowledge-spec : {M : Type 1} → statement M

@@ -1,5 +1,5 @@
 -- `station::over_memory::leave` meets its contract.
-use Rattle.steps.specs.Step.{stepOver}
+use Rattle.steps.specs.Step.{step_over}
 use Rattle.std.proofs.Common.{rules}
 use Rattle.station.proofs.over_memory.leave.Statement.{statement}
 use Rattle.station.proofs.over_memory.leave.Tie as tie
@@ -11,7 +11,7 @@ same_length : tie.Need-same-length
 same_length c = search rules
 
 returns : tie.Need-returns
-unfolding stepOver
+unfolding step_over
 returns c = c.before.before.leave.ensures
 
 pub leave_spec : {M : Type 1} → statement M

@@ -1,6 +1,6 @@
 -- `station::over_memory::send` meets its contract.
 use Rattle.std.proofs.Common.{refl, rules}
-use Rattle.station.proofs.Stepping.{on-memory}
+use Rattle.station.proofs.Stepping.{on_memory_lem}
 use Rattle.station.proofs.over_memory.send.Statement.{statement}
 use Rattle.station.proofs.over_memory.send.Tie as tie
 
@@ -14,7 +14,7 @@ same_length : tie.Need-same-length
 same_length c = search rules
 
 returns : tie.Need-returns
-returns c = on-memory _ _ _ c.before.before.before.before.before.requires _ _ _ _ refl c.before.before.send.ensures.0 c.before.before.send.ensures.1
+returns c = on_memory_lem _ _ _ c.before.before.before.before.before.requires _ _ _ _ refl c.before.before.send.ensures.0 c.before.before.send.ensures.1
 
 pub send-spec : {M : Type 1} → statement M
 send-spec = tie.close (tie.spec send-requires cast-number same_length returns)

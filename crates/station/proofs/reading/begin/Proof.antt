@@ -9,7 +9,7 @@ no-reply-requires : tie.Need-no-reply-requires
 no-reply-requires c κs = search rules
 
 returns : tie.Need-returns
-returns c = rw (c.no-reply.ensures, c.before.read_by_lem.ensures)
+returns c = rw (c.no_reply_lem.ensures, c.before.read_by_lem.ensures)
 
 pub begin-spec : {M : Type 1} → statement M
 begin-spec = tie.close (tie.spec read-by-requires no-reply-requires returns)

@@ -1,5 +1,5 @@
 use Rattle.std.proofs.Common.{rules}
-use Rattle.steps.proofs.KeepsSafe.{safe-read-by}
+use Rattle.steps.proofs.KeepsSafe.{safe_read_by}
 use Rattle.station.proofs.reading.complete.Statement.{statement}
 use Rattle.station.proofs.reading.complete.Tie as tie
 
@@ -11,12 +11,12 @@ request-by-requires c κs = search rules
 
 outcome-of-requires : tie.Need-outcome-of-requires
 outcome-of-requires c κs =
-    rw c.before.before.read_by_lem.ensures (safe-read-by _ _ _ c.before.before.before.before.requires)
+    rw c.before.before.read_by_lem.ensures (safe_read_by _ _ _ c.before.before.before.before.requires)
 
 answer-requires : tie.Need-answer-requires
 answer-requires c κs =
     rw c.before.before.before.before.read_by_lem.ensures
-    (safe-read-by _ _ _ c.before.before.before.before.before.before.requires)
+    (safe_read_by _ _ _ c.before.before.before.before.before.before.requires)
 
 same_length : tie.Need-same-length
 same_length c = search rules

@@ -1,5 +1,5 @@
 use Rattle.std.proofs.Common.{refl, rules}
-use Rattle.steps.proofs.KeepsSafe.{safe-steps, safe-completed, safe-read-by}
+use Rattle.steps.proofs.KeepsSafe.{safe_steps, safe_completed, safe_read_by}
 use Rattle.station.proofs.reading.hear_as.Statement.{statement}
 use Rattle.station.proofs.reading.hear_as.Tie as tie
 
@@ -20,8 +20,8 @@ complete-requires c κs = search rules
 
 settle-requires : tie.Need-settle-requires
 settle-requires c κs =
-    safe-steps _ _ _ c.before.before.before.complete.ensures
-    (safe-completed _ _ _ c.before.before.before.before.before.before.before.before.requires)
+    safe_steps _ _ _ c.before.before.before.complete.ensures
+    (safe_completed _ _ _ c.before.before.before.before.before.before.before.before.requires)
 
 enum-told-4 : tie.Need-enum-told-4
 enum-told-4 c = search rules
@@ -34,7 +34,7 @@ read-by-requires c κs = search rules
 
 settle-requires-2 : tie.Need-settle-requires-2
 settle-requires-2 c κs =
-    rw c.before.read_by_lem.ensures (safe-read-by _ _ _ c.before.before.before.before.before.before.requires)
+    rw c.before.read_by_lem.ensures (safe_read_by _ _ _ c.before.before.before.before.before.before.requires)
 
 returns : tie.Need-returns
 returns c = rw c.enum_told.given.1 (record { states = refl; leaves = refl })

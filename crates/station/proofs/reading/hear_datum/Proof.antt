@@ -1,6 +1,6 @@
 -- `station::reading::hear_datum` meets its contract.
 use Rattle.std.proofs.Common.{rules}
-use Rattle.station.proofs.HeardOverMemory.{heard-data}
+use Rattle.station.proofs.HeardOverMemory.{heard_data}
 use Rattle.station.proofs.reading.hear_datum.Statement.{statement}
 use Rattle.station.proofs.reading.hear_datum.Tie as tie
 
@@ -19,7 +19,7 @@ same_length c = search rules
 returns : tie.Need-returns
 returns c =
     let first = c.before.before.before.before.before.before.before.before.before in
-    rw (heard-data first.args.s first.args.mem.now first.args.b first.requires.1)
+    rw (heard_data first.args.s first.args.mem.now first.args.b first.requires.1)
     (record {
       states = rw (c.keep-octets.ensures, c.before.take-data.ensures);
       leaves = c.before.before.before.before.store-data.ensures;

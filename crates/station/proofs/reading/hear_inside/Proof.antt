@@ -1,5 +1,5 @@
 use Rattle.std.proofs.Common.{rules}
-use Rattle.steps.proofs.KeepsSafe.{safe-beginning}
+use Rattle.steps.proofs.KeepsSafe.{safe_beginning}
 use Rattle.station.proofs.reading.hear_inside.Statement.{statement}
 use Rattle.station.proofs.reading.hear_inside.Tie as tie
 
@@ -22,7 +22,7 @@ begin-requires c κs = search rules
 
 settle-requires : tie.Need-settle-requires
 settle-requires c κs =
-    rw c.before.begin.ensures (safe-beginning _ _ _ c.before.before.before.before.before.requires)
+    rw c.before.begin.ensures (safe_beginning _ _ _ c.before.before.before.before.before.requires)
 
 same-length-2 : tie.Need-same-length-2
 same-length-2 c = search rules

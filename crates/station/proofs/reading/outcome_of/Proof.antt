@@ -1,6 +1,6 @@
 -- `station::reading::outcome_of` meets its contract.
 use Rattle.std.proofs.Common.{rules}
-use Rattle.steps.specs.Reading.{outcomeOf}
+use Rattle.steps.specs.Reading.{outcome_of}
 use Rattle.station.proofs.reading.outcome_of.Statement.{statement}
 use Rattle.station.proofs.reading.outcome_of.Tie as tie
 
@@ -20,7 +20,7 @@ outcome-by-requires : tie.Need-outcome-by-requires
 outcome-by-requires c κs = c.before.before.before.before.service-of.ensures
 
 returns : tie.Need-returns
-unfolding outcomeOf
+unfolding outcome_of
 returns c = rw (c.outcome-by.ensures, c.before.prm-in.ensures, c.before.before.is-open2.ensures, c.before.before.before.is_open.ensures)
 
 pub outcome-of-spec : {M : Type 1} → statement M

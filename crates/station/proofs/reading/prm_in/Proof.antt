@@ -1,5 +1,5 @@
 use Rattle.std.proofs.Common.{rules}
-use Rattle.steps.proofs.KeepsSafe.{prm-room}
+use Rattle.steps.proofs.KeepsSafe.{prm_room}
 use Rattle.station.proofs.reading.prm_in.Statement.{statement}
 use Rattle.station.proofs.reading.prm_in.Tie as tie
 
@@ -11,7 +11,7 @@ parameters-at-requires c κs = search rules
 
 prm-at-requires : tie.Need-prm-at-requires
 prm-at-requires c κs =
-    rw (c.parameters-at.ensures, c.before.fill.ensures) (prm-room _ _ c.before.before.before.requires)
+    rw (c.parameters-at.ensures, c.before.fill.ensures) (prm_room _ _ c.before.before.before.requires)
 
 returns : tie.Need-returns
 returns c = rw (c.prm-at.ensures, c.before.parameters-at.ensures, c.before.before.fill.ensures)

@@ -1,7 +1,7 @@
 use Rattle.std.proofs.Common.{arith, rules, le-ltb, lt-ltb, eq-eqb, ne_eqb}
 use Rattle.buffers.specs.Roles as role
-use Rattle.state.specs.Layout.{outputRow, parameterRow, configurationRow}
-use Rattle.steps.proofs.KeepsSafe.{buffer-room}
+use Rattle.state.specs.Layout.{output_row, parameter_row, configuration_row}
+use Rattle.steps.proofs.KeepsSafe.{buffer_room}
 use Rattle.station.proofs.reading.store_data.Statement.{statement}
 use Rattle.station.proofs.reading.store_data.Tie as tie
 
@@ -17,7 +17,7 @@ cast-store-at c = search rules
 store-at-requires : tie.Need-store-at-requires
 store-at-requires c κs =
     rw (c.before.before.outputs-at.ensures, c.before.before.before.fill.ensures)
-    (buffer-room _ _ outputRow _ c.before.before.before.before.before.before.before.before.before.requires
+    (buffer_room _ _ output_row _ c.before.before.before.before.before.before.before.before.before.requires
     (c.before.before.before.before.before.before.before.before.before.requires.outputs.within role.fill (omega arith)))
 
 same_length : tie.Need-same-length
@@ -44,7 +44,7 @@ cast-store-at-2 c = search rules
 store-at-requires-2 : tie.Need-store-at-requires-2
 store-at-requires-2 c κs =
     rw (c.before.before.parameters-at.ensures, c.before.before.before.fill2.ensures)
-    (buffer-room _ _ parameterRow _
+    (buffer_room _ _ parameter_row _
     c.before.before.before.before.before.before.before.before.before.before.before.requires
     (c.before.before.before.before.before.before.before.before.before.before.before.requires.parameters.within role.fill (omega arith)))
 
@@ -73,7 +73,7 @@ cast-store-at-3 c = search rules
 store-at-requires-3 : tie.Need-store-at-requires-3
 store-at-requires-3 c κs =
     rw (c.before.before.configuration-at.ensures, c.before.before.before.fill3.ensures)
-    (buffer-room _ _ configurationRow _
+    (buffer_room _ _ configuration_row _
     c.before.before.before.before.before.before.before.before.before.before.before.before.before.requires
     (c.before.before.before.before.before.before.before.before.before.before.before.before.before.requires.configuration.within role.fill (omega arith)))
 

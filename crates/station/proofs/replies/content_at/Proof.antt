@@ -58,19 +58,19 @@ returns-4 : tie.Need-returns-4
 returns-4 c = rw c.enum-told4.given.1
 
 returns-5 : tie.Need-returns-5
-returns-5 c = rw (c.before.enum-told5.given.1, c.input-octet.ensures)
+returns-5 c = rw (c.before.enum-told5.given.1, c.input_octet.ensures)
 
 returns-6 : tie.Need-returns-6
 returns-6 c = rw (c.before.enum-told6.given.1, c.input-octet2.ensures)
 
 returns-7 : tie.Need-returns-7
-returns-7 c = rw (c.before.enum-told7.given.1, c.output-octet.ensures)
+returns-7 c = rw (c.before.enum-told7.given.1, c.output_octet.ensures)
 
 returns-8 : tie.Need-returns-8
-returns-8 c = rw (c.before.enum-told8.given.1, c.get-cfg-octet.ensures)
+returns-8 c = rw (c.before.enum-told8.given.1, c.get_cfg_octet.ensures)
 
 returns-9 : tie.Need-returns-9
-returns-9 c = rw (c.before.enum-told9.given.1, c.diagnosis-octet.ensures)
+returns-9 c = rw (c.before.enum-told9.given.1, c.diagnosis_octet.ensures)
 
 pub content-at-spec : {M : Type 1} → statement M
 content-at-spec =

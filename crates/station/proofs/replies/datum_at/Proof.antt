@@ -1,7 +1,7 @@
 -- `station::replies::datum_at` meets its contract.
 use Rattle.std.proofs.Common.{◌∙◌, rules, eq-eqb, ne_eqb}
-use Rattle.steps.specs.Replies.{datumAt}
-use Rattle.station.proofs.SentOverMemory.{datum-inside}
+use Rattle.steps.specs.Replies.{datum_at}
+use Rattle.station.proofs.SentOverMemory.{datum_inside}
 use Rattle.station.proofs.replies.datum_at.Statement.{statement}
 use Rattle.station.proofs.replies.datum_at.Tie as tie
 
@@ -15,17 +15,17 @@ input-octet-requires : tie.Need-input-octet-requires
 input-octet-requires c κs = c.before.before.before.before.requires
 
 returns : tie.Need-returns
-unfolding datumAt
+unfolding datum_at
 returns c =
     rw (
       ← c.before.before.before.reply.ensures,
       ← c.before.before.is-exchange.ensures,
       c.before.if1.true,
-      c.input-octet.ensures,
+      c.input_octet.ensures,
     )
 
 returns-2 : tie.Need-returns-2
-unfolding datumAt
+unfolding datum_at
 returns-2 c =
     rw (
       ← c.before.before.before.reply.ensures,
@@ -38,7 +38,7 @@ reply-point-requires : tie.Need-reply-point-requires
 reply-point-requires c κs = search rules
 
 returns-3 : tie.Need-returns-3
-unfolding datumAt
+unfolding datum_at
 returns-3 c =
     rw (
       ← c.before.before.before.before.before.reply.ensures,
@@ -58,7 +58,7 @@ content-at-requires c κs = c.before.before.before.before.before.before.requires
 returns-4 : tie.Need-returns-4
 returns-4 c =
     c.content-at.ensures
-    ∙ datum-inside _ _ _ _ _
+    ∙ datum_inside _ _ _ _ _
     c.before.before.before.before.before.reply.ensures
     c.before.before.before.before.is-exchange.ensures
     c.before.before.before.if1.false

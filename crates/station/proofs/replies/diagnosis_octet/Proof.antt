@@ -1,6 +1,6 @@
 -- `station::replies::diagnosis_octet` meets its contract.
 use Rattle.std.proofs.Common.{rules, le-ltb, lt-ltb}
-use Rattle.station.proofs.SentOverMemory.{diagnosis-room}
+use Rattle.station.proofs.SentOverMemory.{diagnosis_room}
 use Rattle.station.proofs.replies.diagnosis_octet.Statement.{statement}
 use Rattle.station.proofs.replies.diagnosis_octet.Tie as tie
 
@@ -17,7 +17,7 @@ returns : tie.Need-returns
 returns c =
     rw (
       lt-ltb _ _ c.before.before.before.if1.true,
-      c.header-at.ensures,
+      c.header_at_lem.ensures,
       c.before.before.reply.ensures,
       c.before.before.before.before.setup.ensures,
     )
@@ -34,19 +34,19 @@ diagnosis-at-requires c κs = search rules
 octet-in-requires : tie.Need-octet-in-requires
 octet-in-requires c κs =
     rw (
-      c.diagnosis-at.ensures,
+      c.diagnosis_at_lem.ensures,
       c.before.own-place.ensures.0,
       c.before.before.swapped.ensures,
       c.before.before.before.before.setup.ensures,
     )
-    (diagnosis-room _ _ c.before.before.before.before.before.before.requires)
+    (diagnosis_room _ _ c.before.before.before.before.before.before.requires)
 
 returns-2 : tie.Need-returns-2
 returns-2 c =
     rw (
       le-ltb _ _ c.before.before.before.before.if1.false,
-      c.octet-in.ensures,
-      c.before.diagnosis-at.ensures,
+      c.octet_in.ensures,
+      c.before.diagnosis_at_lem.ensures,
       c.before.before.own-place.ensures.0,
       c.before.before.before.swapped.ensures,
       c.before.before.before.before.before.setup.ensures,

@@ -1,6 +1,6 @@
 -- `station::replies::draw` meets its contract.
 use Rattle.std.proofs.Common.{rules}
-use Rattle.steps.specs.Replies.{replyFor}
+use Rattle.steps.specs.Replies.{reply_for}
 use Rattle.station.proofs.replies.draw.Statement.{statement}
 use Rattle.station.proofs.replies.draw.Tie as tie
 
@@ -11,7 +11,7 @@ header-of-requires : tie.Need-header-of-requires
 header-of-requires c κs = search rules
 
 returns : tie.Need-returns
-unfolding replyFor
+unfolding reply_for
 returns c = λ s e f g. rw (c.before.sender-for.ensures s e f, c.header_of.ensures, f, g)
 
 pub draw-spec : {M : Type 1} → statement M

@@ -1,6 +1,6 @@
 -- `station::replies::get_cfg_octet` meets its contract.
-use Rattle.steps.proofs.KeepsSafe.{get-cfg-room}
-use Rattle.steps.proofs.Holding.{holds-safe}
+use Rattle.steps.proofs.KeepsSafe.{get_cfg_room}
+use Rattle.steps.proofs.Holding.{holds_safe}
 use Rattle.std.proofs.Common.{rules}
 use Rattle.station.proofs.replies.get_cfg_octet.Statement.{statement}
 use Rattle.station.proofs.replies.get_cfg_octet.Tie as tie
@@ -14,10 +14,10 @@ get-cfg-at-requires c κs = search rules
 octet-in-requires : tie.Need-octet-in-requires
 octet-in-requires c κs =
     rw (c.get-cfg-at.ensures, c.before.setup.ensures)
-    (get-cfg-room _ _ (holds-safe _ _ c.before.before.before.requires))
+    (get_cfg_room _ _ (holds_safe _ _ c.before.before.before.requires))
 
 returns : tie.Need-returns
-returns c = rw (c.octet-in.ensures, c.before.get-cfg-at.ensures, c.before.before.setup.ensures)
+returns c = rw (c.octet_in.ensures, c.before.get-cfg-at.ensures, c.before.before.setup.ensures)
 
 pub get-cfg-octet-spec : {M : Type 1} → statement M
 get-cfg-octet-spec =

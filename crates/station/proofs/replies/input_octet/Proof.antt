@@ -1,5 +1,5 @@
 -- `station::replies::input_octet` meets its contract.
-use Rattle.station.proofs.SentOverMemory.{inputs-room}
+use Rattle.station.proofs.SentOverMemory.{inputs_room}
 use Rattle.std.proofs.Common.{rules}
 use Rattle.station.proofs.replies.input_octet.Statement.{statement}
 use Rattle.station.proofs.replies.input_octet.Tie as tie
@@ -24,12 +24,12 @@ octet-in-requires c κs =
       c.before.before.inputs.ensures,
       c.before.before.before.setup.ensures,
     )
-    (inputs-room _ _ c.before.before.before.before.before.requires)
+    (inputs_room _ _ c.before.before.before.before.before.requires)
 
 returns : tie.Need-returns
 returns c =
     rw (
-      c.octet-in.ensures,
+      c.octet_in.ensures,
       c.before.inputs-at.ensures,
       c.before.before.fill.ensures,
       c.before.before.before.inputs.ensures,

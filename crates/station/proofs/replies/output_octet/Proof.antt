@@ -1,5 +1,5 @@
 -- `station::replies::output_octet` meets its contract.
-use Rattle.station.proofs.SentOverMemory.{outputs-room}
+use Rattle.station.proofs.SentOverMemory.{outputs_room}
 use Rattle.std.proofs.Common.{rules}
 use Rattle.station.proofs.replies.output_octet.Statement.{statement}
 use Rattle.station.proofs.replies.output_octet.Tie as tie
@@ -16,12 +16,12 @@ outputs-at-requires c κs = search rules
 octet-in-requires : tie.Need-octet-in-requires
 octet-in-requires c κs =
     rw (c.outputs-at.ensures, c.before.reply.ensures, c.before.before.setup.ensures)
-    (outputs-room _ _ c.before.before.before.before.requires)
+    (outputs_room _ _ c.before.before.before.before.requires)
 
 returns : tie.Need-returns
 returns c =
     rw (
-      c.octet-in.ensures,
+      c.octet_in.ensures,
       c.before.outputs-at.ensures,
       c.before.before.reply.ensures,
       c.before.before.before.setup.ensures,

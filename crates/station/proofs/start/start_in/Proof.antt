@@ -1,6 +1,6 @@
 -- `station::start::start_in` meets its contract.
 use Rattle.std.proofs.Common.{ltb, length, sym, ap, ◌∙◌, rules, le-ltb, lt-ltb}
-use Rattle.steps.specs.Calls.{startedIn}
+use Rattle.steps.specs.Calls.{started_in}
 use Rattle.station.proofs.start.start_in.Statement.{statement}
 use Rattle.station.proofs.start.start_in.Tie as tie
 
@@ -8,7 +8,7 @@ last-end-requires : tie.Need-last-end-requires
 last-end-requires c κs = search rules
 
 returns : tie.Need-returns
-unfolding startedIn
+unfolding started_in
 returns c =
     let e = ap (ltb (length c.before.before.before.before.before.args.mem.now)) (sym c.before.last-end.ensures) ∙ lt-ltb _ _ c.if1.true in
     record { answers = simp e; leaves = simp e }
@@ -20,7 +20,7 @@ same_length : tie.Need-same-length
 same_length c = search rules
 
 returns-2 : tie.Need-returns-2
-unfolding startedIn
+unfolding started_in
 returns-2 c =
     let d = c.before.before.before.before.before in
     let e = ap (ltb (length d.before.before.before.before.args.mem.now)) (sym d.last-end.ensures) ∙ le-ltb _ _ c.before.before.before.before.if1.false in

@@ -1,6 +1,6 @@
 -- `station::user::absent` meets its contract.
 use Rattle.std.proofs.Common.{◌&&◌, ◌||◌, eqb, leb, ◌∙◌, rules}
-use Rattle.rules.specs.Diagnosis.{isDelayed}
+use Rattle.rules.specs.Diagnosis.{is_delayed}
 use Rattle.station.proofs.user.absent.Statement.{statement}
 use Rattle.station.proofs.user.absent.Tie as tie
 
@@ -30,7 +30,7 @@ returns c =
     λ i.
     (eqb kind 2 && (c.before.before.past.ensures ∙ (λ j. leb (d.before.before.parameters.ensures j).shown index)) i)
     || (eqb kind 3 && (c.before.past2.ensures ∙ (λ j. leb (d.before.configuration.ensures j).shown index)) i)
-    || (eqb kind 5 && (c.is-delayed.ensures ∙ (λ j. isDelayed (d.diagnosis.ensures j))) i)
+    || (eqb kind 5 && (c.is-delayed.ensures ∙ (λ j. is_delayed (d.diagnosis.ensures j))) i)
 
 pub absent-spec : {M : Type 1} → statement M
 absent-spec =

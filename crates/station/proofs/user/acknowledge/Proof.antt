@@ -1,7 +1,7 @@
 -- `station::user::acknowledge` meets its contract.
 use Rattle.std.proofs.Common.{refl, rules}
-use Rattle.state.proofs.Damage.{fronted-same}
-use Rattle.steps.specs.User.{acknowledgeEvents}
+use Rattle.state.proofs.Damage.{fronted_same}
+use Rattle.steps.specs.User.{acknowledge_events}
 use Rattle.station.proofs.user.acknowledge.Statement.{statement}
 use Rattle.station.proofs.user.acknowledge.Tie as tie
 
@@ -18,10 +18,10 @@ same_length : tie.Need-same-length
 same_length c = search rules
 
 returns : tie.Need-returns
-unfolding acknowledgeEvents
+unfolding acknowledge_events
 returns c =
     rw (← c.before.before.before.before.before.events.ensures, ← c.before.before.before.before.acknowledge.ensures)
-    (record { answers = refl; leaves = c.before.before.save-events.ensures _ (fronted-same _ _ c.before.before.before.before.before.before.before.before.requires) })
+    (record { answers = refl; leaves = c.before.before.save-events.ensures _ (fronted_same _ _ c.before.before.before.before.before.before.before.before.requires) })
 
 pub acknowledge-spec : {M : Type 1} → statement M
 acknowledge-spec =

@@ -1,7 +1,7 @@
 -- `station::user::hand_over` meets its contract.
 use Rattle.std.proofs.Common.{refl, rules}
-use Rattle.state.proofs.Damage.{fronted-same}
-use Rattle.steps.specs.User.{handOver}
+use Rattle.state.proofs.Damage.{fronted_same}
+use Rattle.steps.specs.User.{hand_over}
 use Rattle.station.proofs.user.hand_over.Statement.{statement}
 use Rattle.station.proofs.user.hand_over.Tie as tie
 
@@ -18,10 +18,10 @@ same_length : tie.Need-same-length
 same_length c = search rules
 
 returns : tie.Need-returns
-unfolding handOver
+unfolding hand_over
 returns c =
-    rw (← c.before.before.before.before.before.inputs.ensures, ← c.before.before.before.before.hand-over.ensures)
-    (record { answers = refl; leaves = c.before.before.save-inputs.ensures _ (fronted-same _ _ c.before.before.before.before.before.before.before.before.requires) })
+    rw (← c.before.before.before.before.before.inputs.ensures, ← c.before.before.before.before.hand_over_lem.ensures)
+    (record { answers = refl; leaves = c.before.before.save-inputs.ensures _ (fronted_same _ _ c.before.before.before.before.before.before.before.before.requires) })
 
 pub hand-over-spec : {M : Type 1} → statement M
 hand-over-spec =

@@ -1,7 +1,7 @@
 -- `station::user::judge_configuration` meets its contract.
 use Rattle.std.proofs.Common.{refl, rules}
-use Rattle.steps.specs.User.{judgeConfiguration}
-use Rattle.station.proofs.UserOverMemory.{judges-configuration}
+use Rattle.steps.specs.User.{judge_configuration}
+use Rattle.station.proofs.UserOverMemory.{judges_configuration}
 use Rattle.station.proofs.user.judge_configuration.Statement.{statement}
 use Rattle.station.proofs.user.judge_configuration.Tie as tie
 
@@ -18,7 +18,7 @@ same_length : tie.Need-same-length
 same_length c = search rules
 
 returns : tie.Need-returns
-unfolding judgeConfiguration
+unfolding judge_configuration
 returns c =
     rw (← c.before.before.before.before.before.configuration.ensures, ← c.before.before.before.control.ensures, ← c.before.before.is_open.ensures, c.if1.true)
     (record { answers = refl; leaves = refl })
@@ -27,7 +27,7 @@ same-length-2 : tie.Need-same-length-2
 same-length-2 c = search rules
 
 returns-2 : tie.Need-returns-2
-unfolding judgeConfiguration
+unfolding judge_configuration
 returns-2 c =
     rw (
       ← c.before.before.before.before.before.before.configuration.ensures,
@@ -53,12 +53,12 @@ same-length-3 c = search rules
 returns-3 : tie.Need-returns-3
 returns-3 c =
     let d = c.before.before.before.before.before.before in
-    judges-configuration _ _ d.before.before.before.before.control.ensures c.before.before.before.carry_over.ensures _ d.if2.false
+    judges_configuration _ _ d.before.before.before.before.control.ensures c.before.before.before.carry_over.ensures _ d.if2.false
     d.before.before.before.is_open.ensures
     c.waited-number.ensures
     d.before.before.before.before.before.before.configuration.ensures
     d.before.if1.false
-    c.before.before.before.before.judged-configuration.ensures
+    c.before.before.before.before.judged_configuration_lem.ensures
 
 pub judge-configuration-spec : {M : Type 1} → statement M
 judge-configuration-spec =

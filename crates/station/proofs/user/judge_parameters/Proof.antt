@@ -1,7 +1,7 @@
 -- `station::user::judge_parameters` meets its contract.
 use Rattle.std.proofs.Common.{refl, rules}
-use Rattle.steps.specs.User.{judgeParameters}
-use Rattle.station.proofs.UserOverMemory.{judges-parameters}
+use Rattle.steps.specs.User.{judge_parameters}
+use Rattle.station.proofs.UserOverMemory.{judges_parameters}
 use Rattle.station.proofs.user.judge_parameters.Statement.{statement}
 use Rattle.station.proofs.user.judge_parameters.Tie as tie
 
@@ -15,7 +15,7 @@ same_length : tie.Need-same-length
 same_length c = search rules
 
 returns : tie.Need-returns
-unfolding judgeParameters
+unfolding judge_parameters
 returns c =
     rw (← c.before.before.parameters.ensures, ← c.before.is_open.ensures, c.if1.true)
     (record { answers = refl; leaves = refl })
@@ -24,7 +24,7 @@ same-length-2 : tie.Need-same-length-2
 same-length-2 c = search rules
 
 returns-2 : tie.Need-returns-2
-unfolding judgeParameters
+unfolding judge_parameters
 returns-2 c =
     rw (← c.before.before.before.parameters.ensures, ← c.before.before.is_open.ensures, c.before.if1.false, c.if2.true)
     (record { answers = refl; leaves = refl })
@@ -47,12 +47,12 @@ same-length-3 c = search rules
 returns-3 : tie.Need-returns-3
 returns-3 c =
     let d = c.before.before.before.before.before.before.before.before in
-    judges-parameters _ _ c.before.before.before.before.before.before.control.ensures c.before.before.before.carry_over.ensures _ d.if2.false
+    judges_parameters _ _ c.before.before.before.before.before.before.control.ensures c.before.before.before.carry_over.ensures _ d.if2.false
     d.before.before.is_open.ensures
     c.waited-number.ensures
     d.before.before.before.parameters.ensures
     d.before.if1.false
-    c.before.before.before.before.judged-parameters.ensures
+    c.before.before.before.before.judged_parameters_lem.ensures
 
 pub judge-parameters-spec : {M : Type 1} → statement M
 judge-parameters-spec =

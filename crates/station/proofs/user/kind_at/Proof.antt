@@ -1,8 +1,8 @@
 -- `station::user::kind_at` meets its contract.
 use Rattle.std.proofs.Common.{◌∙◌, rules, eq-eqb, ne_eqb}
 use Rattle.buffers.specs.Roles.{held_of}
-use Rattle.state.specs.Layout.{outputsAt, inputsAt, parametersAt, configurationAt, diagnosisAt}
-use Rattle.steps.specs.Replies.{userPlace}
+use Rattle.state.specs.Layout.{outputs_at, inputs_at, parameters_at, configuration_at, diagnosis_at}
+use Rattle.steps.specs.Replies.{user_place}
 use Rattle.station.proofs.user.kind_at.Statement.{statement}
 use Rattle.station.proofs.user.kind_at.Tie as tie
 
@@ -22,7 +22,7 @@ returns : tie.Need-returns
 returns c =
     rw (eq-eqb _ _ c.before.before.before.if1.true)
     (c.outputs-at.ensures
-    ∙ (λ i. outputsAt (c.before.before.before.before.setup.ensures i)
+    ∙ (λ i. outputs_at (c.before.before.before.before.setup.ensures i)
     ((c.before.held.ensures ∙ (λ j. held_of (c.before.before.outputs.ensures j).set.place)) i)))
 
 parameters-requires : tie.Need-parameters-requires
@@ -41,7 +41,7 @@ returns-2 c =
       eq-eqb _ _ c.before.before.before.if2.true,
     )
     (c.parameters-at.ensures
-    ∙ (λ i. parametersAt (c.before.before.before.before.before.setup.ensures i)
+    ∙ (λ i. parameters_at (c.before.before.before.before.before.setup.ensures i)
     ((c.before.held2.ensures ∙ (λ j. held_of (c.before.before.parameters.ensures j).set.place)) i)))
 
 configuration-requires : tie.Need-configuration-requires
@@ -61,7 +61,7 @@ returns-3 c =
       eq-eqb _ _ c.before.before.before.if3.true,
     )
     (c.configuration-at.ensures
-    ∙ (λ i. configurationAt (c.before.before.before.before.before.before.setup.ensures i)
+    ∙ (λ i. configuration_at (c.before.before.before.before.before.before.setup.ensures i)
     ((c.before.held3.ensures ∙ (λ j. held_of (c.before.before.configuration.ensures j).set.place)) i)))
 
 inputs-requires : tie.Need-inputs-requires
@@ -82,7 +82,7 @@ returns-4 c =
       eq-eqb _ _ c.before.before.before.if4.true,
     )
     (c.inputs-at.ensures
-    ∙ (λ i. inputsAt (c.before.before.before.before.before.before.before.setup.ensures i)
+    ∙ (λ i. inputs_at (c.before.before.before.before.before.before.before.setup.ensures i)
     ((c.before.held4.ensures ∙ (λ j. held_of (c.before.before.inputs.ensures j).place)) i)))
 
 swapped-requires : tie.Need-swapped-requires
@@ -102,9 +102,9 @@ returns-5 c =
       ne_eqb _ _ c.before.before.before.before.if3.false,
       ne_eqb _ _ c.before.before.before.if4.false,
     )
-    (c.diagnosis-at.ensures
-    ∙ (λ i. diagnosisAt (c.before.before.before.before.before.before.before.setup.ensures i)
-    ((c.before.user-place.ensures.0 ∙ (λ j. userPlace (c.before.before.swapped.ensures j))) i)))
+    (c.diagnosis_at_lem.ensures
+    ∙ (λ i. diagnosis_at (c.before.before.before.before.before.before.before.setup.ensures i)
+    ((c.before.user-place.ensures.0 ∙ (λ j. user_place (c.before.before.swapped.ensures j))) i)))
 
 pub kind-at-spec : {M : Type 1} → statement M
 kind-at-spec =

@@ -1,5 +1,5 @@
 -- `station::user::leave` meets its contract.
-use Rattle.station.proofs.UserOverMemory.{leaves-master}
+use Rattle.station.proofs.UserOverMemory.{leaves_master}
 use Rattle.std.proofs.Common.{rules}
 use Rattle.station.proofs.user.leave.Statement.{statement}
 use Rattle.station.proofs.user.leave.Tie as tie
@@ -21,7 +21,7 @@ same_length c = search rules
 
 returns : tie.Need-returns
 returns c =
-    leaves-master _ _ c.before.before.before.before.before.before.before.control.ensures c.before.before.carry_over.ensures c.before.before.before.before.busy-in.ensures c.before.before.before.clear-on.ensures
+    leaves_master _ _ c.before.before.before.before.before.before.before.control.ensures c.before.before.carry_over.ensures c.before.before.before.before.busy-in.ensures c.before.before.before.clear-on.ensures
 
 pub leave_spec : {M : Type 1} → statement M
 leave_spec =

@@ -1,10 +1,10 @@
 -- `station::user::new_diagnosis` meets its contract.
 use Rattle.std.proofs.Common.{◌≤◌, leb, [], ◌∷◌, refl, arith, rules, leb-true}
 use borrow.Author.Tests.{not-false}
-use Rattle.state.proofs.Tests.{all-at}
-use Rattle.state.proofs.Damage.{fronted-same}
-use Rattle.steps.specs.User.{newDiagnosis}
-use Rattle.station.proofs.UserOverMemory.{delays-diagnosis, changes-diagnosis}
+use Rattle.state.proofs.Tests.{all_at}
+use Rattle.state.proofs.Damage.{fronted_same}
+use Rattle.steps.specs.User.{new_diagnosis}
+use Rattle.station.proofs.UserOverMemory.{delays_diagnosis, changes_diagnosis}
 use Rattle.station.proofs.user.new_diagnosis.Statement.{statement}
 use Rattle.station.proofs.user.new_diagnosis.Tie as tie
 
@@ -21,7 +21,7 @@ same_length : tie.Need-same-length
 same_length c = search rules
 
 returns : tie.Need-returns
-unfolding newDiagnosis
+unfolding new_diagnosis
 returns c =
     rw (← c.before.before.before.before.setup.ensures, c.if1.true) (record { answers = refl; leaves = refl })
 
@@ -32,7 +32,7 @@ same-length-2 : tie.Need-same-length-2
 same-length-2 c = search rules
 
 returns-2 : tie.Need-returns-2
-unfolding newDiagnosis
+unfolding new_diagnosis
 returns-2 c =
     rw (
       ← c.before.before.before.before.before.before.setup.ensures,
@@ -50,7 +50,7 @@ ranged c =
     let most = c.before.before.before.before.setup.result.diagnosis_len in
     let tests = leb 6 d.count ∷ leb d.count most ∷ leb d.flags 7 ∷ [] in
     let t = not-false _ c.if1.false in
-    (leb-true d.count most (all-at tests 1 t), leb-true d.flags 7 (all-at tests 2 t))
+    (leb-true d.count most (all_at tests 1 t), leb-true d.flags 7 (all_at tests 2 t))
 
 cast-n : tie.Need-overflow-cast-n
 cast-n c = let h = ranged c.before.before in omega (arith, c.before.before.before.struct_known.given)
@@ -73,13 +73,13 @@ same-length-3 c = search rules
 returns-3 : tie.Need-returns-3
 returns-3 c =
     let d = c.before.before.before.before.before.before.before.before in
-    delays-diagnosis _ _ d.before.before.before.before.control.ensures d.before.before.before.before.before.before.setup.ensures _ _ d.before.before.if1.false
+    delays_diagnosis _ _ d.before.before.before.before.control.ensures d.before.before.before.before.before.before.setup.ensures _ _ d.before.before.if1.false
     d.before.is-delayed.ensures
     d.if2.false
     c.before.before.before.before.before.before.diagnosis-leaves-in.ensures
     c.before.before.before.before.before.if3.true
     c.before.before.before.before.delaying.ensures
-    (c.before.before.save-control.ensures _ (fronted-same _ _ d.before.before.before.before.before.before.before.before.before.requires))
+    (c.before.before.save-control.ensures _ (fronted_same _ _ d.before.before.before.before.before.before.before.before.before.requires))
 
 diagnosed-requires : tie.Need-diagnosed-requires
 diagnosed-requires c κs = search rules
@@ -93,13 +93,13 @@ same-length-4 c = search rules
 returns-4 : tie.Need-returns-4
 returns-4 c =
     let d = c.before.before.before.before.before.before.before.before in
-    changes-diagnosis _ _ d.before.before.before.before.control.ensures d.before.before.before.before.before.before.setup.ensures _ _ d.before.before.if1.false
+    changes_diagnosis _ _ d.before.before.before.before.control.ensures d.before.before.before.before.before.before.setup.ensures _ _ d.before.before.if1.false
     d.before.is-delayed.ensures
     d.if2.false
     c.before.before.before.before.before.before.diagnosis-leaves-in.ensures
     c.before.before.before.before.before.if3.false
     c.before.before.before.diagnosed.ensures
-    (c.before.before.change-diagnosis.ensures _ refl (fronted-same _ _ d.before.before.before.before.before.before.before.before.before.requires))
+    (c.before.before.change-diagnosis.ensures _ refl (fronted_same _ _ d.before.before.before.before.before.before.before.before.before.requires))
 
 pub new-diagnosis-spec : {M : Type 1} → statement M
 new-diagnosis-spec =

@@ -3,9 +3,9 @@ use Rattle.std.proofs.Common.{◌≡◌, ◌+◌, ◌<◌, true, length, sym, re
 use borrow.Author.Tests.{not-true, not-false}
 use Rattle.state.specs.Unpack.{unpacked}
 use Rattle.rules.specs.Kinds.{in_range}
-use Rattle.steps.specs.User.{readOctet}
+use Rattle.steps.specs.User.{read_octet}
 use Rattle.station.proofs.KindsInMemory.{reached}
-use Rattle.steps.proofs.Holding.{holds-safe}
+use Rattle.steps.proofs.Holding.{holds_safe}
 use Rattle.station.proofs.user.read_octet.Statement.{statement}
 use Rattle.station.proofs.user.read_octet.Tie as tie
 
@@ -19,13 +19,13 @@ in-range-requires c κs = search rules
 tested : (c : tie.After-in-range)
     → in_range (unpacked c.before.before.before.args.mem.now).setup
     c.before.before.before.args.kind c.before.before.before.args.index
-    ≡ c.in-range.result
+    ≡ c.in_range_lem.result
 tested c =
     let a = c.before.before.before.args in
-    sym (c.in-range.ensures ∙ (λ i. in_range (c.before.setup.ensures i) a.kind a.index))
+    sym (c.in_range_lem.ensures ∙ (λ i. in_range (c.before.setup.ensures i) a.kind a.index))
 
 returns : tie.Need-returns
-unfolding readOctet
+unfolding read_octet
 returns c =
     rw (tested c.before ∙ not-true _ c.if1.true) (record { answers = refl; states = refl; leaves = refl })
 
@@ -33,17 +33,17 @@ absent-requires : tie.Need-absent-requires
 absent-requires c κs = search rules
 
 -- the index is in range
-in-range-is : (c : tie.Else1)
+in_range_is : (c : tie.Else1)
     → in_range (unpacked c.before.before.before.before.args.mem.now).setup
     c.before.before.before.before.args.kind c.before.before.before.before.args.index
     ≡ true
-in-range-is c = tested c.before ∙ not-false _ c.if1.false
+in_range_is c = tested c.before ∙ not-false _ c.if1.false
 
 returns-2 : tie.Need-returns-2
-unfolding readOctet
+unfolding read_octet
 returns-2 c =
     rw (
-      in-range-is c.before.before,
+      in_range_is c.before.before,
       sym c.before.absent.ensures ∙ c.if2.true,
     )
     (record { answers = refl; states = refl; leaves = refl })
@@ -59,7 +59,7 @@ lies c =
     let d = c.before.before.before.before.before.before.before in
     let m = d.args.mem.now in
     rw c.kind_at.ensures
-    (reached (unpacked m) m d.args.kind d.args.index (holds-safe m (unpacked m) d.requires) (in-range-is c.before.before.before)).1
+    (reached (unpacked m) m d.args.kind d.args.index (holds_safe m (unpacked m) d.requires) (in_range_is c.before.before.before)).1
 
 add-t12 : tie.Need-overflow-add-t12
 add-t12 c = let h = lies c in omega (arith, c.before.before.before.before.before.before.before.well-formed)
@@ -73,11 +73,11 @@ cast-t15 c =
     omega (arith, c.shared-slice-known2.given (c.before.kind_at.result + i))
 
 returns-3 : tie.Need-returns-3
-unfolding readOctet
+unfolding read_octet
 returns-3 c =
     let d = c.before in
     rw (
-      in-range-is d.before.before.before,
+      in_range_is d.before.before.before,
       sym d.before.before.absent.ensures ∙ d.before.if2.false,
       ← d.kind_at.ensures,
     )

@@ -2,11 +2,11 @@
 use Rattle.std.proofs.Common.{◌≡◌, ◌+◌, ◌<◌, true, ◌&&◌, [], ◌∷◌, length, sym, refl, ◌∙◌, arith, rules}
 use borrow.Author.Tests.{not-true, not-false}
 use Rattle.state.specs.Unpack.{unpacked}
-use Rattle.state.proofs.Tests.{all-at}
+use Rattle.state.proofs.Tests.{all_at}
 use Rattle.rules.specs.Kinds.{in_range, writable}
-use Rattle.steps.specs.User.{writeOctet}
+use Rattle.steps.specs.User.{write_octet}
 use Rattle.station.proofs.KindsInMemory.{reached}
-use Rattle.steps.proofs.Holding.{holds-safe}
+use Rattle.steps.proofs.Holding.{holds_safe}
 use Rattle.station.proofs.user.write_octet.Statement.{statement}
 use Rattle.station.proofs.user.write_octet.Tie as tie
 
@@ -24,15 +24,15 @@ tested : (c : tie.After-in-range)
     → (writable c.before.before.before.before.args.kind
     && in_range (unpacked c.before.before.before.before.args.mem.now).setup
     c.before.before.before.before.args.kind c.before.before.before.before.args.index)
-    ≡ (writable c.before.before.before.before.args.kind && c.in-range.result)
+    ≡ (writable c.before.before.before.before.args.kind && c.in_range_lem.result)
 tested c =
     let a = c.before.before.before.before.args in
     λ i.
     writable a.kind
-    && sym (c.in-range.ensures ∙ (λ j. in_range (c.before.setup.ensures j) a.kind a.index)) i
+    && sym (c.in_range_lem.ensures ∙ (λ j. in_range (c.before.setup.ensures j) a.kind a.index)) i
 
 returns : tie.Need-returns
-unfolding writeOctet
+unfolding write_octet
 returns c =
     rw (tested c.before ∙ not-true _ c.if1.true) (record { answers = refl; states = refl; leaves = refl })
 
@@ -43,18 +43,18 @@ same-length-2 : tie.Need-same-length-2
 same-length-2 c = search rules
 
 -- the kind is written and the index in range
-in-range-is : (c : tie.Else1)
+in_range_is : (c : tie.Else1)
     → (writable c.before.before.before.before.before.args.kind
     && in_range (unpacked c.before.before.before.before.before.args.mem.now).setup
     c.before.before.before.before.before.args.kind c.before.before.before.before.before.args.index)
     ≡ true
-in-range-is c = tested c.before ∙ not-false _ c.if1.false
+in_range_is c = tested c.before ∙ not-false _ c.if1.false
 
 returns-2 : tie.Need-returns-2
-unfolding writeOctet
+unfolding write_octet
 returns-2 c =
     rw (
-      in-range-is c.before.before.before,
+      in_range_is c.before.before.before,
       sym c.before.absent.ensures ∙ c.if2.true,
     )
     (record { answers = refl; states = refl; leaves = refl })
@@ -71,8 +71,8 @@ lies c =
     let m = d.args.mem.now in
     let tests = writable d.args.kind ∷ in_range (unpacked m).setup d.args.kind d.args.index ∷ [] in
     rw c.kind_at.ensures
-    (reached (unpacked m) m d.args.kind d.args.index (holds-safe m (unpacked m) d.requires)
-    (all-at tests 1 (in-range-is c.before.before.before.before.before))).1
+    (reached (unpacked m) m d.args.kind d.args.index (holds_safe m (unpacked m) d.requires)
+    (all_at tests 1 (in_range_is c.before.before.before.before.before))).1
 
 add-mem : tie.Need-overflow-add-mem
 add-mem c = let h = lies c in omega (arith, c.before.before.before.before.before.before.before.before.before.before.well-formed)
@@ -84,10 +84,10 @@ same-length-3 : tie.Need-same-length-3
 same-length-3 c = search rules
 
 returns-3 : tie.Need-returns-3
-unfolding writeOctet
+unfolding write_octet
 returns-3 c =
     rw (
-      in-range-is c.before.before.before.before.before,
+      in_range_is c.before.before.before.before.before,
       sym c.before.before.before.absent.ensures ∙ c.before.before.if2.false,
       ← c.kind_at.ensures,
     )

@@ -43,7 +43,7 @@ returns-2 c =
     let k = f.before.before in
     let d = k.before.before in
     passed _ _ _ d.before.is-well.ensures d.if1.false
-    (renews _ _ _ _ k.control.ensures f.present-flags.ensures n.new-diagnosis.ensures)
+    (renews _ _ _ _ k.control.ensures f.present-flags.ensures n.new_diagnosis_lem.ensures)
 
 pub renew-diagnosis-spec : {M : Type 1} → statement M
 renew-diagnosis-spec =

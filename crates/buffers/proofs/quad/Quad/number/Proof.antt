@@ -3,7 +3,7 @@ use Prim.Native.Nat.{◌+◌, ◌-◌, ◌*◌, ◌%◌, ◌<◌}
 use native.Mathlib.Omega.{arith}
 use lib.ListN.{get_or}
 use lib.Dec.{ltb}
-use Rattle.buffers.proofs.Flag.{flag, flag-le, flag-below}
+use Rattle.buffers.proofs.Flag.{flag, flag_le, flag_below}
 use borrow.Author.Rules.{rules}
 use Rattle.buffers.proofs.quad.Quad.number.Statement.{statement}
 use Rattle.buffers.proofs.quad.Quad.number.Tie as tie
@@ -35,7 +35,7 @@ cast-result c = search rules
 sub-result : tie.Need-overflow-sub-result
 sub-result c =
     let p = c.before.before.before.before.before.before.args.t1.place in
-    flag-below (get_or p 0 0) (get_or p 1 0)
+    flag_below (get_or p 0 0) (get_or p 1 0)
 
 mul-result-2 : tie.Need-overflow-mul-result-2
 mul-result-2 c = search rules
@@ -47,7 +47,7 @@ cast-result-2 : tie.Need-overflow-cast-result-2
 cast-result-2 c = search rules
 
 add-result-2 : tie.Need-overflow-add-result-2
-add-result-2 c = let h = flag-le (ltb (get_or c.before.before.before.before.before.before.args.t1.place 3 0) (get_or c.before.before.before.before.before.before.args.t1.place 2 0)) in omega arith
+add-result-2 c = let h = flag_le (ltb (get_or c.before.before.before.before.before.before.args.t1.place 3 0) (get_or c.before.before.before.before.before.before.args.t1.place 2 0)) in omega arith
 
 returns : tie.Need-returns
 returns c =

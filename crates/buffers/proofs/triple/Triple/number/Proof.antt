@@ -5,7 +5,7 @@ use mathlib.Core.Path.{ap}
 use lib.ListN.{get_or}
 use lib.Dec.{ltb}
 use borrow.Author.Rules.{rules}
-use Rattle.buffers.proofs.Flag.{flag, flag-le}
+use Rattle.buffers.proofs.Flag.{flag, flag_le}
 use Rattle.buffers.proofs.triple.Triple.number.Statement.{statement}
 use Rattle.buffers.proofs.triple.Triple.number.Tie as tie
 
@@ -27,7 +27,7 @@ cast-result c = search rules
 add-result : tie.Need-overflow-add-result
 add-result c =
     let p = c.before.before.before.args.t1.place in
-    let h = flag-le (ltb (get_or p 2 0) (get_or p 1 0)) in
+    let h = flag_le (ltb (get_or p 2 0) (get_or p 1 0)) in
     omega arith
 
 returns : tie.Need-returns

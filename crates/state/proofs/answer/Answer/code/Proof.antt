@@ -6,7 +6,7 @@ use lib.IntN.{pos, neg_ℤ, ◌-ℤ◌, +ℤ_idl}
 use mir.Syntax.{w64}
 use mir.Val.{SFits, to_z}
 use mir.Facts.{to_z_pos, to_z-of_z}
-use Rattle.state.specs.Answer.{answerNumber}
+use Rattle.state.specs.Answer.{answer_number}
 use borrow.Author.Rules.{rules}
 use Rattle.state.proofs.answer.Answer.code.Statement.{statement}
 use Rattle.state.proofs.answer.Answer.code.Tie as tie
@@ -45,7 +45,7 @@ returns : tie.Need-returns
 returns c =
     let n = c.before.self.given.0.0 in
     let h : n < 2 ^ 63 = omega arith in
-    to_z_pos w64 h ∙ sym (ap answerNumber c.before.self.given.1)
+    to_z_pos w64 h ∙ sym (ap answer_number c.before.self.given.1)
 
 returns-2 : tie.Need-returns-2
 returns-2 c =
@@ -53,7 +53,7 @@ returns-2 c =
     let h : n < 2 ^ 63 = omega arith in
     rw (negated n h) (to_z-of_z (negated_fits n h))
     ∙ ap (λ (k : ℕ). neg_ℤ (pos k)) c.number.ensures
-    ∙ sym (ap answerNumber c.before.before.self2.given.1)
+    ∙ sym (ap answer_number c.before.before.self2.given.1)
 
 pub code-spec : {M : Type 1} → statement M
 code-spec =

@@ -1,6 +1,6 @@
 -- `state::chain::Chain::new` meets its contract.
 use native.Mathlib.Omega.{arith}
-use Rattle.state.proofs.SetCodes.{drawn-below}
+use Rattle.state.proofs.SetCodes.{drawn_below}
 use borrow.Author.Rules.{rules}
 use Rattle.state.proofs.chain.Chain.new.Statement.{statement}
 use Rattle.state.proofs.chain.Chain.new.Tie as tie
@@ -9,14 +9,14 @@ drawn-number-requires : tie.Need-drawn-number-requires
 drawn-number-requires c κs = search rules
 
 mul-code : tie.Need-overflow-mul-code
-mul-code c = let h = drawn-below _ c.before.args.drawn c.drawn-number.ensures in record { fits = omega arith }
+mul-code c = let h = drawn_below _ c.before.args.drawn c.drawn-number.ensures in record { fits = omega arith }
 
 bit-requires : tie.Need-bit-requires
 bit-requires c κs = search rules
 
 add-code : tie.Need-overflow-add-code
 add-code c =
-    let h = drawn-below _ c.before.before.args.drawn c.before.drawn-number.ensures in
+    let h = drawn_below _ c.before.before.args.drawn c.before.drawn-number.ensures in
     let b = c.bit.ensures.1 in
     record { fits = omega arith }
 

@@ -1,5 +1,5 @@
 use Rattle.std.proofs.Common.{◌∙◌, rules}
-use Rattle.telegram.proofs.Steps.{le_good, le-high, le_low}
+use Rattle.telegram.proofs.Steps.{le_good, le_high, le_low}
 use Rattle.telegram.proofs.reader.Reader.on_le.Statement.{statement}
 use Rattle.telegram.proofs.reader.Reader.on_le.Tie as tie
 
@@ -13,7 +13,7 @@ off-requires-2 : tie.Need-off-requires-2
 off-requires-2 c κs = search rules
 
 returns-2 : tie.Need-returns-2
-returns-2 c = c.off2.ensures ∙ le-high _ _ c.before.before.if1.false c.before.if2.true
+returns-2 c = c.off2.ensures ∙ le_high _ _ c.before.before.if1.false c.before.if2.true
 
 sub-begun : tie.Need-overflow-sub-begun
 sub-begun c = search rules

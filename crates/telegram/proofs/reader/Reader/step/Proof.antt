@@ -1,5 +1,5 @@
 use Rattle.std.proofs.Common.{◌∙◌, rules}
-use Rattle.telegram.proofs.Steps.{at-phase, done-off, off-off}
+use Rattle.telegram.proofs.Steps.{at_phase, done_off, off_off}
 use Rattle.telegram.proofs.reader.Reader.step.Statement.{statement}
 use Rattle.telegram.proofs.reader.Reader.step.Tie as tie
 
@@ -82,43 +82,43 @@ off-requires-2 : tie.Need-off-requires-2
 off-requires-2 c κs = search rules
 
 returns : tie.Need-returns
-returns c = c.on-start.ensures ∙ at-phase _ _ _ c.before.enum_told.given.1
+returns c = c.on-start.ensures ∙ at_phase _ _ _ c.before.enum_told.given.1
 
 returns-2 : tie.Need-returns-2
-returns-2 c = c.on-le.ensures ∙ at-phase _ _ _ c.before.enum-told2.given.1
+returns-2 c = c.on-le.ensures ∙ at_phase _ _ _ c.before.enum-told2.given.1
 
 returns-3 : tie.Need-returns-3
-returns-3 c = c.on-le-again.ensures ∙ at-phase _ _ _ c.before.enum-told3.given.1
+returns-3 c = c.on-le-again.ensures ∙ at_phase _ _ _ c.before.enum-told3.given.1
 
 returns-4 : tie.Need-returns-4
-returns-4 c = c.on-sd-again.ensures ∙ at-phase _ _ _ c.before.enum-told4.given.1
+returns-4 c = c.on-sd-again.ensures ∙ at_phase _ _ _ c.before.enum-told4.given.1
 
 returns-5 : tie.Need-returns-5
-returns-5 c = c.on-da.ensures ∙ at-phase _ _ _ c.before.enum-told5.given.1
+returns-5 c = c.on-da.ensures ∙ at_phase _ _ _ c.before.enum-told5.given.1
 
 returns-6 : tie.Need-returns-6
-returns-6 c = c.on-sa.ensures ∙ at-phase _ _ _ c.before.enum-told6.given.1
+returns-6 c = c.on-sa.ensures ∙ at_phase _ _ _ c.before.enum-told6.given.1
 
 returns-7 : tie.Need-returns-7
-returns-7 c = c.on-fc.ensures ∙ at-phase _ _ _ c.before.enum-told7.given.1
+returns-7 c = c.on-fc.ensures ∙ at_phase _ _ _ c.before.enum-told7.given.1
 
 returns-8 : tie.Need-returns-8
-returns-8 c = c.on-dsap.ensures ∙ at-phase _ _ _ c.before.enum-told8.given.1
+returns-8 c = c.on-dsap.ensures ∙ at_phase _ _ _ c.before.enum-told8.given.1
 
 returns-9 : tie.Need-returns-9
-returns-9 c = c.on-ssap.ensures ∙ at-phase _ _ _ c.before.enum-told9.given.1
+returns-9 c = c.on-ssap.ensures ∙ at_phase _ _ _ c.before.enum-told9.given.1
 
 returns-10 : tie.Need-returns-10
-returns-10 c = c.on-body.ensures ∙ at-phase _ _ _ c.before.enum-told10.given.1
+returns-10 c = c.on-body.ensures ∙ at_phase _ _ _ c.before.enum-told10.given.1
 
 returns-11 : tie.Need-returns-11
-returns-11 c = c.on-end.ensures ∙ at-phase _ _ _ c.before.enum-told11.given.1
+returns-11 c = c.on-end.ensures ∙ at_phase _ _ _ c.before.enum-told11.given.1
 
 returns-12 : tie.Need-returns-12
-returns-12 c = c.off.ensures ∙ done-off _ _ ∙ at-phase _ _ _ c.before.enum-told12.given.1
+returns-12 c = c.off.ensures ∙ done_off _ _ ∙ at_phase _ _ _ c.before.enum-told12.given.1
 
 returns-13 : tie.Need-returns-13
-returns-13 c = c.off2.ensures ∙ off-off _ _ ∙ at-phase _ _ _ c.before.enum-told13.given.1
+returns-13 c = c.off2.ensures ∙ off_off _ _ ∙ at_phase _ _ _ c.before.enum-told13.given.1
 
 pub step_spec : {M : Type 1} → statement M
 step_spec =

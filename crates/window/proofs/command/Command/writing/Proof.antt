@@ -4,13 +4,13 @@ use native.Mathlib.Omega.{arith}
 use mathlib.Core.Path.{refl, ap}
 use Rattle.rules.specs.Call.{acknowledge}
 use Rattle.window.specs.Table.{whole, calls, table}
-use Rattle.window.proofs.Found.{writes_at, writes_nothing, writes-none}
+use Rattle.window.proofs.Found.{writes_at, writes_nothing, writes_none}
 use borrow.Author.Rules.{rules}
 use Rattle.window.proofs.command.Command.writing.Statement.{statement}
 use Rattle.window.proofs.command.Command.writing.Tie as tie
 
 returns : tie.Need-returns
-returns c = λ k. writes-none _ _ c.if1.true k _
+returns c = λ k. writes_none _ _ c.if1.true k _
 
 cell-requires : tie.Need-cell-requires
 cell-requires c κs = search rules
