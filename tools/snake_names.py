@@ -22,6 +22,10 @@ RECORD_OR_DATA = re.compile(r"^ *(?:pub )?(?:record|data) ", re.M)
 BESIDE_OTHERS = {"bit-and", "bit-or", "bit-xor", "header-at", "in-body", "in-range", "next-at", "on-memory"}
 
 
+# a lemma that has its name from one of the library, which files import beside it
+OF_THE_LIBRARY = {"and-true"}
+
+
 def files(root):
     for end in ("rt", "antt"):
         yield from sorted(p for p in glob.glob(f"{root}/crates/**/*.{end}", recursive=True) if "/out/" not in p)
@@ -49,6 +53,8 @@ def declared(root):
         text = read(p)
         for m in SIGNATURE.finditer(text):
             name, type_ = m.groups()
+            if name in OF_THE_LIBRARY:
+                continue
             if re.match(r"(tie|goal|goals)\.", type_) or re.search(r"[◌\u2260-\u22ff]", name):
                 continue
             if name.endswith("-spec") and "statement" in type_:

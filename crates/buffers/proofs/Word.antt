@@ -1,7 +1,7 @@
 -- The event word after its operations, event by event.
 use Prim.Native.Nat.{ℕ, ◌^◌, ◌<◌}
 use mathlib.Core.Path.{◌≡◌, refl, ap, ◌∙◌}
-use mathlib.Core.Bool.{Bool, true, false, not, cond, ◌&&◌, ◌||◌, and_true, and-false, or-true, or-false}
+use mathlib.Core.Bool.{Bool, true, false, not, cond, ◌&&◌, ◌||◌, and-true, and-false, or-true, or-false}
 use lib.Dec.{eqb, ltb}
 use borrow.Author.Tests.{eq-eqb, ne_eqb, lt-ltb}
 use Rattle.buffers.specs.declared.events.Events.{Events}
@@ -56,7 +56,7 @@ cleared_same e n h = cleared_bit e n n ∙ ap (λ t. bit e.word n && not t) (nam
 
 -- every other is as it was
 pub cleared_other : (e : Events) (k n : ℕ) → (k ≡ n → ⊥) → bit (cleared e k).word n ≡ bit e.word n
-cleared_other e k n d = cleared_bit e k n ∙ ap (λ t. bit e.word n && not t) (names_other k n d) ∙ and_true (bit e.word n)
+cleared_other e k n d = cleared_bit e k n ∙ ap (λ t. bit e.word n && not t) (names_other k n d) ∙ and-true (bit e.word n)
 
 -- ---- acknowledged
 
@@ -78,14 +78,14 @@ acknowledged_keeps e mask n h =
     acknowledged_bit e mask n ∙ ap (λ t. bit e.word n && not (bit mask n && not t)) h ∙ go (bit e.word n) (bit mask n)
   where
     go : (s t : Bool) → (s && not (t && false)) ≡ s
-    go s true = and_true s
-    go s false = and_true s
+    go s true = and-true s
+    go s false = and-true s
 
 -- every other ends exactly if the mask has it
 pub acknowledged_clears : (e : Events) (mask n : ℕ) → bit kept_events n ≡ false → bit (acknowledged e mask).word n ≡ (bit e.word n && not (bit mask n))
 acknowledged_clears e mask n h =
     acknowledged_bit e mask n ∙ ap (λ t. bit e.word n && not (bit mask n && not t)) h
-    ∙ ap (λ t. bit e.word n && not t) (and_true (bit mask n))
+    ∙ ap (λ t. bit e.word n && not t) (and-true (bit mask n))
 
 -- ---- what the specs claim
 

@@ -3,7 +3,7 @@ ghost use Rattle.std.specs.Prelude.{◌≡◌};
 ghost use Rattle.buffers.specs.Events.{only, no_events, raised, cleared, acknowledged, pending_of};
 
 // The events that are set: event n is bit n of the word.
-#[derive(Drop)]
+#[derive(Clone, Copy)]
 pub struct Events {
     pub word: u16,
 }

@@ -6,7 +6,7 @@ ghost use Rattle.buffers.specs.Number.{number_of4, places_of4, numbered4};
 
 // One value holding its roles: the places of fill, next, held and back in this order, whether next is new, and whether back holds
 // outputs that sync holds back.
-#[derive(Drop)]
+#[derive(Clone, Copy)]
 pub struct Quad {
     pub place: [u8; 4],
     pub fresh: bool,

@@ -5,7 +5,7 @@ ghost use Rattle.buffers.specs.Triple.{initial, published, taken, handed_over, b
 ghost use Rattle.buffers.specs.Number.{number_of, places_of, numbered};
 
 // One value holding its roles: the places of fill, next and held in this order, and whether next is new.
-#[derive(Drop)]
+#[derive(Clone, Copy)]
 pub struct Triple {
     pub place: [u8; 3],
     pub fresh: bool,

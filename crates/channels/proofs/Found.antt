@@ -60,11 +60,11 @@ told_damaged false x e = refl
 pub each_add : (p : ℕ → Bool) (k i j : ℕ) → each_from p k (i + j) ≡ (each_from p k i && each_from p (k + i) j)
 unfolding each_from
 each_add p k i zero =
-    let e : i + 0 ≡ i = omega arith in ap (each_from p k) e ∙ sym (and_true (each_from p k i))
+    let e : i + 0 ≡ i = omega arith in ap (each_from p k) e ∙ sym (and-true (each_from p k i))
   where
-    and_true : (t : Bool) → (t && true) ≡ t
-    and_true true = refl
-    and_true false = refl
+    and-true : (t : Bool) → (t && true) ≡ t
+    and-true true = refl
+    and-true false = refl
 each_add p k i (suc j) =
     let e : i + suc j ≡ suc (i + j) = omega arith in
     let f : k + (i + j) ≡ k + i + j = omega arith in

@@ -3,7 +3,7 @@ ghost use Rattle.std.specs.Prelude.{◌≡◌, ◌<◌, ◌≤◌, length};
 ghost use Rattle.channels.specs.Image.{channels, rows_end, loaded, saved};
 
 // The lengths of both buffers, 0 and 0 for a channel that is not set up, and how many octets of each are in use, 0 for none.
-#[derive(Drop)]
+#[derive(Clone, Copy)]
 pub struct Channel {
     pub indication_len: u8,
     pub response_len: u8,

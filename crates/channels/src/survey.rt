@@ -8,7 +8,7 @@ ghost use Rattle.channels.specs.Places.{lengths_in, room_from, surveyed};
 use ranges::{checks, word};
 
 // How much room the buffers of channels take, or that a channel breaks the rules.
-#[derive(Drop)]
+#[derive(Clone, Copy)]
 pub enum Survey {
     Room(usize),
     Damaged,

@@ -1,5 +1,6 @@
 // An exchange on the bench. One memory is carried by the exported calls alone; in the other the state is unpacked, held in
 // a local, lent for every octet and Tick and packed at the end. What the exported calls then answer of each is printed.
+#![tactic(auto)]
 use libc::STDOUT_FILENO;
 use state::answer::Answer;
 use station::calls;

@@ -1,7 +1,7 @@
 -- Diag_Flag stays set by every call that completes no new request: only the owner's Slave_Diag clears it, and that is a request.
 use Prim.Native.Nat.{ℕ}
 use mathlib.Core.Path.{◌≡◌, refl, sym, ap, ◌∙◌}
-use mathlib.Core.Bool.{Bool, true, false, not, ◌&&◌, and_true}
+use mathlib.Core.Bool.{Bool, true, false, not, ◌&&◌, and-true}
 use mathlib.Core.List.{List, [], ◌∷◌, ◌++◌}
 use lib.Dec.{eqb, leb}
 use Rattle.buffers.specs.Events.{watchdog_event}
@@ -121,7 +121,7 @@ old_flag : (g : Setup) (c : Control) (b : Occupied) (r : Request) (octets : Data
 old_flag g c b r octets n f =
     let k = refilled_flag g c r f in
     by_test FlagAfter (is_repeat g c r) (repeated g c r) (chained g r (served_by g c b r octets)) (λ _. k)
-    (λ e. let none : is_request g r ≡ false = sym (and_true (is_request g r)) ∙ (λ i. is_request g r && not (sym e i)) ∙ n in
+    (λ e. let none : is_request g r ≡ false = sym (and-true (is_request g r)) ∙ (λ i. is_request g r && not (sym e i)) ∙ n in
     serve_flag g (refilled g c r) b r octets (service_of g r) (λ h. no_true (sym none ∙ request_asked g r h)) k)
 
 -- ---------------------------------------------------------------------------------------------------

@@ -2,7 +2,7 @@
 -- delayed by calls that complete no new request.
 use Prim.Native.Nat.{ℕ}
 use mathlib.Core.Path.{◌≡◌, refl, sym, ap, ◌∙◌}
-use mathlib.Core.Bool.{Bool, false, not, ◌&&◌, and_true}
+use mathlib.Core.Bool.{Bool, false, not, ◌&&◌, and-true}
 use mathlib.Core.List.{List, [], ◌∷◌, ◌++◌}
 use mathlib.Core.Logic.{⊎_elim}
 use lib.Dec.{eqb, leb}
@@ -159,7 +159,7 @@ unfolding after_reply diagnosed
 catches_up l f =
     by_test Undelayed (delayed l.control && not (diagnosis_leaves l)) (diagnosis_changed l (caught_up l.control)) l
     (λ _. record { no_diagnosis = f; none_delayed = refl })
-    (λ d. record { no_diagnosis = f; none_delayed = sym (and_true (delayed l.control)) ∙ (λ i. delayed l.control && not (sym f i && some l.line.reply)) ∙ d })
+    (λ d. record { no_diagnosis = f; none_delayed = sym (and-true (delayed l.control)) ∙ (λ i. delayed l.control && not (sym f i && some l.line.reply)) ∙ d })
 
 -- so nothing is delayed behind settling
 settle_undelayed : (l : Ledger) → l.line.diagnosing ≡ false → Undelayed (settle l)

@@ -1,5 +1,6 @@
 // States and channels with every field at an extreme value go through save and load; a memory with one octet changed, or with other lengths
 // and less room, is damaged or not.
+#![tactic(auto)]
 use buffers::events::Events;
 use buffers::quad::Quad;
 use buffers::triple::Triple;

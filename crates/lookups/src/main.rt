@@ -1,5 +1,6 @@
 // The lookup of each service point, and of DSAPs that are none: the DSAP, what was found, and at how many entries of the table the lookup
 // looked.
+#![tactic(auto)]
 use libc::STDOUT_FILENO;
 use points::{Found, Point, look_up};
 

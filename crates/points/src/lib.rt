@@ -1,10 +1,11 @@
 // The service access points of document 01, and the lookup of one by its number (document 02, Req 03).
+#![tactic(auto)]
 ghost use Rattle.std.specs.Prelude.{◌≡◌};
 ghost use Rattle.points.specs.Points.{number_of, table};
 ghost use Rattle.points.specs.Lookup.{Promised};
 
 // A service access point, by its service.
-#[derive(Drop)]
+#[derive(Clone, Copy)]
 pub enum Point {
     ReadInputs,
     ReadOutputs,
@@ -16,14 +17,14 @@ pub enum Point {
 }
 
 // What a lookup found.
-#[derive(Drop)]
+#[derive(Clone, Copy)]
 pub enum Found {
     Hit(Point),
     None,
 }
 
 // What a lookup found, and at how many entries it looked.
-#[derive(Drop)]
+#[derive(Clone, Copy)]
 pub struct Lookup {
     pub found: Found,
     pub looked_at: usize,

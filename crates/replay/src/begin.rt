@@ -4,7 +4,7 @@ use crate::text;
 use crate::text::Span;
 
 // A number of the line, and where it ends.
-#[derive(Drop)]
+#[derive(Clone, Copy)]
 struct Field {
     ok: bool,
     value: u32,
@@ -12,7 +12,7 @@ struct Field {
 }
 
 // What the line asks for, and where the digits of its slice and of the channels' lengths stand.
-#[derive(Drop)]
+#[derive(Clone, Copy)]
 struct Asked {
     ok: bool,
     memory: u32,
@@ -28,7 +28,7 @@ struct Asked {
 }
 
 // What a Start said, and the length of the memory from then on.
-#[derive(Drop)]
+#[derive(Clone, Copy)]
 pub struct Begun {
     pub said: Said,
     pub len: usize,

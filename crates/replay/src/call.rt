@@ -2,7 +2,7 @@
 use crate::text;
 use crate::text::{Number, Span};
 
-#[derive(Drop)]
+#[derive(Clone, Copy)]
 pub enum Call {
     Octet(u8),
     Bad(u8),
@@ -26,7 +26,7 @@ pub enum Call {
 }
 
 // What a line says of an access of the window.
-#[derive(Drop)]
+#[derive(Clone, Copy)]
 struct Access {
     ok: bool,
     order: u32,
@@ -34,7 +34,7 @@ struct Access {
 }
 
 // What a line gets: an answer, or that it is no call.
-#[derive(Drop)]
+#[derive(Clone, Copy)]
 pub enum Said {
     Answered(i64),
     Unknown,

@@ -10,6 +10,7 @@
 // none. A Start that is refused leaves the station as it was. Before the first that is accepted the memory is empty, which every other call
 // refuses as damaged.
 // A line that is none of these gets a question mark and its number.
+#![tactic(auto)]
 mod begin;
 mod call;
 mod text;

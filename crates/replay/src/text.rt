@@ -2,21 +2,21 @@
 ghost use Rattle.std.specs.Prelude.{◌≤◌};
 
 // The text from a position to another.
-#[derive(Drop)]
+#[derive(Clone, Copy)]
 pub struct Span {
     pub from: usize,
     pub to: usize,
 }
 
 // A number read, or that there was none.
-#[derive(Drop)]
+#[derive(Clone, Copy)]
 pub struct Number {
     pub ok: bool,
     pub value: u32,
 }
 
 // An octet read, or that there was none.
-#[derive(Drop)]
+#[derive(Clone, Copy)]
 pub struct Octet {
     pub ok: bool,
     pub value: u8,

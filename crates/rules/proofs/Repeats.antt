@@ -2,7 +2,7 @@
 use Prim.Native.Nat.{◌≤◌}
 use native.Mathlib.Omega.{arith}
 use mathlib.Core.Path.{◌≡◌, refl, sym, ap, ◌∙◌}
-use mathlib.Core.Bool.{Bool, true, false, cond, not, ◌&&◌, ◌||◌, and_true}
+use mathlib.Core.Bool.{Bool, true, false, cond, not, ◌&&◌, ◌||◌, and-true}
 use mathlib.Core.Logic.{◌↔◌, ◌⊎◌, inl, inr}
 use lib.Dec.{eqb}
 use borrow.Author.Tests.{eq-eqb, eqb-true}
@@ -114,7 +114,7 @@ module _ (g : Setup) (c : Control) (b : Occupied) (r : Request) (octets : Data) 
       by_test (λ (o : Outcome). (o.control.chain ≡ c.chain) × ((o.drawn ≡ drawn_in c.chain) ⊎ (o.drawn ≡ Nothing))) (is_repeat g c r)
       (repeated g c r) (chained g r first)
       (λ _. ((refilled_alike g c r).chain_same, inl refl))
-      (λ f. let e : is_request g r ≡ false = sym (and_true (is_request g r)) ∙ (λ i. is_request g r && not (sym f i)) ∙ n in
+      (λ f. let e : is_request g r ≡ false = sym (and-true (is_request g r)) ∙ (λ i. is_request g r && not (sym f i)) ∙ n in
       rw e (serve_chain g (refilled g c r) b r octets ∙ (refilled_alike g c r).chain_same, inr (unasked_silent g (refilled g c r) b r octets e).2))
 
 -- ---- Set_Prm

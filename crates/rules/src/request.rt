@@ -1,7 +1,7 @@
 // A complete telegram as the rules see it.
 use telegram::Kind;
 
-#[derive(Drop)]
+#[derive(Clone, Copy)]
 pub struct Request {
     pub kind: Kind,
     pub da: u8,
@@ -14,7 +14,7 @@ pub struct Request {
 }
 
 // The data octets of Set_Prm that the rules look at.
-#[derive(Drop)]
+#[derive(Clone, Copy)]
 pub struct Prm {
     // octet 0: lock, unlock, sync, freeze, watchdog
     pub status: u8,
@@ -31,7 +31,7 @@ pub struct Prm {
 }
 
 // The data octets of a telegram that the rules look at.
-#[derive(Drop)]
+#[derive(Clone, Copy)]
 pub struct Data {
     // Set_Prm's
     pub prm: Prm,
@@ -42,7 +42,7 @@ pub struct Data {
 
 // What the rules look at of the buffers: whether a set of parameters and one of configuration is open, and whether outputs are held
 // back.
-#[derive(Drop)]
+#[derive(Clone, Copy)]
 pub struct Occupied {
     pub parameters: bool,
     pub configuration: bool,
@@ -50,7 +50,7 @@ pub struct Occupied {
 }
 
 // What a telegram asks of the station, by its header alone.
-#[derive(Drop)]
+#[derive(Clone, Copy)]
 pub enum Service {
     Nothing,
     Status,

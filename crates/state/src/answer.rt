@@ -3,7 +3,7 @@ ghost use Rattle.std.specs.Prelude.{◌≡◌};
 ghost use Rattle.state.specs.Answer.{refusal_number, answer_number};
 
 // The refusals, by who causes them.
-#[derive(Drop)]
+#[derive(Clone, Copy)]
 pub enum Refusal {
     // the starter
     MemoryLength,
@@ -20,7 +20,7 @@ pub enum Refusal {
     Cell,
 }
 
-#[derive(Drop)]
+#[derive(Clone, Copy)]
 pub enum Answer {
     Value(u32),
     Refused(Refusal),

@@ -7,7 +7,7 @@ use crate::image::bit;
 use crate::number::{drawn_number, drawn_numbered};
 use crate::state::Drawn;
 
-#[derive(Drop)]
+#[derive(Clone, Copy)]
 pub struct Chain {
     // the number of what it drew, doubled, and its frame count bit
     pub code: u8,

@@ -3,7 +3,7 @@ use crate::chain::Chain;
 use buffers::events::Events;
 
 // The phases of the DP state machine: WAIT_PRM, WAIT_CFG, DATA_EXCH.
-#[derive(Drop)]
+#[derive(Clone, Copy)]
 pub enum Phase {
     WaitPrm,
     WaitCfg,
@@ -11,14 +11,14 @@ pub enum Phase {
 }
 
 // Ticks of 1 ms: what the watchdog is refilled to, 0 where it is off, and how many remain. 10 × 255 × 255 do not fit a word of 16 bits.
-#[derive(Drop)]
+#[derive(Clone, Copy)]
 pub struct Watchdog {
     pub reload: u32,
     pub remaining: u32,
 }
 
 // The flags that diagnosis shows, Diag_Flag, and whether the parameters were judged good.
-#[derive(Drop)]
+#[derive(Clone, Copy)]
 pub struct Flags {
     pub prm_fault: bool,
     pub cfg_fault: bool,
@@ -30,7 +30,7 @@ pub struct Flags {
 }
 
 // Sync and freeze: whether each mode is on, and whether Set_Prm allowed it.
-#[derive(Drop)]
+#[derive(Clone, Copy)]
 pub struct Modes {
     pub sync: bool,
     pub freeze: bool,
@@ -39,14 +39,14 @@ pub struct Modes {
 }
 
 // How many octets diagnosis has, and a new diagnosis that is delayed: its count, 0 where none is, and its flags.
-#[derive(Drop)]
+#[derive(Clone, Copy)]
 pub struct Diagnosis {
     pub count: u8,
     pub delayed_count: u8,
     pub delayed_flags: u8,
 }
 
-#[derive(Drop)]
+#[derive(Clone, Copy)]
 pub struct Control {
     pub phase: Phase,
     // the address of the master that holds the station, or NO_OWNER

@@ -1,5 +1,5 @@
 // What Start is given, as it is kept.
-#[derive(Drop)]
+#[derive(Clone, Copy)]
 pub struct Setup {
     // 0 to 126
     pub address: u8,

@@ -18,7 +18,7 @@ use telegram::reader::Reader;
 use telegram::sender::Sender;
 
 // What Start is asked for: a setup, or why there is none.
-#[derive(Drop)]
+#[derive(Clone, Copy)]
 pub enum Asked {
     Accepted(Setup),
     Declined(Refusal),

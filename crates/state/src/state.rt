@@ -7,14 +7,14 @@ use telegram::reader::Reader;
 use telegram::sender::Sender;
 
 // The output buffers. zeros: what was published last were zeros by the station.
-#[derive(Drop)]
+#[derive(Clone, Copy)]
 pub struct Outputs {
     pub set: Quad,
     pub zeros: bool,
 }
 
 // Received sets of parameters or of configuration: the count of the set that is shown and of the one that waits, 0 for none.
-#[derive(Drop)]
+#[derive(Clone, Copy)]
 pub struct Sets {
     pub set: Triple,
     pub shown: u8,
@@ -22,7 +22,7 @@ pub struct Sets {
 }
 
 // The telegram that is coming. first and second: the data octets 0 and 1 that came last; only Global_Control looks at them.
-#[derive(Drop)]
+#[derive(Clone, Copy)]
 pub struct Incoming {
     pub reader: Reader,
     pub first: u8,
@@ -30,7 +30,7 @@ pub struct Incoming {
 }
 
 // What a telegram draws.
-#[derive(Drop)]
+#[derive(Clone, Copy)]
 pub enum Drawn {
     // no reply
     Nothing,
@@ -50,7 +50,7 @@ pub enum Drawn {
 }
 
 // The first diagnosis octets as they were when the reply was drawn: the three status octets and the master's address.
-#[derive(Drop)]
+#[derive(Clone, Copy)]
 pub struct Header {
     pub status1: u8,
     pub status2: u8,
@@ -59,7 +59,7 @@ pub struct Header {
 }
 
 // The reply in progress. place: the output buffer that Read_Outputs sends from.
-#[derive(Drop)]
+#[derive(Clone, Copy)]
 pub struct Reply {
     pub drawn: Drawn,
     pub sender: Sender,
@@ -67,7 +67,7 @@ pub struct Reply {
     pub header: Header,
 }
 
-#[derive(Drop)]
+#[derive(Clone, Copy)]
 pub struct State {
     pub setup: Setup,
     pub control: Control,

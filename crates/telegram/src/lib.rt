@@ -1,10 +1,11 @@
 // The telegram layer: telegrams of the bus as octets, read and sent one octet after the other.
 // It knows no DP service.
+#![tactic(auto)]
 pub mod reader;
 pub mod sender;
 
 // A telegram's start delimiter: 10 (no data), 68 (1 to 246 data octets), A2 (8 data octets), DC (token).
-#[derive(Drop)]
+#[derive(Clone, Copy)]
 pub enum Kind {
     Sd1,
     Sd2,
@@ -13,7 +14,7 @@ pub enum Kind {
 }
 
 // What the next octet is to the layer above: a data octet, by its number from 0, or none.
-#[derive(Drop)]
+#[derive(Clone, Copy)]
 pub enum Datum {
     Number(u8),
     Nothing,

@@ -5,7 +5,7 @@ ghost use Rattle.telegram.specs.Reading.{start, off, before, moved, summed, afte
 use crate::{Datum, Kind};
 
 // What the next octet is.
-#[derive(Drop)]
+#[derive(Clone, Copy)]
 pub enum Phase {
     Start,
     Le,
@@ -26,7 +26,7 @@ pub enum Phase {
 }
 
 // What a reader tells of the octets since the last gap.
-#[derive(Drop)]
+#[derive(Clone, Copy)]
 pub enum Status {
     // none came
     Fresh,
@@ -36,7 +36,7 @@ pub enum Status {
     Broken,
 }
 
-#[derive(Drop)]
+#[derive(Clone, Copy)]
 pub struct Reader {
     pub phase: Phase,
     pub kind: Kind,

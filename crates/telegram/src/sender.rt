@@ -6,7 +6,7 @@ ghost use Rattle.telegram.specs.Sending.{sn, empty, single, sending, left, asks_
 use crate::{Datum, Kind};
 
 // What is sent next.
-#[derive(Drop)]
+#[derive(Clone, Copy)]
 pub enum Stage {
     Start,
     Le,
@@ -24,7 +24,7 @@ pub enum Stage {
     Empty,
 }
 
-#[derive(Drop)]
+#[derive(Clone, Copy)]
 pub struct Sender {
     pub stage: Stage,
     pub kind: Kind,
@@ -40,7 +40,7 @@ pub struct Sender {
 }
 
 // An octet, and the sender after it.
-#[derive(Drop)]
+#[derive(Clone, Copy)]
 pub struct Sent {
     pub octet: u8,
     pub sender: Sender,

@@ -2,7 +2,7 @@
 ghost use Rattle.std.specs.Prelude.{◌≡◌};
 ghost use Rattle.window.specs.Order.{order_of, cell_at};
 
-#[derive(Drop)]
+#[derive(Clone, Copy)]
 pub enum Order {
     Intel,
     Motorola,

@@ -2,7 +2,7 @@
 use Prim.Native.Nat.{ℕ}
 use native.Mathlib.Omega.{arith}
 use mathlib.Core.Path.{◌≡◌, sym, ap, ◌∙◌}
-use mathlib.Core.Bool.{Bool, true, false, ◌&&◌, and_true, and-false}
+use mathlib.Core.Bool.{Bool, true, false, ◌&&◌, and-true, and-false}
 use lib.Dec.{eqb}
 use borrow.Author.Tests.{eq-eqb, ne_eqb, not-true, not-false}
 use Rattle.state.specs.Chain.{fcb_in}
@@ -25,7 +25,7 @@ middle_fails : (x m s : Bool) → m ≡ false → false ≡ (x && m && s)
 middle_fails x m s e = sym (ap (λ (t : Bool). t && s) (ap (λ (t : Bool). x && t) e ∙ and-false x))
 
 both_hold : (x m s : Bool) → m ≡ true → s ≡ true → x ≡ (x && m && s)
-both_hold x m s e f = sym ((λ i. x && e i && f i) ∙ and_true (x && true) ∙ and_true x)
+both_hold x m s e f = sym ((λ i. x && e i && f i) ∙ and-true (x && true) ∙ and-true x)
 
 master-of-requires : tie.Need-master-of-requires
 master-of-requires c κs = search rules

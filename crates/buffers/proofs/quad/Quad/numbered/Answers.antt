@@ -1,0 +1,6 @@
+-- `buffers::quad::Quad::numbered` meets its contract.
+use borrow.Author.Rules.{rules}
+use Rattle.buffers.proofs.quad.Quad.numbered.Goals as goal
+
+pub returns : goal.returns
+returns c = cc

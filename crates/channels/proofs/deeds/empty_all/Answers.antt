@@ -1,0 +1,8 @@
+-- `channels::deeds::empty_all` meets its contract.
+use Rattle.channels.specs.Deeds.{emptied}
+use borrow.Author.Rules.{rules}
+use Rattle.channels.proofs.deeds.empty_all.Goals as goal
+
+pub returns : goal.returns
+unfolding emptied
+returns c = c.clear_at.ensures

@@ -1,0 +1,33 @@
+-- `channels::places::room_before` meets its contract.
+use Prim.Native.Nat.{◌*◌, ◌-◌, ◌≤◌}
+use native.Mathlib.Omega.{arith}
+use mathlib.Core.Path.{◌≡◌, refl, ap, ◌∙◌}
+use Rattle.octets.specs.Part.{rounded_up}
+use Rattle.channels.specs.declared.channel.Channel.{Channel}
+use Rattle.channels.specs.Image.{loaded}
+use Rattle.channels.specs.Places.{lengths_in, room_from}
+use Rattle.channels.proofs.Found.{room_next}
+use borrow.Author.Rules.{rules}
+use Rattle.channels.proofs.places.room_before.Goals as goal
+
+pub loop-k-init : goal.loop-k-init
+unfolding room_from
+loop-k-init c = (omega arith, refl, omega arith)
+
+pub loop-k-preserved : goal.loop-k-preserved
+unfolding loaded
+loop-k-preserved c = let m = c.args.mem.now in
+    let e = c.load-c.ensures in
+    let u = c.rounded_up.ensures in
+    let v = c.rounded_up-in-loop-k.ensures in (
+      omega arith,
+      room_next (lengths_in m) c.loop-k.k c.loop-k.room _ _ c.loop-k.invariant.1
+          (u.0 ∙ ap (λ (x : Channel). rounded_up x.indication_len) e)
+          (v.0 ∙ ap (λ (x : Channel). rounded_up x.response_len) e),
+      omega arith,
+    )
+
+pub returns : goal.returns
+returns c = let s = c.args in
+    let e : c.loop-k.k ≡ s.n = omega arith in
+    (c.loop-k.invariant.1 ∙ ap (room_from (lengths_in s.mem.now) 0) e, omega arith)

@@ -1,0 +1,16 @@
+-- `channels::setting::room_for` meets its contract.
+use Prim.Native.Nat.{◌*◌, ◌-◌, ◌≤◌}
+use native.Mathlib.Omega.{arith}
+use mathlib.Core.Path.{◌≡◌, refl, ap, ◌∙◌}
+use Rattle.channels.specs.Image.{channels}
+use Rattle.channels.specs.Places.{room_from}
+use Rattle.channels.specs.Setting.{lengths_given}
+use Rattle.channels.proofs.Found.{room_next}
+use borrow.Author.Rules.{rules}
+use Rattle.channels.proofs.setting.room_for.Given as goal
+
+abbrev pub invariant-loop-n : goal.invariant-loop-n
+invariant-loop-n l = (l.n ≤ channels) × (l.room ≡ room_from (lengths_given l.lengths) 0 l.n) × (l.room ≤ 512 * l.n)
+
+abbrev pub decreases-loop-n : goal.decreases-loop-n
+decreases-loop-n l = channels - l.n

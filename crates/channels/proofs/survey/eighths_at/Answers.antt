@@ -1,0 +1,37 @@
+-- `channels::survey::eighths_at` meets its contract.
+use Prim.Native.Nat.{ℕ, ◌+◌, ◌≤◌, ◌<◌}
+use native.Mathlib.Omega.{arith}
+use mathlib.Core.Path.{ap, ◌∙◌}
+use lib.ListN.{length, get_or, replicate}
+use Rattle.ranges.specs.Octets.{octets, at_most}
+use Rattle.ranges.proofs.Words.{octets_part}
+use Rattle.channels.specs.Image.{channels, rows_end}
+use Rattle.channels.proofs.Fours.{rows_short, eighths_room}
+use borrow.Author.Rules.{rules}
+use Rattle.channels.proofs.survey.eighths_at.Goals as goal
+
+pub eighths-indications-requires : goal.eighths-indications-requires
+eighths-indications-requires c = let m = c.args.mem.now in
+    let k = c.args.k in
+    let near : k + 4 ≤ channels = c.requires.0 in
+    let long : rows_end ≤ length m = c.requires.1 in
+    let small : (i : ℕ) → get_or m i 0 < 256 = λ i. (c.shared_slice_known-1.given i).fits in
+    ap (λ l. at_most l (replicate 4 248)) (ap (octets 4) c.half.ensures ∙ octets_part m small 4 (128 + k) (omega arith))
+    ∙ rows_short m long 0 k 4 (omega arith) near c.requires.2
+
+pub eighths-responses-requires : goal.eighths-responses-requires
+eighths-responses-requires c = let m = c.args.mem.now in
+    let k = c.args.k in
+    let near : k + 4 ≤ channels = c.requires.0 in
+    let long : rows_end ≤ length m = c.requires.1 in
+    let small : (i : ℕ) → get_or m i 0 < 256 = λ i. (c.shared_slice_known-1.given i).fits in
+    ap (λ l. at_most l (replicate 4 248)) (ap (octets 4) c.half-2.ensures ∙ octets_part m small 4 (144 + k) (omega arith))
+    ∙ rows_short m long 1 k 4 (omega arith) near c.requires.2
+
+pub returns : goal.returns
+returns c = eighths_room c.args.mem.now c.requires.1 (λ i. (c.shared_slice_known-1.given i).fits) c.args.k _ _ _ _ _ c.requires.0
+    c.half.ensures
+    c.half-2.ensures
+    c.eighths-indications.ensures.0
+    c.eighths-responses.ensures.0
+    c.sum_of.ensures

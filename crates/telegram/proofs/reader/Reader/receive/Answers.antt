@@ -1,0 +1,5 @@
+use Rattle.std.proofs.Common.{rules}
+use Rattle.telegram.proofs.reader.Reader.receive.Goals as goal
+
+pub returns : goal.returns
+returns c = rw (c.step.ensures, c.if-bad.false)

@@ -1,0 +1,5 @@
+use Rattle.std.proofs.Common.{rules}
+use Rattle.telegram.proofs.reader.Reader.summed.Goals as goal
+
+pub returns : goal.returns
+returns c = rw (c.moved.ensures, c.wrapping_add_u8.ensures.value)

@@ -1,0 +1,5 @@
+use Rattle.std.proofs.Common.{rules}
+use Rattle.telegram.proofs.reader.Reader.with_sa.Goals as goal
+
+pub returns : goal.returns
+returns c = rw (c.summed.ensures, c.after_sa.ensures)

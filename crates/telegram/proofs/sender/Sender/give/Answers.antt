@@ -1,0 +1,13 @@
+-- `telegram::sender::Sender::give` meets its contract.
+use Rattle.std.proofs.Common.{sym, ap, ◌∙◌, arith, rules}
+use Rattle.telegram.specs.declared.sender.Sender.{Sender}
+use Rattle.telegram.proofs.Sends.{asked_below, sent_asked}
+use Rattle.telegram.proofs.sender.Sender.give.Goals as goal
+
+pub overflow_add-self : goal.overflow_add-self
+overflow_add-self c = let l = asked_below c.args.self c.args.self.at c.requires in
+    omega (arith, l, c.struct_known-1.given)
+
+pub returns : goal.returns
+returns c = sent_asked c.args.self c.args.datum c.args.self.at c.requires
+    ∙ ap (λ (r : Sender). record { octet = c.args.datum; sender = r }) (sym c.adding.ensures)

@@ -1,0 +1,7 @@
+use Rattle.telegram.specs.Sending.{sent}
+use Rattle.std.proofs.Common.{rules}
+use Rattle.telegram.proofs.sender.Sender.send.Goals as goal
+
+pub returns : goal.returns
+unfolding sent
+returns c = rw (c.after.ensures, c.octet-octet.ensures)
