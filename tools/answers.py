@@ -90,6 +90,15 @@ class Function:
         return out
 
 
+def negations(text):
+    """Of 'if !x' the fact is now x ≡ false, where it was not x ≡ true."""
+    step = r"(c\.if-not-[\w-]+\.(?:true|false))"
+    text = re.sub(r"not-(?:true|false) (?:_|\([^()]*\)|[\w.'-]+) " + step, r"\1#", text)
+    text = re.sub(r"ap not \((sym [^()]*)\) ∙ " + step + "(?!#)", r"ap not (\1 ∙ \2#)", text)
+    text = re.sub(step + "(?!#)", r"(ap not \1)", text)
+    return text.replace("#", "")
+
+
 def turn_term(text, f, place, aliases, said):
     """A term at a place: paths through 'before' become paths by step."""
     steps = f.steps_to(place)
@@ -114,6 +123,18 @@ def turn_term(text, f, place, aliases, said):
             rest[1] = f.args[rest[1]]
         if norm(head) in by_old and norm(head) != "":
             new = by_old[norm(head)]
+            if len(rest) > 2 and rest[1] in ("new", "auto", "kept", "last", "came"):
+                k = 1
+                while k < len(rest) and rest[k + 1:k + 2] == ["1"]:
+                    k += 1
+                n = k - 1
+                callee = next((f.place[pl][3] for o, nw, pl in steps if nw == new), None)
+                params = f.of["params"].get(callee, [])
+                if rest[k + 1:k + 2] == ["0"] and n < len(params):
+                    by_slice = rest[1] == "auto" and "mem" in params
+                    rest = rest[:2] + ["mem" if by_slice else params[n]] + rest[k + 2:]
+            if len(rest) > 1 and re.match(r"(if|loop)", new):
+                rest[1] = {"taken": "true", "left": "false"}.get(rest[1], rest[1])
             return "c." + ".".join([new] + [fields(x) for x in rest[1:]])
         if head in ("args", "requires", "pre", "ranges", "fits", "well_formed", "well-formed", "type_inv"):
             head = {"pre": "requires", "fits": "ranges"}.get(head, head)
@@ -137,6 +158,23 @@ def turn_term(text, f, place, aliases, said):
         if m.group(1) in aliases and m.group(1) != "c":
             said.append(f"a place is passed on: {m.group(1)}")
     return text
+
+
+def at_places(lines, f, said):
+    """A lemma of the file that takes the facts at a place."""
+    text = "\n".join(lines)
+    by = {norm(p[0]): (p[0], n) for p, n in zip(f.of["places"], f.of["places_by_name"])}
+    m = re.search(r"\((" + IDENT + r") : tie\.([\w-]+)\)", text)
+    if not m or norm(m.group(2)) not in by:
+        if "tie." in text:
+            said.append("a lemma of the file speaks of tie: " + lines[0])
+        return lines
+    place, new = by[norm(m.group(2))]
+    text = text.replace(m.group(), f"({m.group(1)} : goal.{new})")
+    notes = []
+    text = negations(turn_term(text, f, place, {m.group(1)}, notes))
+    said += notes
+    return text.split("\n")
 
 
 def turn(path, of, crate, said):
@@ -168,7 +206,7 @@ def turn(path, of, crate, said):
             body_at += 1
         k = re.match(r"tie\.(Need-|invariant-|decreases-|ghost-)(\S+)", type_)
         if not k:
-            own.append((lead, lines))
+            own.append((lead, at_places(lines, f, said)))
             continue
         body = "\n".join(lines[body_at:])
         lhs, _, rhs = body.partition("=")
@@ -202,7 +240,7 @@ def turn(path, of, crate, said):
             continue
         notes = []
         rhs = turn_term(rhs, f, f.at[i], {params[0] if params else "c"}, notes)
-        rhs = re.sub(r"not-(?:true|false) (?:_|\([^()]*\)|[\w.'-]+) (c\.if-not-[\w-]+\.(?:true|false))", r"\1", rhs)
+        rhs = negations(rhs)
         rhs = re.sub(r"(wrapping_(?:add|sub|mul|neg)_u\d+[\w-]*\.ensures)(?!\.)", r"\1.value", rhs)
         rhs = rhs.lstrip(" ") if not rhs.startswith("\n") else rhs
         if params and params[0] != "c":

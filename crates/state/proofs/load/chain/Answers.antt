@@ -1,0 +1,9 @@
+-- `state::load::chain` meets its contract.
+use Rattle.state.specs.Unpack.{unpacked}
+use borrow.Author.Rules.{rules}
+use mathlib.Core.Path.{refl}
+use Rattle.state.proofs.load.chain.Goals as goal
+
+pub returns : goal.returns
+unfolding unpacked
+returns c = refl

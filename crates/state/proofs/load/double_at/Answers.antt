@@ -1,0 +1,8 @@
+-- `state::load::double_at` meets its contract.
+use mathlib.Core.Path.{◌∙◌}
+use Rattle.state.proofs.ByWords.{double_read}
+use borrow.Author.Rules.{rules}
+use Rattle.state.proofs.load.double_at.Goals as goal
+
+pub returns : goal.returns
+returns c = c.half.ensures ∙ double_read c.args.mem.now c.args.i c.requires

@@ -1,0 +1,10 @@
+-- `state::load::events` meets its contract.
+use Prim.Native.Nat.{ℕ}
+use mathlib.Core.Path.{ap}
+use Rattle.state.specs.Unpack.{unpacked}
+use borrow.Author.Rules.{rules}
+use Rattle.state.proofs.load.events.Goals as goal
+
+pub returns : goal.returns
+unfolding unpacked
+returns c = ap (λ (w : ℕ). record { word = w }) c.word_at-word.ensures

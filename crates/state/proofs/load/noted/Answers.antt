@@ -1,0 +1,9 @@
+-- `state::load::noted` meets its contract.
+use mathlib.Core.Path.{refl}
+use Rattle.state.specs.Unpack.{unpacked}
+use borrow.Author.Rules.{rules}
+use Rattle.state.proofs.load.noted.Goals as goal
+
+pub returns : goal.returns
+unfolding unpacked
+returns c = refl

@@ -1,0 +1,6 @@
+-- `state::start::no_reply` meets its contract.
+use borrow.Author.Rules.{rules}
+use Rattle.state.proofs.start.no_reply.Goals as goal
+
+pub returns : goal.returns
+returns c = cc
