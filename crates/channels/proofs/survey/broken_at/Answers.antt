@@ -16,7 +16,7 @@ returns c = let m = c.args.mem.now in
     let k = c.args.k in
     let near : k + 4 ≤ channels = c.requires.0 in
     let long : rows_end ≤ length m = c.requires.1 in
-    let small : (i : ℕ) → get_or m i 0 < 256 = λ i. (c.shared_slice_known-1.given i).fits in
+    let small : (i : ℕ) → get_or m i 0 < 256 = λ i. (c.type_inv.mem i).fits in
     let row0 = ap (octets 4) c.half.ensures ∙ octets_part m small 4 (128 + k) (omega arith) in
     let row1 = ap (octets 4) c.half-2.ensures ∙ octets_part m small 4 (144 + k) (omega arith) in
     let row2 = ap (octets 4) c.half-3.ensures ∙ octets_part m small 4 (160 + k) (omega arith) in

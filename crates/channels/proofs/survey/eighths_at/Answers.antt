@@ -15,7 +15,7 @@ eighths-indications-requires c = let m = c.args.mem.now in
     let k = c.args.k in
     let near : k + 4 ≤ channels = c.requires.0 in
     let long : rows_end ≤ length m = c.requires.1 in
-    let small : (i : ℕ) → get_or m i 0 < 256 = λ i. (c.shared_slice_known-1.given i).fits in
+    let small : (i : ℕ) → get_or m i 0 < 256 = λ i. (c.type_inv.mem i).fits in
     ap (λ l. at_most l (replicate 4 248)) (ap (octets 4) c.half.ensures ∙ octets_part m small 4 (128 + k) (omega arith))
     ∙ rows_short m long 0 k 4 (omega arith) near c.requires.2
 
@@ -24,12 +24,12 @@ eighths-responses-requires c = let m = c.args.mem.now in
     let k = c.args.k in
     let near : k + 4 ≤ channels = c.requires.0 in
     let long : rows_end ≤ length m = c.requires.1 in
-    let small : (i : ℕ) → get_or m i 0 < 256 = λ i. (c.shared_slice_known-1.given i).fits in
+    let small : (i : ℕ) → get_or m i 0 < 256 = λ i. (c.type_inv.mem i).fits in
     ap (λ l. at_most l (replicate 4 248)) (ap (octets 4) c.half-2.ensures ∙ octets_part m small 4 (144 + k) (omega arith))
     ∙ rows_short m long 1 k 4 (omega arith) near c.requires.2
 
 pub returns : goal.returns
-returns c = eighths_room c.args.mem.now c.requires.1 (λ i. (c.shared_slice_known-1.given i).fits) c.args.k _ _ _ _ _ c.requires.0
+returns c = eighths_room c.args.mem.now c.requires.1 (λ i. (c.type_inv.mem i).fits) c.args.k _ _ _ _ _ c.requires.0
     c.half.ensures
     c.half-2.ensures
     c.eighths-indications.ensures.0

@@ -10,7 +10,7 @@ returns c = let m = c.args.mem.now in
     let first = lows (octets 8 c.args.first) in
     let second = lows (octets 8 c.args.second) in
     let fits : at + 16 ≤ length m = c.requires in
-    let small : (i : ℕ) → get_or m i 0 < 256 = λ i. (c.shared_slice_known-1.given i).fits in
+    let small : (i : ℕ) → get_or m i 0 < 256 = λ i. (c.type_inv.mem i).fits in
     let same = ap (octets 8) c.word.ensures ∙ octets_part m small 8 at (omega arith) in
     let same2 = ap (octets 8) c.word-2.ensures ∙ octets_part m small 8 (at + 8) (omega arith) in
     or_zero c.above.result c.above-2.result

@@ -17,7 +17,7 @@ use Rattle.state.proofs.memory.channels_fit.Goals as goal
 
 pub overflow_add-bound : goal.overflow_add-bound
 overflow_add-bound c = let m = c.args.mem.now in
-    let small : (i : ℕ) → get_or m i 0 < 256 = λ i. (c.shared_slice_known-1.given i).fits in
+    let small : (i : ℕ) → get_or m i 0 < 256 = λ i. (c.type_inv.mem i).fits in
     let u = found_small m 0 channels _ small (says_found m 0 channels _ (sym c.survey_of-found.ensures ∙ c.in-Room.is)) in
     omega arith
 
@@ -32,7 +32,7 @@ returns-then-bound-room c = let m = c.args.mem.now in
 
 pub overflow_add-result : goal.overflow_add-result
 overflow_add-result c = let m = c.args.mem.now in
-    let small : (i : ℕ) → get_or m i 0 < 256 = λ i. (c.shared_slice_known-1.given i).fits in
+    let small : (i : ℕ) → get_or m i 0 < 256 = λ i. (c.type_inv.mem i).fits in
     let u = found_small m 0 channels _ small (says_found m 0 channels _ (sym c.survey_of-found.ensures ∙ c.in-Room.is)) in
     let e = c.end_of.ensures.1 in
     omega arith

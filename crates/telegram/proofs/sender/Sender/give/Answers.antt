@@ -6,7 +6,7 @@ use Rattle.telegram.proofs.sender.Sender.give.Goals as goal
 
 pub overflow_add-self : goal.overflow_add-self
 overflow_add-self c = let l = asked_below c.args.self c.args.self.at c.requires in
-    omega (arith, l, c.struct_known-1.given)
+    omega arith
 
 pub returns : goal.returns
 returns c = sent_asked c.args.self c.args.datum c.args.self.at c.requires
