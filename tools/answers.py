@@ -95,7 +95,8 @@ def negations(text):
     step = r"(c\.if-not-[\w-]+\.(?:true|false))"
     text = re.sub(r"not-(?:true|false) (?:_|\([^()]*\)|[\w.'-]+) " + step, r"\1#", text)
     text = re.sub(r"ap not \((sym [^()]*)\) ∙ " + step + "(?!#)", r"ap not (\1 ∙ \2#)", text)
-    text = re.sub(step + "(?!#)", r"(ap not \1)", text)
+    as_it_is = re.match(r"\s*(let .* in\s*)*rw \(", text, re.S)
+    text = re.sub(step + "(?!#)", r"\1" if as_it_is else r"(ap not \1)", text)
     return text.replace("#", "")
 
 

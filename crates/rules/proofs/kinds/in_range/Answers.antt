@@ -1,0 +1,9 @@
+-- `rules::kinds::in_range` meets its contract.
+use mathlib.Core.Bool.{◌&&◌}
+use lib.Dec.{leb, ltb}
+use borrow.Author.Rules.{rules}
+use Rattle.rules.proofs.kinds.in_range.Goals as goal
+
+pub returns : goal.returns
+returns c = let index = c.args.index in
+    λ i. leb (c.first_of.ensures i) index && ltb index (c.kind_length.ensures i)

@@ -1,0 +1,6 @@
+-- `rules::modes::commanded` meets its contract.
+use borrow.Author.Rules.{rules}
+use Rattle.rules.proofs.modes.commanded.Goals as goal
+
+pub returns : goal.returns
+returns c = rw (c.switched-2.ensures, c.switched.ensures)

@@ -1,0 +1,6 @@
+-- `rules::phases::left` meets its contract.
+use borrow.Author.Rules.{rules}
+use Rattle.rules.proofs.phases.left.Goals as goal
+
+pub returns : goal.returns
+returns c = rw (c.ended-modes.ensures, c.raise-events.ensures, c.left_exchange.ensures)

@@ -1,0 +1,6 @@
+-- `rules::retries::repeated` meets its contract.
+use borrow.Author.Rules.{rules}
+use Rattle.rules.proofs.retries.repeated.Goals as goal
+
+pub returns : goal.returns
+returns c = rw (c.drawing.ensures, c.drawn.ensures, c.refilled.ensures)

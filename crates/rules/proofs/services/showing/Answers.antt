@@ -1,0 +1,5 @@
+use borrow.Author.Rules.{rules}
+use Rattle.rules.proofs.services.showing.Goals as goal
+
+pub returns : goal.returns
+returns c = rw (c.if-opened.false, c.raise.ensures)

@@ -1,0 +1,25 @@
+use borrow.Author.Rules.{rules}
+use Rattle.rules.specs.User.{judged_parameters}
+use Rattle.rules.proofs.user.judged_parameters.Goals as goal
+
+pub returns-then-waits : goal.returns-then-waits
+unfolding judged_parameters
+returns-then-waits c = rw (c.if-waits.true, c.changing_sets.ensures)
+
+pub returns-then-good : goal.returns-then-good
+unfolding judged_parameters
+returns-then-good c = rw (
+      c.if-waits.false,
+      ← c.clear-events.ensures,
+      c.if-good.true,
+      c.changing_sets-then-good.ensures,
+    )
+
+pub returns : goal.returns
+unfolding judged_parameters
+returns c = rw (
+      c.if-waits.false,
+      ← c.clear-events.ensures,
+      c.if-good.false,
+      c.entering_wait_prm.ensures,
+    )
