@@ -1,0 +1,10 @@
+use Rattle.steps.proofs.NothingWaits.{unsettled}
+use mathlib.Core.Path.{sym, ap, ◌∙◌}
+use borrow.Author.Tests.{not-true}
+use mathlib.Core.Bool.{◌||◌}
+use borrow.Author.Rules.{rules}
+use Rattle.outcomes.proofs.carry.settle.Goals as goal
+
+pub returns-then-not-waits : goal.returns-then-not-waits
+returns-then-not-waits c = let s = c.args.s in
+    unsettled _ _ (ap (λ t. t || s.control.noted) (sym c.is_delayed.ensures) ∙ c.if-not-waits.true)

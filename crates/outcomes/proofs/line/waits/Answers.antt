@@ -1,0 +1,6 @@
+-- `outcomes::line::waits` meets its contract.
+use borrow.Author.Rules.{rules}
+use Rattle.outcomes.proofs.line.waits.Goals as goal
+
+pub returns : goal.returns
+returns c = rw (c.noted.ensures, c.is_delayed.ensures, c.diagnosis.ensures)
