@@ -1,0 +1,13 @@
+-- `station::calls::judge_configuration` meets its contract.
+use Rattle.station.proofs.Guarding.{damaged, found, passed}
+use Rattle.std.proofs.Common.{rules}
+use Rattle.station.proofs.calls.judge_configuration.Goals as goal
+
+pub returns-then-not-is_well : goal.returns-then-not-is_well
+returns-then-not-is_well c = damaged _ _ _ c.is_well.ensures c.if-not-is_well.true
+
+pub judge_configuration-requires : goal.judge_configuration-requires
+judge_configuration-requires c = found _ _ c.slice_known-1.given c.is_well.ensures c.if-not-is_well.false
+
+pub returns : goal.returns
+returns c = passed _ _ _ c.is_well.ensures c.if-not-is_well.false c.judge_configuration.ensures

@@ -1,0 +1,46 @@
+-- `station::completing::answer` meets its contract.
+use Rattle.std.proofs.Common.{arith, rules}
+use Rattle.state.specs.Unpack.{unpacked}
+use Rattle.station.proofs.CompletedOverMemory.{answered_over}
+use Rattle.station.proofs.completing.answer.Goals as goal
+
+pub carry_over-requires : goal.carry_over-requires
+carry_over-requires c = c.requires.0
+
+pub save_incoming-requires : goal.save_incoming-requires
+save_incoming-requires c = let k1 = c.carry_over.auto.mem in
+    let long = c.requires.0.long in
+    omega arith
+
+pub save_reply-requires : goal.save_reply-requires
+save_reply-requires c = let k1 = c.carry_over.auto.mem in
+    let k2 = c.save_incoming.auto.mem in
+    let long = c.requires.0.long in
+    omega arith
+
+pub keep_request-requires : goal.keep_request-requires
+keep_request-requires c = let k1 = c.carry_over.auto.mem in
+    let k2 = c.save_incoming.auto.mem in
+    let k3 = c.save_reply.auto.mem in
+    let long = c.requires.0.long in
+    omega arith
+
+pub returns : goal.returns
+returns c = let m = c.args.mem.now in
+    answered_over m (unpacked m) c.args.i c.args.r _ _ _ _ _
+    c.setup-setup.ensures
+    c.outputs.ensures
+    c.held.ensures
+    c.master_of.ensures
+    c.requires.1
+    c.args.o _
+    c.on_outputs-outputs.ensures
+    c.draw-reply.ensures
+    c.carry_over.new.mem
+    c.save_incoming.new.mem
+    c.save_reply.new.mem
+    c.keep_request.new.mem
+    c.carry_over.ensures
+    c.save_incoming.ensures
+    c.save_reply.ensures
+    c.keep_request.ensures

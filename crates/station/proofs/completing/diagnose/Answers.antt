@@ -1,0 +1,52 @@
+-- `station::completing::diagnose` meets its contract.
+use Rattle.std.proofs.Common.{refl, arith, rules}
+use Rattle.state.specs.Unpack.{unpacked}
+use Rattle.state.proofs.Damage.{fronted_same}
+use Rattle.station.proofs.CompletedOverMemory.{diagnosed_over}
+use Rattle.station.proofs.completing.diagnose.Goals as goal
+
+pub save_incoming-requires : goal.save_incoming-requires
+save_incoming-requires c = c.requires.0.long
+
+pub save_control-requires : goal.save_control-requires
+save_control-requires c = let read = c.save_incoming.auto.mem in
+    let long = c.requires.0.long in
+    omega arith
+
+pub save_chain-requires : goal.save_chain-requires
+save_chain-requires c = let read = c.save_incoming.auto.mem in
+    let changed = c.save_control.auto.mem in
+    let long = c.requires.0.long in
+    omega arith
+
+pub save_reply-requires : goal.save_reply-requires
+save_reply-requires c = let read = c.save_incoming.auto.mem in
+    let changed = c.save_control.auto.mem in
+    let linked = c.save_chain.auto.mem in
+    let long = c.requires.0.long in
+    omega arith
+
+pub returns : goal.returns
+returns c = let m = c.args.mem.now in
+    diagnosed_over m (unpacked m) c.args.i c.args.r _ _ _ _ _
+    c.setup-setup.ensures
+    c.outputs-outputs.ensures
+    c.held.ensures
+    c.master_of.ensures
+    (fronted_same m (unpacked m) c.requires.0)
+    c.requires.1
+    c.requires.2 _ _ _ _ _
+    c.control.ensures
+    c.refilled.ensures
+    c.slave_diag-o.ensures
+    c.chain_by.ensures
+    refl
+    c.draw-reply.ensures
+    c.save_incoming.new.mem
+    c.save_control.new.mem
+    c.save_chain.new.mem
+    c.save_reply.new.mem
+    c.save_incoming.ensures
+    c.save_control.ensures
+    c.save_chain.ensures
+    c.save_reply.ensures

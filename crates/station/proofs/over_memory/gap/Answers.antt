@@ -1,0 +1,10 @@
+-- `station::over_memory::gap` meets its contract.
+use Rattle.std.proofs.Common.{refl, rules}
+use Rattle.station.proofs.Stepping.{on_memory_lem}
+use Rattle.station.proofs.over_memory.gap.Goals as goal
+
+pub gap-requires : goal.gap-requires
+gap-requires c = c.requires
+
+pub returns : goal.returns
+returns c = on_memory_lem _ _ _ c.requires _ 0 _ _ refl refl c.gap.ensures

@@ -1,0 +1,13 @@
+-- `station::over_memory::pending` meets its contract.
+use Rattle.std.proofs.Common.{refl, ap, ◌∙◌, rules}
+use Rattle.state.specs.declared.answer.Answer.TheVariants.{Value}
+use Rattle.buffers.specs.declared.events.Events.{Events}
+use Rattle.buffers.specs.Events.{pending_of}
+use Rattle.station.proofs.Stepping.{answered}
+use Rattle.station.proofs.over_memory.pending.Goals as goal
+
+pub events-events-requires : goal.events-events-requires
+events-events-requires c = c.requires.long
+
+pub returns : goal.returns
+returns c = answered _ _ _ c.requires _ (record { answers = ap Value c.pending-number.ensures ∙ ap (λ (x : Events). Value (pending_of x)) c.events-events.ensures; states = refl; leaves = refl })

@@ -1,0 +1,5 @@
+use Rattle.std.proofs.Common.{rules}
+use Rattle.station.proofs.reading.begin.Goals as goal
+
+pub returns : goal.returns
+returns c = rw (c.no_reply-t.ensures, c.read_by-t.ensures)

@@ -1,0 +1,38 @@
+-- `station::start::start` meets its contract.
+use Rattle.std.proofs.Common.{◌≡◌, ℕ, true, List, length, sym, refl, ap, ◌∙◌, rules}
+use Rattle.channels.proofs.Exact.{lengths_say}
+use Rattle.state.specs.declared.setup.Setup.{Setup}
+use Rattle.state.specs.declared.start.Asked.TheVariants.{Accepted, Declined}
+use Rattle.steps.specs.Calls.{length_ok}
+use Rattle.state.specs.Start.{given, asked}
+use Rattle.state.proofs.Asking.{accepts}
+use Rattle.steps.proofs.Guarded.{started_short, started_declined, started_accepted}
+use Rattle.station.proofs.start.start.Goals as goal
+
+pub returns-then-not-length_ok : goal.returns-then-not-length_ok
+returns-then-not-length_ok c =
+    let a = c.args in
+    let setup = given a.address a.ident a.output_len a.input_len a.parameter_len a.configuration_len a.diagnosis_len (length a.get_cfg.now) in
+    rw (started_short a.mem.now setup a.get_cfg.now a.channels.now (sym c.length_ok.ensures ∙ c.if-not-length_ok.true))
+    (record { answers = refl; leaves = refl })
+
+pub start_in-requires : goal.start_in-requires
+start_in-requires c =
+    let a = accepts _ _ _ (sym c.setup_of-found.ensures ∙ c.in-Accepted.is) in
+    (ap (λ (s : Setup). s.get_cfg_len) a.same, (lengths_say _ a.channels).0)
+
+pub returns-in-Accepted : goal.returns-in-Accepted
+returns-in-Accepted c =
+    let a = c.args in
+    let setup = given a.address a.ident a.output_len a.input_len a.parameter_len a.configuration_len a.diagnosis_len (length a.get_cfg.now) in
+    let found = sym c.setup_of-found.ensures ∙ c.in-Accepted.is in
+    rw (started_accepted a.mem.now setup a.get_cfg.now a.channels.now _ (sym c.length_ok.ensures ∙ c.if-not-length_ok.false) found)
+    c.start_in.ensures
+
+pub returns-in-Declined : goal.returns-in-Declined
+returns-in-Declined c =
+    let a = c.args in
+    let setup = given a.address a.ident a.output_len a.input_len a.parameter_len a.configuration_len a.diagnosis_len (length a.get_cfg.now) in
+    let found = sym c.setup_of-found.ensures ∙ c.in-Declined.is in
+    rw (started_declined a.mem.now setup a.get_cfg.now a.channels.now _ (sym c.length_ok.ensures ∙ c.if-not-length_ok.false) found)
+    (record { answers = refl; leaves = refl })

@@ -1,0 +1,60 @@
+-- `station::user::new_diagnosis` meets its contract.
+use Rattle.std.proofs.Common.{not, ap, ℕ, ◌≡◌, true, ◌≤◌, leb, [], ◌∷◌, refl, arith, rules, leb-true}
+use borrow.Author.Tests.{not-false}
+use Rattle.state.specs.Well.{all}
+use Rattle.state.proofs.Tests.{all_at}
+use Rattle.state.proofs.Damage.{fronted_same}
+use Rattle.steps.specs.User.{new_diagnosis}
+use Rattle.station.proofs.UserOverMemory.{delays_diagnosis, changes_diagnosis}
+use Rattle.station.proofs.user.new_diagnosis.Goals as goal
+
+-- count and flags are in their ranges
+ranged : (count most flags : ℕ) → all (leb 6 count ∷ leb count most ∷ leb flags 7 ∷ []) ≡ true → (count ≤ most) × (flags ≤ 7)
+ranged count most flags t =
+    let tests = leb 6 count ∷ leb count most ∷ leb flags 7 ∷ [] in
+    (leb-true count most (all_at tests 1 t), leb-true flags 7 (all_at tests 2 t))
+
+pub returns-then-not-count-setup : goal.returns-then-not-count-setup
+unfolding new_diagnosis
+returns-then-not-count-setup c = rw (← c.setup-setup.ensures, c.if-not-count-setup.true) (record { answers = refl; leaves = refl })
+
+pub returns-then-is_delayed : goal.returns-then-is_delayed
+unfolding new_diagnosis
+returns-then-is_delayed c = rw (
+      ← c.setup-setup.ensures,
+      c.if-not-count-setup.false,
+      ← c.control-control.ensures,
+      ← c.is_delayed.ensures,
+      c.if-is_delayed.true,
+    )
+    (record { answers = refl; leaves = refl })
+
+pub overflow_cast-n : goal.overflow_cast-n
+overflow_cast-n c = let h = ranged c.args.count c.setup-setup.result.diagnosis_len c.args.flags c.if-not-count-setup.false in omega (arith, c.struct_known-1.given)
+
+pub overflow_cast-f : goal.overflow_cast-f
+overflow_cast-f c = let h = ranged c.args.count c.setup-setup.result.diagnosis_len c.args.flags c.if-not-count-setup.false in omega arith
+
+pub save_control-requires : goal.save_control-requires
+save_control-requires c = c.requires.long
+
+pub returns-then-diagnosis_leaves_in : goal.returns-then-diagnosis_leaves_in
+returns-then-diagnosis_leaves_in c = delays_diagnosis _ _ c.control-control.ensures c.setup-setup.ensures _ _ (ap not c.if-not-count-setup.false)
+    c.is_delayed.ensures
+    c.if-is_delayed.false
+    c.diagnosis_leaves_in.ensures
+    c.if-diagnosis_leaves_in.true
+    c.delaying.ensures
+    (c.save_control.ensures _ (fronted_same _ _ c.requires))
+
+pub change_diagnosis-requires : goal.change_diagnosis-requires
+change_diagnosis-requires c = c.requires.long
+
+pub returns : goal.returns
+returns c = changes_diagnosis _ _ c.control-control.ensures c.setup-setup.ensures _ _ (ap not c.if-not-count-setup.false)
+    c.is_delayed.ensures
+    c.if-is_delayed.false
+    c.diagnosis_leaves_in.ensures
+    c.if-diagnosis_leaves_in.false
+    c.diagnosed.ensures
+    (c.change_diagnosis.ensures _ refl (fronted_same _ _ c.requires))
