@@ -22,6 +22,10 @@ RECORD_OR_DATA = re.compile(r"^ *(?:pub )?(?:record|data) ", re.M)
 BESIDE_OTHERS = {"bit-and", "bit-or", "bit-xor", "header-at", "in-body", "in-range", "next-at", "on-memory"}
 
 
+# the calls of a list, beside the definitions of what each does
+CALLS = {"hand-over", "new-diagnosis", "judge-parameters", "judge-configuration"}
+# fields of statements, which nothing takes for the definition of that name
+FIELDS = {"is-new", "holds-back", "heard-whole"}
 # a lemma that has its name from one of the library, which files import beside it
 OF_THE_LIBRARY = {"and-true"}
 
@@ -67,8 +71,14 @@ def declared(root):
 def spelled(names):
     """Each name in its new spelling; a lemma that would have its definition's name gets '_lem'."""
     definitions = {snake(old) for old in names if "-" not in old}
-    lemma = lambda old: "-" in old and (snake(old) in definitions or old in BESIDE_OTHERS)
-    return {old: snake(old) + "_lem" if lemma(old) else snake(old) for old in names}
+
+    def ending(old):
+        if old in CALLS:
+            return "_call"
+        together = "-" in old and old not in FIELDS and snake(old) in definitions
+        return "_lem" if together or old in BESIDE_OTHERS else ""
+
+    return {old: snake(old) + ending(old) for old in names}
 
 
 def main(argv):

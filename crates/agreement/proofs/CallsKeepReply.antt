@@ -27,7 +27,7 @@ use Rattle.rules.specs.Diagnosis.{delayed, diagnosed, delaying, caught_up}
 use Rattle.rules.specs.Line.{clear_noted, ticked}
 use Rattle.ledger.specs.Ledger.{Ledger}
 use Rattle.rules.specs.Kinds.{in_range, writable}
-use Rattle.rules.specs.Call.{Call, gap, tick, take, read, write, hand_over_lem, new_diagnosis_lem, judge_parameters_lem, judge_configuration_lem, events, acknowledge, pending, leave, octet, send}
+use Rattle.rules.specs.Call.{Call, gap, tick, take, read, write, hand_over_call, new_diagnosis_call, judge_parameters_call, judge_configuration_call, events, acknowledge, pending, leave, octet, send}
 use Rattle.state.specs.With.{with_control, with_outputs, with_reply}
 use Rattle.steps.specs.Stepped.{Stepped, unchanged, Told, told, refusing}
 use Rattle.steps.specs.Line.{begun, busy, diagnosis_leaves}
@@ -153,18 +153,18 @@ step_keeps {s} {m} r (read kind index) =
 step_keeps {s} {m} r (write kind index x) =
     by_test Keeps (not (writable kind && in_range s.setup kind index)) (refusing Range s m) _ (λ _. r.reply_steady)
     (λ _. by_test Keeps (absent s kind index) (refusing Absent s m) (told 0 s (set m (kind_at s kind + index) x)) (λ _. r.reply_steady) (λ _. r.reply_steady))
-step_keeps r hand_over_lem = r.reply_steady
-step_keeps {s} {m} r (new_diagnosis_lem count flags) =
+step_keeps r hand_over_call = r.reply_steady
+step_keeps {s} {m} r (new_diagnosis_call count flags) =
     by_test Keeps (not (within 6 count s.setup.diagnosis_len && leb flags 7)) (refusing Range s m) _ (λ _. r.reply_steady)
     (λ _. by_test Keeps (delayed s.control) (refusing Delayed s m) _ (λ _. r.reply_steady)
     (λ _. by_test Keeps (diagnosis_leaves s) (told 0 (with_control s (delaying s.control count flags)) m) (told 0 (diagnosis_changed s (diagnosed s.control count flags)) m)
     (λ _. r.reply_steady) (λ _. r.reply_steady)))
-step_keeps {s} {m} r (judge_parameters_lem j) =
+step_keeps {s} {m} r (judge_parameters_call j) =
     by_test Keeps (not (is_open s.parameters)) (refusing Judging s m) _ (λ _. r.reply_steady)
     (λ e. by_test Keeps (not (leb j 1)) (refusing Range s m) _ (λ _. r.reply_steady)
     (λ _. quiet_allows s.reply (parameters_quiet s.setup s.control s.parameters.set.fresh (eqb j 1) (parameters_spared r (not-false _ e)))
     r.reply_steady))
-step_keeps {s} {m} r (judge_configuration_lem j) =
+step_keeps {s} {m} r (judge_configuration_call j) =
     by_test Keeps (not (is_open s.configuration && s.control.flags.parameters_good)) (refusing Judging s m) _ (λ _. r.reply_steady)
     (λ e. by_test Keeps (not (leb j 1)) (refusing Range s m) _ (λ _. r.reply_steady)
     (λ _. quiet_allows s.reply (configuration_quiet s.setup s.control s.configuration.set.fresh (eqb j 1) (configuration_spared r (not-false _ e)))

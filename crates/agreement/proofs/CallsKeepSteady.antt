@@ -30,7 +30,7 @@ use Rattle.ledger.specs.Ledger.{Line, Ledger, with_control, with_buffers, with_l
 use Rattle.ledger.specs.Outcome.{carried, diagnosis_changed, after_reply, settle}
 use Rattle.ledger.specs.Bus.{telegram_on, answered, completed, broken_off, lengthened, beginning, send_left, silenced, heard_as, heard, paused, after_send, elapsed}
 use Rattle.ledger.specs.User.{Told, told, refusing, written_octet, hand_over, new_diagnosis, acknowledge_events, leave_master}
-use Rattle.rules.specs.Call.{Call, octet, gap, send, tick, take, read, write, hand_over_lem, new_diagnosis_lem, judge_parameters_lem, judge_configuration_lem, events, acknowledge, pending, leave}
+use Rattle.rules.specs.Call.{Call, octet, gap, send, tick, take, read, write, hand_over_call, new_diagnosis_call, judge_parameters_call, judge_configuration_call, events, acknowledge, pending, leave}
 use Rattle.state.proofs.Tests.{none_or_some, within_and}
 use Rattle.ledger.specs.Calls.{step, after}
 use Rattle.agreement.proofs.Steady.{CountIn, InOrder, Steady}
@@ -331,17 +331,17 @@ step_steady l (read kind index) s = read_cases Keeps l kind index (λ _. s) s
 step_steady l (write kind index x) s =
     write_cases Keeps l kind index x (λ _. s)
     (lists_steady s (written_octet l.buffers kind index x) (written_sets s kind index x).0 (written_sets s kind index x).1)
-step_steady l hand_over_lem s = lists_steady s (with_inputs l.buffers (handed_over l.buffers.inputs)) refl refl
-step_steady l (new_diagnosis_lem count flags) s =
+step_steady l hand_over_call s = lists_steady s (with_inputs l.buffers (handed_over l.buffers.inputs)) refl refl
+step_steady l (new_diagnosis_call count flags) s =
     by_test Keeps (not (within 6 count l.setup.diagnosis_len && leb flags 7)) (refusing Range l) _ (λ _. s)
     (λ e. by_test Keeps (delayed l.control) (refusing Delayed l) _ (λ _. s)
     (λ _. by_test Keeps (diagnosis_leaves l) (told 0 (with_control l (delaying l.control count flags))) (told 0 (diagnosis_changed l (diagnosed l.control count flags)))
     (λ f. delaying_steady s count flags (within_and 6 count _ _ (not-false _ e)) f)
     (λ _. diagnosed_steady s count flags (within_and 6 count _ _ (not-false _ e)))))
-step_steady l (judge_parameters_lem j) s =
+step_steady l (judge_parameters_call j) s =
     parameters_cases Keeps l j (λ _ _. s)
     (λ e. carried_steady s _ (parameters_keeps s (some l.buffers.parameters.waiting) (eqb j 1) (and_left (parameters_open l) (leb j 1) e)))
-step_steady l (judge_configuration_lem j) s =
+step_steady l (judge_configuration_call j) s =
     configuration_cases Keeps l j (λ _ _. s)
     (λ e. carried_steady s _
     (configuration_keeps s (some l.buffers.configuration.waiting) (eqb j 1)

@@ -4,7 +4,7 @@ use mathlib.Core.Path.{refl, ap}
 use mathlib.Core.List.{List}
 use Rattle.state.specs.declared.answer.Answer.TheVariants.{Value}
 use Rattle.state.specs.declared.state.State.{State}
-use Rattle.rules.specs.Call.{Call, octet, gap, send, tick, take, read, write, hand_over_lem, new_diagnosis_lem, judge_parameters_lem, judge_configuration_lem, events, acknowledge, pending, leave}
+use Rattle.rules.specs.Call.{Call, octet, gap, send, tick, take, read, write, hand_over_call, new_diagnosis_call, judge_parameters_call, judge_configuration_call, events, acknowledge, pending, leave}
 use Rattle.ledger.specs.Ledger.{Ledger}
 use Rattle.ledger.specs.Calls as ledger
 use Rattle.steps.specs.Step.{step}
@@ -33,10 +33,10 @@ module _ {s : State} {m : List ℕ} {l : Ledger} (r : Related s m l) (w : Ranged
   step_matches take = take_matches r.agrees
   step_matches (read kind index) = read_matches r.agrees kind index
   step_matches (write kind index x) = write_matches r kind index x
-  step_matches hand_over_lem = hand_over_matches r.agrees
-  step_matches (new_diagnosis_lem count flags) = new_diagnosis_matches r.agrees count flags
-  step_matches (judge_parameters_lem j) = judge_parameters_matches r j
-  step_matches (judge_configuration_lem j) = judge_configuration_matches r j
+  step_matches hand_over_call = hand_over_matches r.agrees
+  step_matches (new_diagnosis_call count flags) = new_diagnosis_matches r.agrees count flags
+  step_matches (judge_parameters_call j) = judge_parameters_matches r j
+  step_matches (judge_configuration_call j) = judge_configuration_matches r j
   step_matches events = events_matches r.agrees
   step_matches (acknowledge mask) = acknowledge_matches r.agrees mask
   step_matches pending = pending_matches r.agrees

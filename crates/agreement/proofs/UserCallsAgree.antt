@@ -30,7 +30,7 @@ use Rattle.ledger.specs.Ledger.{Ledger, with_buffers}
 use Rattle.ledger.specs.Outcome as ledger-outcome
 use Rattle.ledger.specs.User as ledger-user
 use Rattle.ledger.specs.Calls as ledger-calls
-use Rattle.rules.specs.Call.{take, hand_over_lem, new_diagnosis_lem, judge_parameters_lem, judge_configuration_lem, events, acknowledge, pending, leave}
+use Rattle.rules.specs.Call.{take, hand_over_call, new_diagnosis_call, judge_parameters_call, judge_configuration_call, events, acknowledge, pending, leave}
 use Rattle.state.specs.With.{with_control, with_outputs}
 use Rattle.steps.specs.Line.{busy, diagnosis_leaves}
 use Rattle.steps.specs.Outcome.{is_open, diagnosis_changed}
@@ -103,7 +103,7 @@ module _ {s : State} {m : List ℕ} {l : Ledger} (a : Agrees s m l) where
             }) a.inputs;
       })
 
-  pub hand_over_matches : Matches (step s m hand_over_lem) (ledger-calls.step l hand_over_lem)
+  pub hand_over_matches : Matches (step s m hand_over_call) (ledger-calls.step l hand_over_call)
   unfolding hand_over ledger-user.hand_over
   hand_over_matches = record {
     answers = refl;
@@ -115,7 +115,7 @@ module _ {s : State} {m : List ℕ} {l : Ledger} (a : Agrees s m l) where
 
   -- ---- new diagnosis
 
-  pub new_diagnosis_matches : (count flags : ℕ) → Matches (step s m (new_diagnosis_lem count flags)) (ledger-calls.step l (new_diagnosis_lem count flags))
+  pub new_diagnosis_matches : (count flags : ℕ) → Matches (step s m (new_diagnosis_call count flags)) (ledger-calls.step l (new_diagnosis_call count flags))
   unfolding new_diagnosis ledger-user.new_diagnosis
   new_diagnosis_matches count flags =
       both Matches (not (within 6 count s.setup.diagnosis_len && leb flags 7)) (not (within 6 count l.setup.diagnosis_len && leb flags 7))
@@ -156,7 +156,7 @@ module _ {s : State} {m : List ℕ} {l : Ledger} (r : Related s m l) where
       open_spared s.configuration l.buffers.configuration (configuration_at s.setup) r.agrees.configuration r.steady.order.configuration_closed
       (and_left (is_open s.configuration) s.control.flags.parameters_good e)
 
-  pub judge_parameters_matches : (j : ℕ) → Matches (step s m (judge_parameters_lem j)) (ledger-calls.step l (judge_parameters_lem j))
+  pub judge_parameters_matches : (j : ℕ) → Matches (step s m (judge_parameters_call j)) (ledger-calls.step l (judge_parameters_call j))
   unfolding judge_parameters ledger-user.judge_parameters
   judge_parameters_matches j =
       let a = r.agrees in
@@ -174,7 +174,7 @@ module _ {s : State} {m : List ℕ} {l : Ledger} (r : Related s m l) where
             (judged_parameters l.control (some l.buffers.parameters.waiting) (eqb j 1)) (λ i. judged_parameters (a.control i) (fresh i) (eqb j 1));
       }))
 
-  pub judge_configuration_matches : (j : ℕ) → Matches (step s m (judge_configuration_lem j)) (ledger-calls.step l (judge_configuration_lem j))
+  pub judge_configuration_matches : (j : ℕ) → Matches (step s m (judge_configuration_call j)) (ledger-calls.step l (judge_configuration_call j))
   unfolding judge_configuration ledger-user.judge_configuration
   judge_configuration_matches j =
       let a = r.agrees in

@@ -4,7 +4,7 @@ ghost use Rattle.std.specs.Prelude.{not, eqb, length};
 ghost use Rattle.state.specs.Start.{given};
 ghost use Rattle.state.specs.Unpack.{unpacked};
 ghost use Rattle.steps.specs.Calls.{started, called};
-ghost use Rattle.rules.specs.Call.{gap, send, tick, take, read, write, hand_over_lem, new_diagnosis_lem, judge_parameters_lem, judge_configuration_lem, events, acknowledge, pending, leave};
+ghost use Rattle.rules.specs.Call.{gap, send, tick, take, read, write, hand_over_call, new_diagnosis_call, judge_parameters_call, judge_configuration_call, events, acknowledge, pending, leave};
 ghost use Rattle.rules.specs.Call as call;
 ghost use Rattle.window.specs.Order.{order_of};
 ghost use Rattle.window.specs.Entries.{window_read, window_write};
@@ -113,7 +113,7 @@ pub extern "C" fn dp_write(memory: &mut [u8], kind: u32, index: u32, octet: u8) 
 // Hand over inputs.
 #[unsafe(no_mangle)]
 pub extern "C" fn dp_hand_over_inputs(memory: &mut [u8]) -> i64
-    ensures { Returns (called memory.old hand_over_lem) result memory.new }
+    ensures { Returns (called memory.old hand_over_call) result memory.new }
 {
     let answer = calls::hand_over(memory);
     answer.code()
@@ -122,7 +122,7 @@ pub extern "C" fn dp_hand_over_inputs(memory: &mut [u8]) -> i64
 // New diagnosis of `count` octets, flags in bits 0 to 2: Ext_Diag, Stat_Diag, overflow.
 #[unsafe(no_mangle)]
 pub extern "C" fn dp_new_diagnosis(memory: &mut [u8], count: u32, flags: u32) -> i64
-    ensures { Returns (called memory.old (new_diagnosis_lem count flags)) result memory.new }
+    ensures { Returns (called memory.old (new_diagnosis_call count flags)) result memory.new }
 {
     let answer = calls::new_diagnosis(memory, count, flags);
     answer.code()
@@ -131,7 +131,7 @@ pub extern "C" fn dp_new_diagnosis(memory: &mut [u8], count: u32, flags: u32) ->
 // Judge parameters, 1 good, 0 bad: 1 if a newer set waited, which is now shown, else 0.
 #[unsafe(no_mangle)]
 pub extern "C" fn dp_judge_parameters(memory: &mut [u8], judgement: u32) -> i64
-    ensures { Returns (called memory.old (judge_parameters_lem judgement)) result memory.new }
+    ensures { Returns (called memory.old (judge_parameters_call judgement)) result memory.new }
 {
     let answer = calls::judge_parameters(memory, judgement);
     answer.code()
@@ -140,7 +140,7 @@ pub extern "C" fn dp_judge_parameters(memory: &mut [u8], judgement: u32) -> i64
 // Judge configuration, likewise.
 #[unsafe(no_mangle)]
 pub extern "C" fn dp_judge_configuration(memory: &mut [u8], judgement: u32) -> i64
-    ensures { Returns (called memory.old (judge_configuration_lem judgement)) result memory.new }
+    ensures { Returns (called memory.old (judge_configuration_call judgement)) result memory.new }
 {
     let answer = calls::judge_configuration(memory, judgement);
     answer.code()

@@ -8,7 +8,7 @@ use mathlib.Core.List.{List, [], ◌∷◌, ◌++◌}
 use Rattle.telegram.proofs.Framing.{framing}
 use Rattle.state.specs.declared.answer.Refusal.TheVariants.{Judging, Range, Absent, Delayed}
 use Rattle.ledger.specs.Ledger.{Ledger, fresh}
-use Rattle.rules.specs.Call.{octet, gap, send, tick, take, read, write, hand_over_lem, new_diagnosis_lem, judge_parameters_lem, judge_configuration_lem, events, acknowledge, leave}
+use Rattle.rules.specs.Call.{octet, gap, send, tick, take, read, write, hand_over_call, new_diagnosis_call, judge_parameters_call, judge_configuration_call, events, acknowledge, leave}
 use Rattle.ledger.specs.Calls.{after}
 use Rattle.ledger.specs.Exchange.{Inner}
 use Rattle.ledger.specs.Script.{Part, hears, sends, does, refuses, Answers, station}
@@ -67,7 +67,7 @@ e5 = 0xE5 ∷ []
 abbrev entering : List Part
 entering =
     does gap 0 ∷ hears set_prm ∷ sends e5 ∷ does send 256
-    ∷ does gap 0 ∷ hears chk_cfg ∷ sends e5 ∷ does send 256 ∷ does (judge_parameters_lem 1) 0 ∷ does (judge_configuration_lem 1) 0 ∷ []
+    ∷ does gap 0 ∷ hears chk_cfg ∷ sends e5 ∷ does send 256 ∷ does (judge_parameters_call 1) 0 ∷ does (judge_configuration_call 1) 0 ∷ []
 
 -- the octet that breaks off
 breakoff_moment : Answers started
@@ -235,14 +235,14 @@ set_prm_faults = written refl
 
 -- a good Set_Prm drops the configuration
 good_set_prm_drops_configuration : Answers started
-    (does gap 0 ∷ hears set_prm2 ∷ sends e5 ∷ does send 256 ∷ does (judge_parameters_lem 1) 0
+    (does gap 0 ∷ hears set_prm2 ∷ sends e5 ∷ does send 256 ∷ does (judge_parameters_call 1) 0
     ∷ does gap 0 ∷ hears chk_cfg2 ∷ sends e5 ∷ does send 256
     ∷ does gap 0 ∷ hears (0x68 ∷ 0x06 ∷ 0x06 ∷ 0x68 ∷ 0x85 ∷ 0x82 ∷ 0x4D ∷ 0x3E ∷ 0x3E ∷ 0x02 ∷ 0xD2 ∷ 0x16 ∷ []) ∷ sends e5 ∷ does send 256
     ∷ does events 0x0400
     ∷ does gap 0
     ∷ hears (0x68 ∷ 0x0C ∷ 0x0C ∷ 0x68 ∷ 0x85 ∷ 0x82 ∷ 0x4D ∷ 0x3D ∷ 0x3E ∷ 0x80 ∷ 0x00 ∷ 0x00 ∷ 0x02 ∷ 0x80 ∷ 0xB3 ∷ 0x00 ∷ 0x84 ∷ 0x16 ∷ [])
-    ∷ sends e5 ∷ does send 256 ∷ does events 0x0800 ∷ refuses (judge_configuration_lem 1) Judging ∷ refuses (read 3 0) Absent
-    ∷ does (judge_parameters_lem 1) 0 ∷ refuses (judge_configuration_lem 1) Judging ∷ [])
+    ∷ sends e5 ∷ does send 256 ∷ does events 0x0800 ∷ refuses (judge_configuration_call 1) Judging ∷ refuses (read 3 0) Absent
+    ∷ does (judge_parameters_call 1) 0 ∷ refuses (judge_configuration_call 1) Judging ∷ [])
 unfolding computing
 good_set_prm_drops_configuration = written refl
 
@@ -303,7 +303,7 @@ noted_clear_survives_good_set_prm = written refl
 
 -- a delayed diagnosis, and its reply is dropped
 delayed_diagnosis_dropped : Answers started
-    (does gap 0 ∷ hears slave_diag ∷ sends (0x68 ∷ []) ∷ does (new_diagnosis_lem 6 0) 0 ∷ does events 0x0000
+    (does gap 0 ∷ hears slave_diag ∷ sends (0x68 ∷ []) ∷ does (new_diagnosis_call 6 0) 0 ∷ does events 0x0000
     ∷ does gap 0 ∷ hears (0xE5 ∷ []) ∷ does events 0x0000
     ∷ does gap 0 ∷ hears (0x10 ∷ []) ∷ does events 0x1000 ∷ does send 256 ∷ [])
 unfolding computing
@@ -312,8 +312,8 @@ delayed_diagnosis_dropped = written refl
 -- a delayed diagnosis, to the end of its reply
 delayed_diagnosis_end : Answers started
     (entering ++ (does events 0x0002 ∷ does (write 5 6 0xA1) 0
-    ∷ does gap 0 ∷ hears slave_diag ∷ sends (0x68 ∷ 0x0B ∷ []) ∷ does (new_diagnosis_lem 7 1) 0 ∷ does events 0x0002 ∷ refuses (new_diagnosis_lem 7 1) Delayed
-    ∷ refuses (new_diagnosis_lem 5 1) Range ∷ refuses (new_diagnosis_lem 11 1) Range ∷ refuses (new_diagnosis_lem 7 8) Range ∷ refuses (read 5 6) Absent
+    ∷ does gap 0 ∷ hears slave_diag ∷ sends (0x68 ∷ 0x0B ∷ []) ∷ does (new_diagnosis_call 7 1) 0 ∷ does events 0x0002 ∷ refuses (new_diagnosis_call 7 1) Delayed
+    ∷ refuses (new_diagnosis_call 5 1) Range ∷ refuses (new_diagnosis_call 11 1) Range ∷ refuses (new_diagnosis_call 7 8) Range ∷ refuses (read 5 6) Absent
     ∷ refuses (write 5 6 0x00) Absent ∷ refuses (read 5 5) Range ∷ refuses (read 5 10) Range
     ∷ sends (0x0B ∷ 0x68 ∷ 0x82 ∷ 0x85 ∷ 0x08 ∷ 0x3E ∷ 0x3C ∷ 0x00 ∷ 0x04 ∷ 0x00 ∷ 0x02 ∷ 0x80 ∷ 0xB3 ∷ []) ∷ does events 0x0002 ∷ sends (0xC2 ∷ [])
     ∷ does events 0x0002 ∷ sends (0x16 ∷ []) ∷ does events 0x1002 ∷ does (read 5 6) 0x00
@@ -328,7 +328,7 @@ delayed_diagnosis_end = written refl
 -- a delayed diagnosis, then a clear
 delayed_diagnosis_then_clear_by_tick : Answers started
     (entering ++ (does events 0x0002
-    ∷ does gap 0 ∷ hears slave_diag ∷ does (new_diagnosis_lem 10 7) 0 ∷ does leave 0 ∷ does events 0x0002 ∷ does tick 0 ∷ does events 0x3002
+    ∷ does gap 0 ∷ hears slave_diag ∷ does (new_diagnosis_call 10 7) 0 ∷ does leave 0 ∷ does events 0x0002 ∷ does tick 0 ∷ does events 0x3002
     ∷ does send 256
     ∷ does gap 0 ∷ hears slave_diag
     ∷ sends (0x68 ∷ 0x0F ∷ 0x0F ∷ 0x68 ∷ 0x82 ∷ 0x85 ∷ 0x08 ∷ 0x3E ∷ 0x3C ∷ 0x0A ∷ 0x07 ∷ 0x80 ∷ 0xFF ∷ 0x80 ∷ 0xB3 ∷ 0x00 ∷ 0x00 ∷ 0x00 ∷ 0x00 ∷ 0x4C ∷ 0x16 ∷ [])
@@ -338,11 +338,11 @@ delayed_diagnosis_then_clear_by_tick = written refl
 
 -- the two diagnosis buffers change
 diag_buffers_swap : Answers started
-    (does (write 5 6 0x11) 0 ∷ does (write 5 7 0x12) 0 ∷ does (new_diagnosis_lem 8 0) 0 ∷ does (read 5 6) 0x00 ∷ does (write 5 6 0x21) 0
-    ∷ does (new_diagnosis_lem 7 0) 0 ∷ does (read 5 6) 0x11 ∷ does (read 5 7) 0x12
+    (does (write 5 6 0x11) 0 ∷ does (write 5 7 0x12) 0 ∷ does (new_diagnosis_call 8 0) 0 ∷ does (read 5 6) 0x00 ∷ does (write 5 6 0x21) 0
+    ∷ does (new_diagnosis_call 7 0) 0 ∷ does (read 5 6) 0x11 ∷ does (read 5 7) 0x12
     ∷ does gap 0 ∷ hears slave_diag
     ∷ sends (0x68 ∷ 0x0C ∷ 0x0C ∷ 0x68 ∷ 0x82 ∷ 0x85 ∷ 0x08 ∷ 0x3E ∷ 0x3C ∷ 0x02 ∷ 0x05 ∷ 0x00 ∷ 0xFF ∷ 0x80 ∷ 0xB3 ∷ 0x21 ∷ 0xE3 ∷ 0x16 ∷ [])
-    ∷ does send 256 ∷ does (new_diagnosis_lem 10 0) 0 ∷ does (read 5 6) 0x21
+    ∷ does send 256 ∷ does (new_diagnosis_call 10 0) 0 ∷ does (read 5 6) 0x21
     ∷ does gap 0 ∷ hears slave_diag
     ∷ sends (0x68 ∷ 0x0F ∷ 0x0F ∷ 0x68 ∷ 0x82 ∷ 0x85 ∷ 0x08 ∷ 0x3E ∷ 0x3C ∷ 0x02 ∷ 0x05 ∷ 0x00 ∷ 0xFF ∷ 0x80 ∷ 0xB3 ∷ 0x11 ∷ 0x12 ∷ 0x00 ∷ 0x00 ∷ 0xE5 ∷ 0x16 ∷ [])
     ∷ does send 256 ∷ [])
@@ -351,16 +351,16 @@ diag_buffers_swap = written refl
 
 -- the inputs
 input_rotation : Answers started
-    (entering ++ (does events 0x0002 ∷ does (write 4 0 0x01) 0 ∷ does hand_over_lem 0 ∷ does (read 4 0) 0x00 ∷ does (write 4 0 0x02) 0 ∷ does hand_over_lem 0
+    (entering ++ (does events 0x0002 ∷ does (write 4 0 0x01) 0 ∷ does hand_over_call 0 ∷ does (read 4 0) 0x00 ∷ does (write 4 0 0x02) 0 ∷ does hand_over_call 0
     ∷ does (read 4 0) 0x01 ∷ does (write 4 0 0x03) 0
     ∷ does gap 0 ∷ hears data_exchange ∷ sends (0x68 ∷ 0x04 ∷ 0x04 ∷ 0x68 ∷ 0x02 ∷ 0x05 ∷ 0x08 ∷ 0x02 ∷ 0x11 ∷ 0x16 ∷ []) ∷ does send 256
     ∷ does (read 4 0) 0x03
     ∷ does gap 0 ∷ hears data_exchange ∷ sends (0x68 ∷ 0x04 ∷ 0x04 ∷ 0x68 ∷ 0x02 ∷ 0x05 ∷ 0x08 ∷ 0x02 ∷ 0x11 ∷ 0x16 ∷ []) ∷ does send 256
-    ∷ does hand_over_lem 0 ∷ does (read 4 0) 0x00
+    ∷ does hand_over_call 0 ∷ does (read 4 0) 0x00
     ∷ does gap 0 ∷ hears (0x68 ∷ 0x05 ∷ 0x05 ∷ 0x68 ∷ 0x85 ∷ 0x83 ∷ 0x6D ∷ 0x38 ∷ 0x3E ∷ 0xEB ∷ 0x16 ∷ [])
     ∷ sends (0x68 ∷ 0x06 ∷ 0x06 ∷ 0x68 ∷ 0x83 ∷ 0x85 ∷ 0x08 ∷ 0x3E ∷ 0x38 ∷ 0x02 ∷ 0x88 ∷ 0x16 ∷ []) ∷ does send 256
     ∷ does gap 0 ∷ hears data_exchange ∷ sends (0x68 ∷ 0x04 ∷ 0x04 ∷ 0x68 ∷ 0x02 ∷ 0x05 ∷ 0x08 ∷ 0x03 ∷ 0x12 ∷ 0x16 ∷ []) ∷ does send 256
-    ∷ does (write 4 0 0x04) 0 ∷ does hand_over_lem 0 ∷ does (read 4 0) 0x02 ∷ []))
+    ∷ does (write 4 0 0x04) 0 ∷ does hand_over_call 0 ∷ does (read 4 0) 0x02 ∷ []))
 unfolding computing
 input_rotation = written refl
 
@@ -397,10 +397,10 @@ chk_cfg_lem : Answers started
     ∷ does gap 0 ∷ hears set_prm ∷ sends e5 ∷ does send 256
     ∷ does gap 0 ∷ hears (0x68 ∷ 0x07 ∷ 0x07 ∷ 0x68 ∷ 0x85 ∷ 0x83 ∷ 0x4D ∷ 0x3E ∷ 0x3E ∷ 0x20 ∷ 0x21 ∷ 0x12 ∷ 0x16 ∷ [])
     ∷ sends (0x10 ∷ 0x03 ∷ 0x05 ∷ 0x03 ∷ 0x0B ∷ 0x16 ∷ []) ∷ does send 256
-    ∷ does gap 0 ∷ hears chk_cfg ∷ sends e5 ∷ does send 256 ∷ does events 0x0C00 ∷ refuses (judge_configuration_lem 1) Judging
-    ∷ refuses (judge_configuration_lem 2) Judging ∷ refuses (judge_parameters_lem 2) Range ∷ does (judge_parameters_lem 1) 0 ∷ does events 0x0400
-    ∷ refuses (judge_configuration_lem 2) Range ∷ does (read 3 1) 0x21 ∷ refuses (read 3 2) Absent ∷ refuses (read 3 3) Absent ∷ refuses (read 3 4) Range
-    ∷ does (judge_configuration_lem 0) 0 ∷ does events 0x2000
+    ∷ does gap 0 ∷ hears chk_cfg ∷ sends e5 ∷ does send 256 ∷ does events 0x0C00 ∷ refuses (judge_configuration_call 1) Judging
+    ∷ refuses (judge_configuration_call 2) Judging ∷ refuses (judge_parameters_call 2) Range ∷ does (judge_parameters_call 1) 0 ∷ does events 0x0400
+    ∷ refuses (judge_configuration_call 2) Range ∷ does (read 3 1) 0x21 ∷ refuses (read 3 2) Absent ∷ refuses (read 3 3) Absent ∷ refuses (read 3 4) Range
+    ∷ does (judge_configuration_call 0) 0 ∷ does events 0x2000
     ∷ does gap 0 ∷ hears slave_diag
     ∷ sends (0x68 ∷ 0x0B ∷ 0x0B ∷ 0x68 ∷ 0x82 ∷ 0x85 ∷ 0x08 ∷ 0x3E ∷ 0x3C ∷ 0x06 ∷ 0x05 ∷ 0x00 ∷ 0xFF ∷ 0x80 ∷ 0xB3 ∷ 0xC6 ∷ 0x16 ∷ [])
     ∷ does send 256 ∷ [])
@@ -415,19 +415,19 @@ waiting_parameters : Answers started
     ∷ sends e5 ∷ does send 256
     ∷ does gap 0
     ∷ hears (0x68 ∷ 0x0E ∷ 0x0E ∷ 0x68 ∷ 0x85 ∷ 0x82 ∷ 0x4D ∷ 0x3D ∷ 0x3E ∷ 0x80 ∷ 0x00 ∷ 0x00 ∷ 0x03 ∷ 0x80 ∷ 0xB3 ∷ 0x00 ∷ 0x66 ∷ 0x77 ∷ 0x62 ∷ 0x16 ∷ [])
-    ∷ sends e5 ∷ does send 256 ∷ does (read 2 3) 0x01 ∷ refuses (read 2 7) Absent ∷ does (judge_parameters_lem 0) 1 ∷ does events 0x0800
-    ∷ does (read 2 3) 0x03 ∷ does (read 2 8) 0x77 ∷ refuses (read 2 9) Absent ∷ does (judge_parameters_lem 1) 0 ∷ does events 0x0000
-    ∷ refuses (judge_parameters_lem 1) Judging ∷ refuses (read 2 3) Absent ∷ [])
+    ∷ sends e5 ∷ does send 256 ∷ does (read 2 3) 0x01 ∷ refuses (read 2 7) Absent ∷ does (judge_parameters_call 0) 1 ∷ does events 0x0800
+    ∷ does (read 2 3) 0x03 ∷ does (read 2 8) 0x77 ∷ refuses (read 2 9) Absent ∷ does (judge_parameters_call 1) 0 ∷ does events 0x0000
+    ∷ refuses (judge_parameters_call 1) Judging ∷ refuses (read 2 3) Absent ∷ [])
 unfolding computing
 waiting_parameters = written refl
 
 -- configuration that waits
 waiting_configuration : Answers started
-    (does gap 0 ∷ hears set_prm2 ∷ sends e5 ∷ does send 256 ∷ does (judge_parameters_lem 1) 0
+    (does gap 0 ∷ hears set_prm2 ∷ sends e5 ∷ does send 256 ∷ does (judge_parameters_call 1) 0
     ∷ does gap 0 ∷ hears chk_cfg2 ∷ sends e5 ∷ does send 256
     ∷ does gap 0 ∷ hears (0x68 ∷ 0x07 ∷ 0x07 ∷ 0x68 ∷ 0x85 ∷ 0x82 ∷ 0x4D ∷ 0x3E ∷ 0x3E ∷ 0x02 ∷ 0x03 ∷ 0xD5 ∷ 0x16 ∷ []) ∷ sends e5 ∷ does send 256
-    ∷ does (read 3 0) 0x01 ∷ refuses (read 3 1) Absent ∷ does (judge_configuration_lem 1) 1 ∷ does events 0x0400
-    ∷ does gap 0 ∷ hears data_exchange ∷ sends rejected ∷ does send 256 ∷ does (read 3 1) 0x03 ∷ does (judge_configuration_lem 1) 0 ∷ does events 0x0002
+    ∷ does (read 3 0) 0x01 ∷ refuses (read 3 1) Absent ∷ does (judge_configuration_call 1) 1 ∷ does events 0x0400
+    ∷ does gap 0 ∷ hears data_exchange ∷ sends rejected ∷ does send 256 ∷ does (read 3 1) 0x03 ∷ does (judge_configuration_call 1) 0 ∷ does events 0x0002
     ∷ [])
 unfolding computing
 waiting_configuration = written refl
@@ -437,8 +437,8 @@ global_control_lem : Answers started
     (does gap 0
     ∷ hears (0x68 ∷ 0x0C ∷ 0x0C ∷ 0x68 ∷ 0x85 ∷ 0x82 ∷ 0x4D ∷ 0x3D ∷ 0x3E ∷ 0x80 ∷ 0x00 ∷ 0x00 ∷ 0x01 ∷ 0x80 ∷ 0xB3 ∷ 0x06 ∷ 0x89 ∷ 0x16 ∷ [])
     ∷ sends e5 ∷ does send 256
-    ∷ does gap 0 ∷ hears (0x68 ∷ 0x07 ∷ 0x07 ∷ 0x68 ∷ 0xFF ∷ 0x82 ∷ 0x44 ∷ 0x3A ∷ 0x3E ∷ 0x08 ∷ 0x00 ∷ 0x45 ∷ 0x16 ∷ []) ∷ does (judge_parameters_lem 1) 0
-    ∷ does gap 0 ∷ hears chk_cfg2 ∷ sends e5 ∷ does send 256 ∷ does (judge_configuration_lem 1) 0 ∷ does events 0x0002
+    ∷ does gap 0 ∷ hears (0x68 ∷ 0x07 ∷ 0x07 ∷ 0x68 ∷ 0xFF ∷ 0x82 ∷ 0x44 ∷ 0x3A ∷ 0x3E ∷ 0x08 ∷ 0x00 ∷ 0x45 ∷ 0x16 ∷ []) ∷ does (judge_parameters_call 1) 0
+    ∷ does gap 0 ∷ hears chk_cfg2 ∷ sends e5 ∷ does send 256 ∷ does (judge_configuration_call 1) 0 ∷ does events 0x0002
     ∷ does gap 0 ∷ hears (0x68 ∷ 0x07 ∷ 0x07 ∷ 0x68 ∷ 0xFF ∷ 0x82 ∷ 0x44 ∷ 0x3A ∷ 0x3E ∷ 0x00 ∷ 0x00 ∷ 0x3D ∷ 0x16 ∷ []) ∷ does events 0x0002
     ∷ does gap 0 ∷ hears (0x68 ∷ 0x07 ∷ 0x07 ∷ 0x68 ∷ 0xFF ∷ 0x82 ∷ 0x46 ∷ 0x3A ∷ 0x3E ∷ 0x08 ∷ 0x09 ∷ 0x50 ∷ 0x16 ∷ []) ∷ does events 0x0002
     ∷ does gap 0 ∷ hears (0x68 ∷ 0x07 ∷ 0x07 ∷ 0x68 ∷ 0xFF ∷ 0x83 ∷ 0x46 ∷ 0x3A ∷ 0x3E ∷ 0x08 ∷ 0x00 ∷ 0x48 ∷ 0x16 ∷ []) ∷ does events 0x0002
@@ -483,7 +483,7 @@ read_outputs_fixed_whole : Answers started
     (entering ++ (does events 0x0002
     ∷ does gap 0 ∷ hears data_exchange ∷ does take 1
     ∷ does gap 0 ∷ hears (0x68 ∷ 0x05 ∷ 0x05 ∷ 0x68 ∷ 0x85 ∷ 0x82 ∷ 0x6D ∷ 0x39 ∷ 0x3E ∷ 0xEB ∷ 0x16 ∷ [])
-    ∷ sends (0x68 ∷ 0x06 ∷ 0x06 ∷ 0x68 ∷ 0x82 ∷ 0x85 ∷ []) ∷ refuses (judge_parameters_lem 1) Judging ∷ does leave 0
+    ∷ sends (0x68 ∷ 0x06 ∷ 0x06 ∷ 0x68 ∷ 0x82 ∷ 0x85 ∷ []) ∷ refuses (judge_parameters_call 1) Judging ∷ does leave 0
     ∷ does gap 0 ∷ hears (0x68 ∷ 0x04 ∷ 0x04 ∷ 0x68 ∷ 0x05 ∷ 0x02 ∷ 0x4D ∷ 0x22 ∷ 0x76 ∷ 0x16 ∷ [])
     ∷ sends (0x68 ∷ 0x04 ∷ 0x04 ∷ 0x68 ∷ 0x02 ∷ 0x05 ∷ 0x08 ∷ 0x00 ∷ 0x0F ∷ 0x16 ∷ []) ∷ does take 2 ∷ []))
 unfolding computing
@@ -491,7 +491,7 @@ read_outputs_fixed_whole = written refl
 
 -- a bad judgement is not delayed
 judge_bad_is_not_delayed : Answers started
-    (does gap 0 ∷ hears set_prm2 ∷ does (judge_parameters_lem 0) 0 ∷ does events 0x2000 ∷ sends e5 ∷ does send 256 ∷ [])
+    (does gap 0 ∷ hears set_prm2 ∷ does (judge_parameters_call 0) 0 ∷ does events 0x2000 ∷ sends e5 ∷ does send 256 ∷ [])
 unfolding computing
 judge_bad_is_not_delayed = written refl
 

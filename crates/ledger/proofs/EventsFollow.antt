@@ -24,7 +24,7 @@ use Rattle.ledger.specs.Ledger.{Ledger, with_buffers, with_line, begun, busy, pa
 use Rattle.ledger.specs.Outcome.{carried, settle}
 use Rattle.ledger.specs.Bus.{telegram_on, request_by, data_by, outcome_of, answered, completed, broken_off, lengthened, beginning, send_left, silenced, heard_as, heard, paused, after_send, elapsed, gapped}
 use Rattle.ledger.specs.User.{hand_over, acknowledge_events, leave_master}
-use Rattle.rules.specs.Call.{Call, octet, gap, send, tick, take, read, write, hand_over_lem, new_diagnosis_lem, judge_parameters_lem, judge_configuration_lem, events, acknowledge, pending, leave}
+use Rattle.rules.specs.Call.{Call, octet, gap, send, tick, take, read, write, hand_over_call, new_diagnosis_call, judge_parameters_call, judge_configuration_call, events, acknowledge, pending, leave}
 use Rattle.ledger.specs.Calls.{step, after}
 use Rattle.ledger.specs.History.{outputs_taken, deeds_by, clears, heard_deeds, deeds_of}
 use Rattle.ledger.specs.EventsFollow.{EventsOpen, publishes_in, acknowledges_outputs, PublishingRaises}
@@ -94,19 +94,19 @@ step_goes l (write kind index x) = write_cases (λ t. Goes l false [] t.ledger) 
     wrote : (t : Bool) → Goes l false [] (with_buffers l (cond t (with_inputs l.buffers (written_input l.buffers.inputs index x)) (with_diagnoses l.buffers (written_diagnosis l.buffers.diagnosis index x))))
     wrote true = quiet l
     wrote false = quiet l
-step_goes l hand_over_lem = quiet l
-step_goes l (new_diagnosis_lem count flags) =
+step_goes l hand_over_call = quiet l
+step_goes l (new_diagnosis_call count flags) =
     diagnosis_cases (λ t. Goes l false [] t.ledger) l count flags (λ _. quiet l) (λ _. quiet l) (λ _. diagnosed_goes l count flags)
-step_goes l (judge_parameters_lem j) =
+step_goes l (judge_parameters_call j) =
     let waits = some l.buffers.parameters.waiting in
-    parameters_cases (λ t. Goes l false (deeds_of l (judge_parameters_lem j)) t.ledger) l j (λ e _. rw e (quiet l))
+    parameters_cases (λ t. Goes l false (deeds_of l (judge_parameters_call j)) t.ledger) l j (λ e _. rw e (quiet l))
     (λ e. rw e
     (quiet_goes l (judged_parameters l.control waits (eqb j 1)) (parameters_quiet l.setup l.control waits (eqb j 1) tt)
     (parameters_follow (occupied l) (waiting_sets l) l.control (eqb j 1) (and_left (parameters_open l) (leb j 1) e))))
-step_goes l (judge_configuration_lem j) =
+step_goes l (judge_configuration_call j) =
     let waits = some l.buffers.configuration.waiting in
     let good = l.control.flags.parameters_good in
-    configuration_cases (λ t. Goes l false (deeds_of l (judge_configuration_lem j)) t.ledger) l j (λ e _. rw e (quiet l))
+    configuration_cases (λ t. Goes l false (deeds_of l (judge_configuration_call j)) t.ledger) l j (λ e _. rw e (quiet l))
     (λ e. rw e
     (quiet_goes l (judged_configuration l.control waits (eqb j 1)) (configuration_quiet l.setup l.control waits (eqb j 1) tt)
     (configuration_follows (occupied l) (waiting_sets l) l.control (eqb j 1)

@@ -24,7 +24,7 @@ use Rattle.ledger.specs.Outcome.{carried, diagnosis_changed, settle}
 use Rattle.ledger.specs.Bus.{answered, lengthened, heard_as, heard}
 use Rattle.ledger.specs.User.{Told, told, refusing, absent, octets_of_kind, written_octet, take_outputs, read_octet, write_octet, hand_over, new_diagnosis, judge_parameters, judge_configuration, acknowledge_events, leave_master}
 use Rattle.rules.specs.Kinds.{in_range, writable}
-use Rattle.rules.specs.Call.{Call, octet, gap, send, tick, take, read, write, hand_over_lem, new_diagnosis_lem, judge_parameters_lem, judge_configuration_lem, events, acknowledge, pending, leave}
+use Rattle.rules.specs.Call.{Call, octet, gap, send, tick, take, read, write, hand_over_call, new_diagnosis_call, judge_parameters_call, judge_configuration_call, events, acknowledge, pending, leave}
 use Rattle.ledger.specs.Calls.{step, answers, after}
 use Rattle.ledger.specs.Exchange.{MidTelegram, Inner, of_user, PlacesChanged, PlacesChange}
 use Rattle.rules.specs.Runs.{answers_to, left_by}
@@ -72,8 +72,8 @@ user_on l n (read kind index) u a =
 user_on l n (write kind index x) u a =
     over2 n (not (writable kind && in_range l.setup kind index)) (absent l kind index) (refusing Range l) (refusing Absent l)
     (told 0 (with_buffers l (written_octet l.buffers kind index x)))
-user_on l n hand_over_lem u a = refl
-user_on l n (new_diagnosis_lem count flags) u a =
+user_on l n hand_over_call u a = refl
+user_on l n (new_diagnosis_call count flags) u a =
     let x : Told = refusing Range l in
     let y : Told = refusing Delayed l in
     let z : Told = told 0 (with_control l (delaying l.control count flags)) in
@@ -81,11 +81,11 @@ user_on l n (new_diagnosis_lem count flags) u a =
     let p : Bool = not (within 6 count l.setup.diagnosis_len && leb flags 7) in
     ap (λ (t : Bool). cond p (on_line n x) (cond (delayed l.control) (on_line n y) (cond t (on_line n z) (on_line n w)))) a.leaves_is
     ∙ over3 n p (delayed l.control) (diagnosis_leaves l) x y z w
-user_on l n (judge_parameters_lem j) u a =
+user_on l n (judge_parameters_call j) u a =
     over2 n (not (parameters_open l)) (not (leb j 1)) (refusing Judging l) (refusing Range l)
     (told (cond (some l.buffers.parameters.waiting) 1 0)
     (carried l (judged_parameters l.control (some l.buffers.parameters.waiting) (eqb j 1)) []))
-user_on l n (judge_configuration_lem j) u a =
+user_on l n (judge_configuration_call j) u a =
     over2 n (not (configuration_open l && l.control.flags.parameters_good)) (not (leb j 1)) (refusing Judging l) (refusing Range l)
     (told (cond (some l.buffers.configuration.waiting) 1 0)
     (carried l (judged_configuration l.control (some l.buffers.configuration.waiting) (eqb j 1)) []))

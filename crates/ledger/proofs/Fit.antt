@@ -36,7 +36,7 @@ use Rattle.ledger.specs.Ledger.{Line, Ledger, with_line, begun, busy, diagnosis_
 use Rattle.ledger.specs.Outcome.{on_outputs, on_inputs, on_sets, on_buffers, carried, diagnosis_changed, after_reply, settle}
 use Rattle.ledger.specs.Bus.{telegram_on, request_by, data_by, outcome_of, answered, completed, broken_off, lengthened, beginning, send_left, silenced, heard_as, heard, paused, after_send, elapsed, gapped}
 use Rattle.ledger.specs.User.{hand_over, acknowledge_events, leave_master, written_octet}
-use Rattle.rules.specs.Call.{Call, octet, gap, send, tick, take, read, write, hand_over_lem, new_diagnosis_lem, judge_parameters_lem, judge_configuration_lem, events, acknowledge, pending, leave}
+use Rattle.rules.specs.Call.{Call, octet, gap, send, tick, take, read, write, hand_over_call, new_diagnosis_call, judge_parameters_call, judge_configuration_call, events, acknowledge, pending, leave}
 use Rattle.ledger.specs.Calls.{step, after}
 use Rattle.ledger.specs.ReadBack.{StartTakes, OutputsFit, InputsFit, SetsFit, DiagnosesFit, ListsFit, Left, Fit, drawn_by, Draws, Fixes, ReadingBack}
 use Rattle.ledger.proofs.Settling.{settle_line}
@@ -258,18 +258,18 @@ step_fit l (read kind index) f = read_cases (λ t. Fit t.ledger) l kind index (�
 step_fit l (write kind index x) f =
     write_cases (λ t. Fit t.ledger) l kind index x (λ _. f)
     (on_lists f (written_octet l.buffers kind index x) l.control (written_fit kind index x f) f.counts)
-step_fit l hand_over_lem f =
+step_fit l hand_over_call f =
     on_lists f (with_inputs l.buffers (handed_over l.buffers.inputs)) l.control
     (on_inputs_lem f (handed_over l.buffers.inputs)
     (record { sending = f.lists.inputs.sending; next = f.lists.inputs.held; held = f.lists.inputs.next })) f.counts
-step_fit l (new_diagnosis_lem count flags) f =
+step_fit l (new_diagnosis_call count flags) f =
     diagnosis_cases (λ t. Fit t.ledger) l count flags (λ _. f)
     (λ e. on_lists f l.buffers (delaying l.control count flags) f.lists (record { count = f.counts.count; delayed = inr (within_and 6 count _ _ e); flags = flags_in_lem count _ flags e }))
     (λ e. changed_fit f _ (record { count = within_and 6 count _ _ e; delayed = inl refl; flags = omega arith }))
-step_fit l (judge_parameters_lem j) f =
+step_fit l (judge_parameters_call j) f =
     parameters_cases (λ t. Fit t.ledger) l j (λ _ _. f)
     (λ _. quiet_fit f (parameters_quiet l.setup l.control (some l.buffers.parameters.waiting) (eqb j 1) tt))
-step_fit l (judge_configuration_lem j) f =
+step_fit l (judge_configuration_call j) f =
     configuration_cases (λ t. Fit t.ledger) l j (λ _ _. f)
     (λ _. quiet_fit f (configuration_quiet l.setup l.control (some l.buffers.configuration.waiting) (eqb j 1) tt))
 step_fit l events f = f
@@ -318,5 +318,5 @@ replies_read s slice cs a =
       fit = f;
       fixes = fixes (after (fresh s slice) cs);
       completes = draws f;
-      heard_whole_lem = λ t. draws (settle_fit (on_line f (beginning (start_octet (kind_of t))) (inl refl))) t;
+      heard_whole = λ t. draws (settle_fit (on_line f (beginning (start_octet (kind_of t))) (inl refl))) t;
     }

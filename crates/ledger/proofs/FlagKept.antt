@@ -20,7 +20,7 @@ use Rattle.rules.specs.declared.request.Occupied.{Occupied}
 use Rattle.rules.specs.declared.request.Service.{Service}
 use Rattle.rules.specs.declared.request.Service.TheVariants.{Nothing, Status as StatusService, Reject, GlobalControl, DataExchange, SetPrm, ChkCfg, SlaveDiag, GetCfg, ReadInputs, ReadOutputs}
 use Rattle.rules.specs.declared.outcome.Outcome.{Outcome}
-use Rattle.rules.specs.Call.{Call, octet, gap, send, tick, take, read, write, hand_over_lem, new_diagnosis_lem, judge_parameters_lem, judge_configuration_lem, events, acknowledge, pending, leave}
+use Rattle.rules.specs.Call.{Call, octet, gap, send, tick, take, read, write, hand_over_call, new_diagnosis_call, judge_parameters_call, judge_configuration_call, events, acknowledge, pending, leave}
 use Rattle.rules.specs.Control.{owns, raise}
 use Rattle.rules.specs.Diagnosis.{delayed, diagnosed, delaying, caught_up}
 use Rattle.rules.specs.Line.{clear_on, clear_noted, counts, with_remaining, ticked}
@@ -156,11 +156,11 @@ flag_kept l tick e f = either Flagged l.control.noted (settle_flag (with_line l 
 flag_kept l take e f = take_cases LeavesFlagged l (λ _. f) (λ _. f)
 flag_kept l (read kind index) e f = read_cases LeavesFlagged l kind index (λ _. f) f
 flag_kept l (write kind index x) e f = write_cases LeavesFlagged l kind index x (λ _. f) f
-flag_kept l hand_over_lem e f = f
-flag_kept l (new_diagnosis_lem count flags) e f = diagnosis_cases LeavesFlagged l count flags (λ _. f) (λ _. f) (λ _. refl)
-flag_kept l (judge_parameters_lem j) e f =
+flag_kept l hand_over_call e f = f
+flag_kept l (new_diagnosis_call count flags) e f = diagnosis_cases LeavesFlagged l count flags (λ _. f) (λ _. f) (λ _. refl)
+flag_kept l (judge_parameters_call j) e f =
     parameters_cases LeavesFlagged l j (λ _ _. f) (λ _. parameters_flag l.control (some l.buffers.parameters.waiting) (eqb j 1) f)
-flag_kept l (judge_configuration_lem j) e f =
+flag_kept l (judge_configuration_call j) e f =
     configuration_cases LeavesFlagged l j (λ _ _. f) (λ _. configuration_flag l.control (some l.buffers.configuration.waiting) (eqb j 1) f)
 flag_kept l events e f = f
 flag_kept l (acknowledge mask) e f = f

@@ -26,7 +26,7 @@ use Rattle.ledger.specs.Ledger.{Ledger, with_line, begun, busy, fresh}
 use Rattle.ledger.specs.Outcome.{on_outputs, carried, settle}
 use Rattle.ledger.specs.Bus.{telegram_on, request_by, outcome_of, answered, completed, broken_off, lengthened, beginning, send_left, silenced, heard_as, heard, paused, after_send, elapsed, gapped}
 use Rattle.ledger.specs.User.{Told, told, take_outputs, read_octet, hand_over, acknowledge_events, leave_master}
-use Rattle.rules.specs.Call.{Call, octet, gap, send, tick, take, read, write, hand_over_lem, new_diagnosis_lem, judge_parameters_lem, judge_configuration_lem, events, acknowledge, pending, leave}
+use Rattle.rules.specs.Call.{Call, octet, gap, send, tick, take, read, write, hand_over_call, new_diagnosis_call, judge_parameters_call, judge_configuration_call, events, acknowledge, pending, leave}
 use Rattle.ledger.specs.Calls.{step, answers, after}
 use Rattle.ledger.proofs.Runs.{answers_append}
 use Rattle.ledger.proofs.Settling.{settle_outputs}
@@ -174,14 +174,14 @@ step_made l (write kind index x) = write_cases (λ t. Made l [] t.ledger) l kind
         ≡ l.buffers.outputs
     wrote true = refl
     wrote false = refl
-step_made l hand_over_lem = refl
-step_made l (new_diagnosis_lem count flags) =
+step_made l hand_over_call = refl
+step_made l (new_diagnosis_call count flags) =
     diagnosis_cases (λ t. Made l [] t.ledger) l count flags (λ _. refl) (λ _. refl) (λ _. refl)
-step_made l (judge_parameters_lem j) =
-    parameters_cases (λ t. Made l (deeds_of l (judge_parameters_lem j)) t.ledger) l j (λ e _. rw e)
+step_made l (judge_parameters_call j) =
+    parameters_cases (λ t. Made l (deeds_of l (judge_parameters_call j)) t.ledger) l j (λ e _. rw e)
     (λ e. rw e (sym (made_one l.setup.output_len (judged_parameters l.control (some l.buffers.parameters.waiting) (eqb j 1)).outputs [] l.buffers.outputs)))
-step_made l (judge_configuration_lem j) =
-    configuration_cases (λ t. Made l (deeds_of l (judge_configuration_lem j)) t.ledger) l j (λ e _. rw e)
+step_made l (judge_configuration_call j) =
+    configuration_cases (λ t. Made l (deeds_of l (judge_configuration_call j)) t.ledger) l j (λ e _. rw e)
     (λ e. rw e (sym (made_one l.setup.output_len (judged_configuration l.control (some l.buffers.configuration.waiting) (eqb j 1)).outputs [] l.buffers.outputs)))
 step_made l events = refl
 step_made l (acknowledge mask) = refl

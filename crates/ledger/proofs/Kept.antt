@@ -11,7 +11,7 @@ use Rattle.ledger.specs.Ledger.{Ledger, with_line, begun, busy}
 use Rattle.ledger.specs.Outcome.{carried, settle}
 use Rattle.ledger.specs.Bus.{telegram_on, answered, completed, broken_off, lengthened, beginning, send_left, silenced, heard_as, heard, paused, after_send, elapsed, gapped}
 use Rattle.ledger.specs.User.{hand_over, acknowledge_events, leave_master}
-use Rattle.rules.specs.Call.{Call, octet, gap, send, tick, take, read, write, hand_over_lem, new_diagnosis_lem, judge_parameters_lem, judge_configuration_lem, events, acknowledge, pending, leave}
+use Rattle.rules.specs.Call.{Call, octet, gap, send, tick, take, read, write, hand_over_call, new_diagnosis_call, judge_parameters_call, judge_configuration_call, events, acknowledge, pending, leave}
 use Rattle.ledger.specs.Calls.{step, after}
 use Rattle.ledger.proofs.Settling.{settle_setup, settle_slice}
 use Rattle.ledger.proofs.ByCases.{take_cases, read_cases, write_cases, diagnosis_cases, parameters_cases, configuration_cases}
@@ -56,11 +56,11 @@ step_kept l tick = go l.control.noted
 step_kept l take = take_cases (λ t. Kept l t.ledger) l (λ _. (refl, refl)) (λ _. (refl, refl))
 step_kept l (read kind index) = read_cases (λ t. Kept l t.ledger) l kind index (λ _. (refl, refl)) (refl, refl)
 step_kept l (write kind index x) = write_cases (λ t. Kept l t.ledger) l kind index x (λ _. (refl, refl)) (refl, refl)
-step_kept l hand_over_lem = (refl, refl)
-step_kept l (new_diagnosis_lem count flags) =
+step_kept l hand_over_call = (refl, refl)
+step_kept l (new_diagnosis_call count flags) =
     diagnosis_cases (λ t. Kept l t.ledger) l count flags (λ _. (refl, refl)) (λ _. (refl, refl)) (λ _. (refl, refl))
-step_kept l (judge_parameters_lem j) = parameters_cases (λ t. Kept l t.ledger) l j (λ _ _. (refl, refl)) (λ _. (refl, refl))
-step_kept l (judge_configuration_lem j) = configuration_cases (λ t. Kept l t.ledger) l j (λ _ _. (refl, refl)) (λ _. (refl, refl))
+step_kept l (judge_parameters_call j) = parameters_cases (λ t. Kept l t.ledger) l j (λ _ _. (refl, refl)) (λ _. (refl, refl))
+step_kept l (judge_configuration_call j) = configuration_cases (λ t. Kept l t.ledger) l j (λ _ _. (refl, refl)) (λ _. (refl, refl))
 step_kept l events = (refl, refl)
 step_kept l (acknowledge mask) = (refl, refl)
 step_kept l pending = (refl, refl)

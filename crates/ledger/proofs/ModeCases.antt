@@ -3,7 +3,7 @@ use Prim.Native.Nat.{ℕ}
 use mathlib.Core.Path.{refl}
 use mathlib.Core.List.{List, [], ◌∷◌, ◌++◌}
 use Rattle.ledger.specs.Ledger.{Ledger, fresh}
-use Rattle.rules.specs.Call.{gap, send, take, read, write, hand_over_lem, judge_parameters_lem, judge_configuration_lem, events, acknowledge, leave}
+use Rattle.rules.specs.Call.{gap, send, take, read, write, hand_over_call, judge_parameters_call, judge_configuration_call, events, acknowledge, leave}
 use Rattle.ledger.specs.Script.{Part, hears, sends, does, Answers, station}
 use Rattle.ledger.proofs.Scripts.{written}
 use Rattle.ledger.proofs.Computing.{computing}
@@ -54,7 +54,7 @@ abbrev pub entered : (status fcs : ℕ) → List Part
 entered status fcs =
     does gap 0 ∷ hears (set_prm status fcs) ∷ sends (0xE5 ∷ []) ∷ does send 256
     ∷ does gap 0 ∷ hears chk_cfg ∷ sends (0xE5 ∷ []) ∷ does send 256
-    ∷ does (judge_parameters_lem 1) 0 ∷ does (judge_configuration_lem 1) 0 ∷ does (acknowledge 0xFFFF) 0 ∷ []
+    ∷ does (judge_parameters_call 1) 0 ∷ does (judge_configuration_call 1) 0 ∷ does (acknowledge 0xFFFF) 0 ∷ []
 
 -- The lists.
 
@@ -117,17 +117,17 @@ clear_empties = written refl
 -- freeze brings new inputs and keeps them, freeze again brings newer ones, and unfreeze does and ends it
 freeze_keeps : Answers started
     (entered 0x90 0x9D
-    ++ does (write 4 0 0x21) 0 ∷ does hand_over_lem 0
+    ++ does (write 4 0 0x21) 0 ∷ does hand_over_call 0
     ∷ does gap 0 ∷ hears (control 0x08 0x47) ∷ does send 256
     ∷ does gap 0 ∷ hears (exchange 0x11 0x65) ∷ sends (input 0x21 0x30) ∷ does send 256
-    ∷ does (write 4 0 0x22) 0 ∷ does hand_over_lem 0
+    ∷ does (write 4 0 0x22) 0 ∷ does hand_over_call 0
     ∷ does gap 0 ∷ hears (exchange 0x12 0x66) ∷ sends (input 0x21 0x30) ∷ does send 256
     ∷ does gap 0 ∷ hears (control 0x08 0x47) ∷ does send 256
     ∷ does gap 0 ∷ hears (exchange 0x13 0x67) ∷ sends (input 0x22 0x31) ∷ does send 256
-    ∷ does (write 4 0 0x23) 0 ∷ does hand_over_lem 0
+    ∷ does (write 4 0 0x23) 0 ∷ does hand_over_call 0
     ∷ does gap 0 ∷ hears (exchange 0x14 0x68) ∷ sends (input 0x22 0x31) ∷ does send 256
     ∷ does gap 0 ∷ hears (control 0x04 0x43) ∷ does send 256
-    ∷ does (write 4 0 0x24) 0 ∷ does hand_over_lem 0
+    ∷ does (write 4 0 0x24) 0 ∷ does hand_over_call 0
     ∷ does gap 0 ∷ hears (exchange 0x15 0x69) ∷ sends (input 0x24 0x33) ∷ does send 256 ∷ [])
 unfolding computing
 freeze_keeps = written refl
@@ -135,9 +135,9 @@ freeze_keeps = written refl
 -- unfreeze brings new inputs also where no freeze was on
 unfreeze_brings : Answers started
     (entered 0x90 0x9D
-    ++ does (write 4 0 0x21) 0 ∷ does hand_over_lem 0
+    ++ does (write 4 0 0x21) 0 ∷ does hand_over_call 0
     ∷ does gap 0 ∷ hears (control 0x04 0x43) ∷ does send 256
-    ∷ does (write 4 0 0x22) 0 ∷ does hand_over_lem 0
+    ∷ does (write 4 0 0x22) 0 ∷ does hand_over_call 0
     ∷ does gap 0 ∷ hears read_inputs ∷ sends inputs_read21 ∷ does send 256 ∷ [])
 unfolding computing
 unfreeze_brings = written refl
@@ -147,7 +147,7 @@ not_allowed : Answers started
     (entered 0x80 0x8D
     ++ does gap 0 ∷ hears (control 0x28 0x67) ∷ does send 256
     ∷ does events 0x0100
-    ∷ does (write 4 0 0x21) 0 ∷ does hand_over_lem 0
+    ∷ does (write 4 0 0x21) 0 ∷ does hand_over_call 0
     ∷ does gap 0 ∷ hears (exchange 0x11 0x65) ∷ sends (input 0x21 0x30) ∷ does send 256
     ∷ does take 1 ∷ does (read 1 0) 0x11
     ∷ does gap 0 ∷ hears slave_diag ∷ sends (diagnosis 0x00 0x04 0xC2) ∷ does send 256 ∷ [])
@@ -162,7 +162,7 @@ configuration_ends : Answers started
     ∷ does gap 0 ∷ hears chk_cfg ∷ sends (0xE5 ∷ []) ∷ does send 256
     ∷ does take 2 ∷ does (read 1 0) 0x00
     ∷ does gap 0 ∷ hears slave_diag ∷ sends (diagnosis 0x02 0x04 0xC4) ∷ does send 256
-    ∷ does (judge_configuration_lem 1) 0
+    ∷ does (judge_configuration_call 1) 0
     ∷ does gap 0 ∷ hears (exchange 0x22 0x76) ∷ sends (input 0x00 0x0F) ∷ does send 256
     ∷ does take 1 ∷ does (read 1 0) 0x22
     ∷ does gap 0 ∷ hears (control 0x20 0x5F) ∷ does send 256

@@ -17,7 +17,7 @@ use Rattle.rules.specs.Control.{in_exchange}
 use Rattle.rules.specs.Diagnosis.{delayed, diagnosed, delaying}
 use Rattle.rules.specs.Line.{clear_on, clear_noted, ticked}
 use Rattle.rules.specs.User.{judged_parameters, judged_configuration}
-use Rattle.rules.specs.Call.{Call, octet, gap, send, tick, take, read, write, hand_over_lem, new_diagnosis_lem, judge_parameters_lem, judge_configuration_lem, events, acknowledge, pending, leave}
+use Rattle.rules.specs.Call.{Call, octet, gap, send, tick, take, read, write, hand_over_call, new_diagnosis_call, judge_parameters_call, judge_configuration_call, events, acknowledge, pending, leave}
 use Rattle.rules.proofs.ModesKept.{Kept, withheld_by, KeptBy, clear_kept, noted_kept, ticked_kept, parameters_kept, configuration_kept, telegram_kept}
 use Rattle.ledger.specs.Lists.{some, Outputs, Buffers}
 use Rattle.ledger.specs.Ledger.{Ledger, with_line, with_buffers, begun, busy, diagnosis_leaves, occupied, fresh}
@@ -87,13 +87,13 @@ step_modal l take f = take_cases (λ t. Modal t.ledger) l (λ _. f) (λ _. f)
 step_modal l (read kind index) f = read_cases (λ t. Modal t.ledger) l kind index (λ _. f) f
 step_modal l (write kind index x) f =
     write_cases (λ t. Modal t.ledger) l kind index x (λ _. f) (either (λ (b : Buffers). Modal (with_buffers l b)) (eqb kind 4) f f)
-step_modal l hand_over_lem f = f
-step_modal l (new_diagnosis_lem count flags) f = diagnosis_cases (λ t. Modal t.ledger) l count flags (λ _. f) (λ _. f) (λ _. f)
-step_modal l (judge_parameters_lem j) f =
+step_modal l hand_over_call f = f
+step_modal l (new_diagnosis_call count flags) f = diagnosis_cases (λ t. Modal t.ledger) l count flags (λ _. f) (λ _. f) (λ _. f)
+step_modal l (judge_parameters_call j) f =
     let waits = some l.buffers.parameters.waiting in
     parameters_cases (λ t. Modal t.ledger) l j (λ _ _. f)
     (λ _. carried_modal l (judged_parameters l.control waits (eqb j 1)) [] (parameters_kept l.control f waits (eqb j 1)))
-step_modal l (judge_configuration_lem j) f =
+step_modal l (judge_configuration_call j) f =
     let waits = some l.buffers.configuration.waiting in
     configuration_cases (λ t. Modal t.ledger) l j (λ _ _. f)
     (λ _. carried_modal l (judged_configuration l.control waits (eqb j 1)) [] (configuration_kept l.control f waits (eqb j 1)))

@@ -20,7 +20,7 @@ use Rattle.rules.specs.Requests.{master_of}
 use Rattle.rules.specs.Diagnosis.{delaying}
 use Rattle.rules.specs.Line.{clear_on, ticked}
 use Rattle.rules.specs.User.{judged_parameters, judged_configuration}
-use Rattle.rules.specs.Call.{Call, octet, gap, send, tick, take, read, write, hand_over_lem, new_diagnosis_lem, judge_parameters_lem, judge_configuration_lem, events, acknowledge, pending, leave}
+use Rattle.rules.specs.Call.{Call, octet, gap, send, tick, take, read, write, hand_over_call, new_diagnosis_call, judge_parameters_call, judge_configuration_call, events, acknowledge, pending, leave}
 use Rattle.rules.proofs.Bounded.{Factors, clear_bounded, ticked_bounded, parameters_bounded, configuration_bounded, telegram_bounded}
 use Rattle.ledger.specs.Lists.{some, taken_outputs, handed_over, Buffers, with_outputs, with_inputs}
 use Rattle.ledger.specs.Ledger.{Line, Ledger, begun, busy, occupied, fresh}
@@ -98,18 +98,18 @@ step_octal l (read kind index) h k f = read_cases (λ t. Octal t.ledger) l kind 
 step_octal l (write kind index x) h k f =
     write_cases (λ t. Octal t.ledger) l kind index x (λ _. f)
     (on_lists f (written_octet l.buffers kind index x) l.control (written_octal f kind index x h) f.control)
-step_octal l hand_over_lem h k f =
+step_octal l hand_over_call h k f =
     on_lists f (with_inputs l.buffers (handed_over l.buffers.inputs)) l.control
     (on_inputs_lem f (handed_over l.buffers.inputs)
     (record { sending = f.lists.inputs.sending; next = f.lists.inputs.held; held = f.lists.inputs.next })) f.control
-step_octal l (new_diagnosis_lem count flags) h k f =
+step_octal l (new_diagnosis_call count flags) h k f =
     diagnosis_cases (λ t. Octal t.ledger) l count flags (λ _. f)
     (λ _. on_lists f l.buffers (delaying l.control count flags) f.lists f.control) (λ _. changed_octal f count flags)
-step_octal l (judge_parameters_lem j) h k f =
+step_octal l (judge_parameters_call j) h k f =
     let waits = some l.buffers.parameters.waiting in
     parameters_cases (λ t. Octal t.ledger) l j (λ _ _. f)
     (λ _. carried_octal f (judged_parameters l.control waits (eqb j 1)) [] tt (parameters_bounded l.control f.control waits (eqb j 1)))
-step_octal l (judge_configuration_lem j) h k f =
+step_octal l (judge_configuration_call j) h k f =
     let waits = some l.buffers.configuration.waiting in
     configuration_cases (λ t. Octal t.ledger) l j (λ _ _. f)
     (λ _. carried_octal f (judged_configuration l.control waits (eqb j 1)) [] tt (configuration_bounded l.control f.control waits (eqb j 1)))

@@ -179,12 +179,12 @@ module _ (l : Ledger) (t : Telegram) where
     polled z e = record {
       good = good (ap length e ∙ sym z) ∙ ap (answered l (chained g r (good_exchange k)) (master_of r)) e;
       publishes = λ q. ap (λ (x : Outputs). x.next) (polled_outputs e z q);
-      is_new_lem = λ q. (ap (λ (x : Outputs). x.fresh) (polled_outputs e z q), ap (λ (x : Outputs). x.zeros) (polled_outputs e z q));
+      is_new = λ q. (ap (λ (x : Outputs). x.fresh) (polled_outputs e z q), ap (λ (x : Outputs). x.zeros) (polled_outputs e z q));
       announces = λ q.
           ap (λ (x : Ledger). eventBit x.control.events.word outputs_event) (good (ap length e ∙ sym z))
           ∙ (λ i. eventBit (announced (cond (sync_is q i) HoldBack Publish) k.events).word outputs_event)
           ∙ raised_same k.events outputs_event (omega arith);
-      holds_back_lem = λ q. (ap (λ (x : Outputs). x.back) (polled_outputs e z q), ap (λ (x : Outputs). x.withheld) (polled_outputs e z q));
+      holds_back = λ q. (ap (λ (x : Outputs). x.back) (polled_outputs e z q), ap (λ (x : Outputs). x.withheld) (polled_outputs e z q));
       next_stays = λ q. (ap (λ (x : Outputs). x.next) (polled_outputs e z q), ap (λ (x : Outputs). x.fresh) (polled_outputs e z q));
     }
 
@@ -281,7 +281,7 @@ module _ (l : Ledger) (t : Telegram) where
     unfolding answered
     releases = record {
       publishes = ap (λ (x : Outputs). x.next) released_outputs;
-      is_new_lem = (ap (λ (x : Outputs). x.fresh) released_outputs, ap (λ (x : Outputs). x.zeros) released_outputs);
+      is_new = (ap (λ (x : Outputs). x.fresh) released_outputs, ap (λ (x : Outputs). x.zeros) released_outputs);
       announces =
           ap (λ (x : Ledger). eventBit x.control.events.word outputs_event) commanded
           ∙ ap (λ (d : OutputsDeed). eventBit (announced d (storing k first).events).word outputs_event) releasing

@@ -5,7 +5,7 @@ use mathlib.Core.Path.{refl}
 use mathlib.Core.List.{List, [], ◌∷◌, ◌++◌}
 use Rattle.state.specs.declared.answer.Refusal.TheVariants.{Range}
 use Rattle.ledger.specs.Ledger.{Ledger, fresh}
-use Rattle.rules.specs.Call.{gap, send, take, read, write, hand_over_lem, new_diagnosis_lem, events, acknowledge, leave}
+use Rattle.rules.specs.Call.{gap, send, take, read, write, hand_over_call, new_diagnosis_call, events, acknowledge, leave}
 use Rattle.ledger.specs.Script.{hears, sends, does, refuses, Answers, station}
 use Rattle.ledger.proofs.Scripts.{written}
 use Rattle.ledger.proofs.Computing.{computing}
@@ -58,7 +58,7 @@ clear = control 0x02 0x41
 panel_replies : Answers panel
     (entered 0xB0 0xBD
     ++ does gap 0 ∷ hears exchange5_d ∷ sends e5 ∷ does send 256 ∷ does take 1 ∷ does (read 1 0) 0x11
-    ∷ does (new_diagnosis_lem 6 0) 0
+    ∷ does (new_diagnosis_call 6 0) 0
     ∷ does gap 0 ∷ hears exchange5_d ∷ sends e5 ∷ does send 256 ∷ does take 0
     ∷ does gap 0 ∷ hears exchange7_dwith11 ∷ sends flag_told ∷ does send 256 ∷ does take 1
     ∷ does gap 0 ∷ hears exchange7_dwith11 ∷ sends flag_told ∷ does send 256 ∷ does take 0 ∷ [])
@@ -70,8 +70,8 @@ panel_without_inputs : Answers panel
     (entered 0xB0 0xBD
     ++ does gap 0 ∷ hears read_inputs5_d ∷ sends no_inputs_read ∷ does send 256
     ∷ does gap 0 ∷ hears read_inputs5_d ∷ sends no_inputs_read ∷ does send 256
-    ∷ refuses (read 4 0) Range ∷ refuses (write 4 0 0x21) Range ∷ does hand_over_lem 0
-    ∷ does gap 0 ∷ hears (control 0x08 0x47) ∷ does send 256 ∷ does hand_over_lem 0
+    ∷ refuses (read 4 0) Range ∷ refuses (write 4 0 0x21) Range ∷ does hand_over_call 0
+    ∷ does gap 0 ∷ hears (control 0x08 0x47) ∷ does send 256 ∷ does hand_over_call 0
     ∷ does gap 0 ∷ hears (exchange 0x11 0x65) ∷ sends e5 ∷ does send 256 ∷ does take 1
     ∷ does gap 0 ∷ hears (control 0x04 0x43) ∷ does send 256
     ∷ does gap 0 ∷ hears (exchange 0x22 0x76) ∷ sends e5 ∷ does send 256 ∷ does take 1 ∷ does (read 1 0) 0x22 ∷ [])
@@ -90,7 +90,7 @@ panel_polled = written refl
 -- without outputs Data_Exchange comes as SD1 and publishes the empty list: event 13, take 1, once for a request and its repeat
 sensor_polled : Answers sensor
     (entered 0xB0 0xBD
-    ++ does (write 4 0 0x21) 0 ∷ does hand_over_lem 0
+    ++ does (write 4 0 0x21) 0 ∷ does hand_over_call 0
     ∷ does gap 0 ∷ hears poll5_d ∷ sends (input 0x21 0x30) ∷ does send 256 ∷ does events 0x2000 ∷ does take 1 ∷ does take 0
     ∷ does (acknowledge 0x2000) 0
     ∷ does gap 0 ∷ hears poll5_d ∷ sends (input 0x21 0x30) ∷ does send 256 ∷ does events 0x0000 ∷ does take 0

@@ -1,7 +1,7 @@
 -- Lists of calls in which several events are set at once, and what Pending answers (document 02, Req 06), each computed from a fresh station.
 use mathlib.Core.Path.{refl}
 use mathlib.Core.List.{[], ◌∷◌}
-use Rattle.rules.specs.Call.{gap, send, tick, new_diagnosis_lem, judge_parameters_lem, judge_configuration_lem, events, acknowledge, pending, leave}
+use Rattle.rules.specs.Call.{gap, send, tick, new_diagnosis_call, judge_parameters_call, judge_configuration_call, events, acknowledge, pending, leave}
 use Rattle.ledger.specs.Script.{hears, sends, does, Answers}
 use Rattle.ledger.proofs.Scripts.{written}
 use Rattle.ledger.proofs.Computing.{computing}
@@ -13,7 +13,7 @@ use Rattle.ledger.proofs.ModeCases.{control, exchange, input}
 smallest_first : Answers started
     (does pending 16
     ∷ does leave 0 ∷ does pending 13
-    ∷ does (new_diagnosis_lem 6 0) 0 ∷ does pending 12
+    ∷ does (new_diagnosis_call 6 0) 0 ∷ does pending 12
     ∷ does gap 0 ∷ hears set_prm_watched ∷ sends e5 ∷ does send 256 ∷ does pending 11
     ∷ does gap 0 ∷ hears chk_cfg ∷ sends e5 ∷ does send 256 ∷ does pending 10 ∷ does events 0x3C00
     ∷ does tick 0 ∷ does tick 0 ∷ does pending 3 ∷ does events 0x3008
@@ -29,8 +29,8 @@ told_until_ended : Answers started
     ∷ does (acknowledge 0xFFFF) 0 ∷ does pending 11
     ∷ does gap 0 ∷ hears chk_cfg ∷ sends e5 ∷ does send 256
     ∷ does (acknowledge 0xFFFF) 0 ∷ does pending 10
-    ∷ does (judge_parameters_lem 1) 0 ∷ does pending 10
-    ∷ does (judge_configuration_lem 1) 0 ∷ does pending 1
+    ∷ does (judge_parameters_call 1) 0 ∷ does pending 10
+    ∷ does (judge_configuration_call 1) 0 ∷ does pending 1
     ∷ does gap 0 ∷ hears (exchange 0x11 0x65) ∷ sends (input 0x00 0x0F) ∷ does send 256 ∷ does pending 1
     ∷ does gap 0 ∷ hears (control 0x20 0x5F) ∷ does send 256 ∷ does pending 1 ∷ does pending 1 ∷ does events 0x2102
     ∷ does (acknowledge 0x0002) 0 ∷ does pending 8

@@ -20,7 +20,7 @@ use Rattle.state.proofs.Choice.{by_test, either, and_left}
 use Rattle.rules.specs.declared.outcome.Outcome.{Outcome}
 use Rattle.rules.specs.Diagnosis.{is_delayed, delayed, diagnosed, delaying, caught_up}
 use Rattle.rules.specs.Replies.{diagnoses}
-use Rattle.rules.specs.Call.{Call, octet, gap, send, tick, take, read, write, hand_over_lem, new_diagnosis_lem, judge_parameters_lem, judge_configuration_lem, events, acknowledge, pending, leave}
+use Rattle.rules.specs.Call.{Call, octet, gap, send, tick, take, read, write, hand_over_call, new_diagnosis_call, judge_parameters_call, judge_configuration_call, events, acknowledge, pending, leave}
 use Rattle.rules.proofs.Served.{Quiet, clear_quiet, clear_noted_quiet, ticked_quiet, parameters_quiet, configuration_quiet}
 use Rattle.rules.proofs.Repeats.{request_chain, repeat_chain, old_leaves}
 use Rattle.ledger.specs.Lists.{some}
@@ -88,12 +88,12 @@ chain_kept l tick e =
 chain_kept l take e = take_cases (LeavesChain l) l (λ _. refl) (λ _. refl)
 chain_kept l (read kind index) e = read_cases (LeavesChain l) l kind index (λ _. refl) refl
 chain_kept l (write kind index x) e = write_cases (LeavesChain l) l kind index x (λ _. refl) refl
-chain_kept l hand_over_lem e = refl
-chain_kept l (new_diagnosis_lem count flags) e = diagnosis_cases (LeavesChain l) l count flags (λ _. refl) (λ _. refl) (λ _. refl)
-chain_kept l (judge_parameters_lem j) e =
+chain_kept l hand_over_call e = refl
+chain_kept l (new_diagnosis_call count flags) e = diagnosis_cases (LeavesChain l) l count flags (λ _. refl) (λ _. refl) (λ _. refl)
+chain_kept l (judge_parameters_call j) e =
     parameters_cases (LeavesChain l) l j (λ _ _. refl)
     (λ _. quiet_chain (parameters_quiet l.setup l.control (some l.buffers.parameters.waiting) (eqb j 1) tt))
-chain_kept l (judge_configuration_lem j) e =
+chain_kept l (judge_configuration_call j) e =
     configuration_cases (LeavesChain l) l j (λ _ _. refl)
     (λ _. quiet_chain (configuration_quiet l.setup l.control (some l.buffers.configuration.waiting) (eqb j 1) tt))
 chain_kept l events e = refl
@@ -202,12 +202,12 @@ step_undelayed l tick e h w =
 step_undelayed l take e h w = take_cases LeavesUndelayed l (λ _. w) (λ _. w)
 step_undelayed l (read kind index) e h w = read_cases LeavesUndelayed l kind index (λ _. w) w
 step_undelayed l (write kind index x) e h w = write_cases LeavesUndelayed l kind index x (λ _. w) w
-step_undelayed l hand_over_lem e h w = w
-step_undelayed l (new_diagnosis_lem count flags) e h w = diagnosed_undelayed l count flags w
-step_undelayed l (judge_parameters_lem j) e h w =
+step_undelayed l hand_over_call e h w = w
+step_undelayed l (new_diagnosis_call count flags) e h w = diagnosed_undelayed l count flags w
+step_undelayed l (judge_parameters_call j) e h w =
     parameters_cases LeavesUndelayed l j (λ _ _. w)
     (λ _. quiet_undelayed l w (parameters_quiet l.setup l.control (some l.buffers.parameters.waiting) (eqb j 1) tt))
-step_undelayed l (judge_configuration_lem j) e h w =
+step_undelayed l (judge_configuration_call j) e h w =
     configuration_cases LeavesUndelayed l j (λ _ _. w)
     (λ _. quiet_undelayed l w (configuration_quiet l.setup l.control (some l.buffers.configuration.waiting) (eqb j 1) tt))
 step_undelayed l events e h w = w

@@ -5,7 +5,7 @@ use mathlib.Core.Path.{refl}
 use mathlib.Core.List.{List, [], ◌∷◌, ◌++◌}
 use Rattle.state.specs.declared.answer.Refusal.TheVariants.{Judging, Delayed}
 use Rattle.ledger.specs.Ledger.{Ledger, fresh}
-use Rattle.rules.specs.Call.{gap, send, tick, take, read, write, hand_over_lem, new_diagnosis_lem, judge_parameters_lem, judge_configuration_lem, events, acknowledge, leave}
+use Rattle.rules.specs.Call.{gap, send, tick, take, read, write, hand_over_call, new_diagnosis_call, judge_parameters_call, judge_configuration_call, events, acknowledge, leave}
 use Rattle.ledger.specs.Script.{Part, hears, sends, does, refuses, Answers, station}
 use Rattle.ledger.proofs.Scripts.{written}
 use Rattle.ledger.proofs.Computing.{computing}
@@ -122,14 +122,14 @@ e5 = 0xE5 ∷ []
 -- into DATA_EXCH
 abbrev entering : List Part
 entering =
-    does gap 0 ∷ hears set_prm4_d ∷ sends e5 ∷ does send 256 ∷ does gap 0 ∷ hears chk_cfg4_d ∷ sends e5 ∷ does send 256 ∷ does (judge_parameters_lem 1) 0 ∷ does (judge_configuration_lem 1) 0 ∷ does events 0x0002 ∷ []
+    does gap 0 ∷ hears set_prm4_d ∷ sends e5 ∷ does send 256 ∷ does gap 0 ∷ hears chk_cfg4_d ∷ sends e5 ∷ does send 256 ∷ does (judge_parameters_call 1) 0 ∷ does (judge_configuration_call 1) 0 ∷ does events 0x0002 ∷ []
 
 -- The lists.
 
 -- a Set_Prm that drew E5 is sent again: E5, and the parameters are shown once
 set_prm_again : Answers started
-    (does gap 0 ∷ hears set_prm5_d ∷ sends e5 ∷ does send 256 ∷ does events 0x0800 ∷ does (judge_parameters_lem 1) 0
-    ∷ does gap 0 ∷ hears set_prm5_d ∷ sends e5 ∷ does send 256 ∷ does events 0x0000 ∷ refuses (judge_parameters_lem 1) Judging
+    (does gap 0 ∷ hears set_prm5_d ∷ sends e5 ∷ does send 256 ∷ does events 0x0800 ∷ does (judge_parameters_call 1) 0
+    ∷ does gap 0 ∷ hears set_prm5_d ∷ sends e5 ∷ does send 256 ∷ does events 0x0000 ∷ refuses (judge_parameters_call 1) Judging
     ∷ does gap 0 ∷ hears set_prm5_d ∷ sends e5 ∷ does send 256 ∷ does events 0x0000
     ∷ does gap 0 ∷ hears (0x68 ∷ 0x0C ∷ 0x0C ∷ 0x68 ∷ 0x85 ∷ 0x82 ∷ 0x7D ∷ 0x3D ∷ 0x3E ∷ 0x80 ∷ 0x00 ∷ 0x00 ∷ 0x0B ∷ 0x80 ∷ 0xB3 ∷ 0x00 ∷ 0xBD ∷ 0x16 ∷ [])
     ∷ sends e5 ∷ does send 256 ∷ does events 0x0800 ∷ [])
@@ -138,21 +138,21 @@ set_prm_again = written refl
 
 -- a request with FC bit 4 clear ends the chain
 bit_4_clear_ends : Answers started
-    (does gap 0 ∷ hears set_prm5_d ∷ sends e5 ∷ does send 256 ∷ does (judge_parameters_lem 1) 0
+    (does gap 0 ∷ hears set_prm5_d ∷ sends e5 ∷ does send 256 ∷ does (judge_parameters_call 1) 0
     ∷ does gap 0 ∷ hears (0x10 ∷ 0x05 ∷ 0x02 ∷ 0x49 ∷ 0x50 ∷ 0x16 ∷ []) ∷ sends status_told ∷ does send 256
-    ∷ does gap 0 ∷ hears set_prm5_d ∷ sends e5 ∷ does send 256 ∷ does events 0x0800 ∷ does (judge_parameters_lem 1) 0
-    ∷ does gap 0 ∷ hears set_prm6_d ∷ sends e5 ∷ does send 256 ∷ does events 0x0800 ∷ does (judge_parameters_lem 1) 0
+    ∷ does gap 0 ∷ hears set_prm5_d ∷ sends e5 ∷ does send 256 ∷ does events 0x0800 ∷ does (judge_parameters_call 1) 0
+    ∷ does gap 0 ∷ hears set_prm6_d ∷ sends e5 ∷ does send 256 ∷ does events 0x0800 ∷ does (judge_parameters_call 1) 0
     ∷ does gap 0 ∷ hears set_prm6_d ∷ sends e5 ∷ does send 256 ∷ does events 0x0800 ∷ [])
 unfolding computing
 bit_4_clear_ends = written refl
 
 -- so does one of another master
 another_master_ends : Answers started
-    (does gap 0 ∷ hears set_prm5_d ∷ sends e5 ∷ does send 256 ∷ does (judge_parameters_lem 1) 0
+    (does gap 0 ∷ hears set_prm5_d ∷ sends e5 ∷ does send 256 ∷ does (judge_parameters_call 1) 0
     ∷ does gap 0 ∷ hears (0x68 ∷ 0x05 ∷ 0x05 ∷ 0x68 ∷ 0x85 ∷ 0x83 ∷ 0x4D ∷ 0x3C ∷ 0x3E ∷ 0xCF ∷ 0x16 ∷ []) ∷ sends diagnosis_told_to3 ∷ does send 256
-    ∷ does gap 0 ∷ hears set_prm5_d ∷ sends e5 ∷ does send 256 ∷ does events 0x0800 ∷ does (judge_parameters_lem 1) 0
+    ∷ does gap 0 ∷ hears set_prm5_d ∷ sends e5 ∷ does send 256 ∷ does events 0x0800 ∷ does (judge_parameters_call 1) 0
     ∷ does gap 0 ∷ hears slave_diag5_dof3 ∷ sends diagnosis_told_to3 ∷ does send 256
-    ∷ does gap 0 ∷ hears set_prm5_d ∷ sends e5 ∷ does send 256 ∷ does events 0x0800 ∷ does (judge_parameters_lem 1) 0
+    ∷ does gap 0 ∷ hears set_prm5_d ∷ sends e5 ∷ does send 256 ∷ does events 0x0800 ∷ does (judge_parameters_call 1) 0
     ∷ does gap 0 ∷ hears (0x10 ∷ 0x05 ∷ 0x03 ∷ 0x40 ∷ 0x48 ∷ 0x16 ∷ []) ∷ does send 256
     ∷ does gap 0 ∷ hears set_prm5_d ∷ sends e5 ∷ does send 256 ∷ does events 0x0800 ∷ [])
 unfolding computing
@@ -162,7 +162,7 @@ another_master_ends = written refl
 functions_4_and_6_leave : Answers started
     (does gap 0 ∷ hears (0x68 ∷ 0x0C ∷ 0x0C ∷ 0x68 ∷ 0x85 ∷ 0x82 ∷ 0x4D ∷ 0x3D ∷ 0x3E ∷ 0xA0 ∷ 0x00 ∷ 0x00 ∷ 0x0B ∷ 0x80 ∷ 0xB3 ∷ 0x00 ∷ 0xAD ∷ 0x16 ∷ [])
     ∷ sends e5 ∷ does send 256
-    ∷ does gap 0 ∷ hears chk_cfg4_d ∷ sends e5 ∷ does send 256 ∷ does (judge_parameters_lem 1) 0 ∷ does (judge_configuration_lem 1) 0 ∷ does events 0x0002
+    ∷ does gap 0 ∷ hears chk_cfg4_d ∷ sends e5 ∷ does send 256 ∷ does (judge_parameters_call 1) 0 ∷ does (judge_configuration_call 1) 0 ∷ does events 0x0002
     ∷ does gap 0 ∷ hears exchange5_d ∷ sends input00 ∷ does send 256 ∷ does take 1
     ∷ does gap 0 ∷ hears (0x68 ∷ 0x07 ∷ 0x07 ∷ 0x68 ∷ 0x85 ∷ 0x82 ∷ 0x76 ∷ 0x3A ∷ 0x3E ∷ 0x20 ∷ 0x00 ∷ 0x15 ∷ 0x16 ∷ []) ∷ does send 256
     ∷ does gap 0 ∷ hears exchange5_d ∷ sends input00 ∷ does send 256 ∷ does gap 0 ∷ hears sync46 ∷ does send 256 ∷ does take 0
@@ -182,9 +182,9 @@ functions_4_and_6_leave = written refl
 
 -- a Data_Exchange sent again with other outputs: they are not published, and the inputs are drawn again
 data_exchange_again : Answers started
-    (entering ++ (does (write 4 0 0x21) 0 ∷ does hand_over_lem 0
+    (entering ++ (does (write 4 0 0x21) 0 ∷ does hand_over_call 0
     ∷ does gap 0 ∷ hears exchange5_d ∷ sends input21 ∷ does send 256 ∷ does take 1 ∷ does (acknowledge 65535) 0 ∷ does (write 4 0 0x22) 0
-    ∷ does hand_over_lem 0 ∷ does (new_diagnosis_lem 6 0) 0 ∷ does (acknowledge 65535) 0
+    ∷ does hand_over_call 0 ∷ does (new_diagnosis_call 6 0) 0 ∷ does (acknowledge 65535) 0
     ∷ does gap 0 ∷ hears exchange5_dwith22 ∷ sends (0x68 ∷ 0x04 ∷ 0x04 ∷ 0x68 ∷ 0x02 ∷ 0x05 ∷ 0x0A ∷ 0x21 ∷ 0x32 ∷ 0x16 ∷ []) ∷ does send 256 ∷ does events 0x0000
     ∷ does take 0 ∷ does (read 1 0) 0x11
     ∷ does gap 0 ∷ hears exchange7_dwith11 ∷ sends (0x68 ∷ 0x04 ∷ 0x04 ∷ 0x68 ∷ 0x02 ∷ 0x05 ∷ 0x0A ∷ 0x22 ∷ 0x33 ∷ 0x16 ∷ []) ∷ does send 256 ∷ does events 0x2000
@@ -194,9 +194,9 @@ data_exchange_again = written refl
 
 -- a Slave_Diag sent again is formed anew and clears no Diag_Flag
 slave_diag_again : Answers started
-    (entering ++ (does (new_diagnosis_lem 6 1) 0
+    (entering ++ (does (new_diagnosis_call 6 1) 0
     ∷ does gap 0 ∷ hears slave_diag5_d ∷ sends (0x68 ∷ 0x0B ∷ 0x0B ∷ 0x68 ∷ 0x82 ∷ 0x85 ∷ 0x08 ∷ 0x3E ∷ 0x3C ∷ 0x08 ∷ 0x04 ∷ 0x00 ∷ 0x02 ∷ 0x80 ∷ 0xB3 ∷ 0xCA ∷ 0x16 ∷ [])
-    ∷ does send 256 ∷ does (write 5 6 0xAA) 0 ∷ does (new_diagnosis_lem 7 4) 0
+    ∷ does send 256 ∷ does (write 5 6 0xAA) 0 ∷ does (new_diagnosis_call 7 4) 0
     ∷ does gap 0 ∷ hears slave_diag5_d ∷ sends diagnosis_told7 ∷ does send 256
     ∷ does gap 0 ∷ hears exchange4_d ∷ sends (0x68 ∷ 0x04 ∷ 0x04 ∷ 0x68 ∷ 0x02 ∷ 0x05 ∷ 0x0A ∷ 0x00 ∷ 0x11 ∷ 0x16 ∷ []) ∷ does send 256
     ∷ does gap 0 ∷ hears slave_diag5_d ∷ sends diagnosis_told7 ∷ does send 256
@@ -206,16 +206,16 @@ slave_diag_again = written refl
 
 -- and its reply delays a new diagnosis
 diagnosis_delayed_again : Answers started
-    (does gap 0 ∷ hears slave_diag5_d ∷ sends (0x68 ∷ []) ∷ does (new_diagnosis_lem 7 1) 0 ∷ refuses (new_diagnosis_lem 7 1) Delayed
+    (does gap 0 ∷ hears slave_diag5_d ∷ sends (0x68 ∷ []) ∷ does (new_diagnosis_call 7 1) 0 ∷ refuses (new_diagnosis_call 7 1) Delayed
     ∷ does gap 0 ∷ hears slave_diag5_d ∷ sends (0x68 ∷ 0x0C ∷ 0x0C ∷ 0x68 ∷ 0x82 ∷ 0x85 ∷ 0x08 ∷ 0x3E ∷ 0x3C ∷ 0x0A ∷ 0x05 ∷ 0x00 ∷ 0xFF ∷ 0x80 ∷ 0xB3 ∷ 0x00 ∷ 0xCA ∷ 0x16 ∷ [])
     ∷ does events 0x1000 ∷ does (acknowledge 65535) 0
-    ∷ does gap 0 ∷ hears slave_diag5_d ∷ sends (0x68 ∷ []) ∷ does (new_diagnosis_lem 8 2) 0 ∷ refuses (new_diagnosis_lem 8 2) Delayed ∷ does events 0x0000 ∷ [])
+    ∷ does gap 0 ∷ hears slave_diag5_d ∷ sends (0x68 ∷ []) ∷ does (new_diagnosis_call 8 2) 0 ∷ refuses (new_diagnosis_call 8 2) Delayed ∷ does events 0x0000 ∷ [])
 unfolding computing
 diagnosis_delayed_again = written refl
 
 -- no RS for phase or owner
 no_rs_again : Answers started
-    (entering ++ (does (write 4 0 0x21) 0 ∷ does hand_over_lem 0
+    (entering ++ (does (write 4 0 0x21) 0 ∷ does hand_over_call 0
     ∷ does gap 0 ∷ hears exchange5_d ∷ sends input21 ∷ does send 256 ∷ does leave 0 ∷ does take 2 ∷ does (acknowledge 65535) 0
     ∷ does gap 0 ∷ hears exchange5_d ∷ sends input21 ∷ does send 256 ∷ does events 0x0000 ∷ does take 0
     ∷ does gap 0 ∷ hears exchange7_dwith11 ∷ sends rs ∷ does send 256 ∷ []))
@@ -251,8 +251,8 @@ status_rs_nothing_inputs_again : Answers started
     ∷ does gap 0 ∷ hears (0x10 ∷ 0x05 ∷ 0x02 ∷ 0x70 ∷ 0x77 ∷ 0x16 ∷ []) ∷ sends rs ∷ does send 256
     ∷ does gap 0 ∷ hears (0x10 ∷ 0x05 ∷ 0x02 ∷ 0x50 ∷ 0x57 ∷ 0x16 ∷ []) ∷ does send 256
     ∷ does gap 0 ∷ hears slave_diag5_d ∷ does send 256
-    ∷ does gap 0 ∷ hears set_prm4_d ∷ sends e5 ∷ does send 256 ∷ does gap 0 ∷ hears chk_cfg4_d ∷ sends e5 ∷ does send 256 ∷ does (judge_parameters_lem 1) 0
-    ∷ does gap 0 ∷ hears exchange5_d ∷ sends rs ∷ does send 256 ∷ does (judge_configuration_lem 1) 0
+    ∷ does gap 0 ∷ hears set_prm4_d ∷ sends e5 ∷ does send 256 ∷ does gap 0 ∷ hears chk_cfg4_d ∷ sends e5 ∷ does send 256 ∷ does (judge_parameters_call 1) 0
+    ∷ does gap 0 ∷ hears exchange5_d ∷ sends rs ∷ does send 256 ∷ does (judge_configuration_call 1) 0
     ∷ does gap 0 ∷ hears exchange5_d ∷ sends rs ∷ does send 256 ∷ does take 0
     ∷ does gap 0 ∷ hears (0x68 ∷ 0x05 ∷ 0x05 ∷ 0x68 ∷ 0x85 ∷ 0x82 ∷ 0x7D ∷ 0x38 ∷ 0x3E ∷ 0xFA ∷ 0x16 ∷ []) ∷ sends inputs_told ∷ does send 256 ∷ does leave 0
     ∷ does gap 0 ∷ hears (0x68 ∷ 0x05 ∷ 0x05 ∷ 0x68 ∷ 0x85 ∷ 0x82 ∷ 0x7D ∷ 0x38 ∷ 0x3E ∷ 0xFA ∷ 0x16 ∷ []) ∷ sends inputs_told ∷ does send 256 ∷ [])

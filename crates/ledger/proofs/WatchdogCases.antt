@@ -5,7 +5,7 @@ use mathlib.Core.Path.{◌≡◌, refl}
 use mathlib.Core.List.{List, [], ◌∷◌, ◌++◌}
 use lib.ListN.{replicate}
 use Rattle.state.specs.declared.answer.Refusal.TheVariants.{Absent}
-use Rattle.rules.specs.Call.{gap, send, tick, read, judge_parameters_lem, judge_configuration_lem, events, acknowledge}
+use Rattle.rules.specs.Call.{gap, send, tick, read, judge_parameters_call, judge_configuration_call, events, acknowledge}
 use Rattle.ledger.specs.Calls.{after}
 use Rattle.ledger.specs.Script.{Part, hears, sends, does, refuses, calls_of, Answers}
 use Rattle.ledger.proofs.Scripts.{written}
@@ -86,7 +86,7 @@ off_with_0 = written refl
 -- it counts in DATA_EXCH too: events 1, 3 and 13
 in_exchange_lem : Answers started
     (sets set_prm_watched ++ sets chk_cfg
-    ++ does (judge_parameters_lem 1) 0 ∷ does (judge_configuration_lem 1) 0 ∷ does (acknowledge 65535) 0
+    ++ does (judge_parameters_call 1) 0 ∷ does (judge_configuration_call 1) 0 ∷ does (acknowledge 65535) 0
     ∷ does tick 0 ∷ does events 0 ∷ does tick 0 ∷ does events 0x200A ∷ [])
 unfolding computing
 in_exchange_lem = written refl

@@ -3,7 +3,7 @@
 use Rattle.std.specs.Prelude.{ℕ, List, [], ◌∷◌, ◌++◌, replicate}
 use Rattle.state.specs.declared.setup.Setup.{Setup}
 use Rattle.ledger.specs.Ledger.{fresh}
-use Rattle.rules.specs.Call.{gap, send, tick, take, read, write, hand_over_lem, new_diagnosis_lem, judge_parameters_lem, judge_configuration_lem, events, acknowledge, leave}
+use Rattle.rules.specs.Call.{gap, send, tick, take, read, write, hand_over_call, new_diagnosis_call, judge_parameters_call, judge_configuration_call, events, acknowledge, leave}
 use Rattle.ledger.specs.Script.{Part, hears, sends, does, Answers, station}
 
 -- a status request
@@ -46,7 +46,7 @@ abbrev pub configure : List Part
 configure =
     does gap 0 ∷ hears (0x68 ∷ 0x06 ∷ 0x06 ∷ 0x68 ∷ 0x85 ∷ 0x82 ∷ 0x5D ∷ 0x3E ∷ 0x3E ∷ 0x20 ∷ 0x00 ∷ 0x16 ∷ [])
     ∷ sends (0xE5 ∷ []) ∷ does send 256
-    ∷ does (judge_parameters_lem 1) 0 ∷ does (judge_configuration_lem 1) 0 ∷ does (write 4 0 0x21) 0 ∷ does hand_over_lem 0 ∷ []
+    ∷ does (judge_parameters_call 1) 0 ∷ does (judge_configuration_call 1) 0 ∷ does (write 4 0 0x21) 0 ∷ does hand_over_call 0 ∷ []
 
 -- Data_Exchange
 abbrev pub d : List Part
@@ -58,7 +58,7 @@ d =
 -- with Diag_Flag
 abbrev pub e : List Part
 e =
-    does (new_diagnosis_lem 6 0) 0
+    does (new_diagnosis_call 6 0) 0
     ∷ does gap 0 ∷ hears (0x68 ∷ 0x04 ∷ 0x04 ∷ 0x68 ∷ 0x05 ∷ 0x02 ∷ 0x5D ∷ 0x7A ∷ 0xDE ∷ 0x16 ∷ [])
     ∷ sends (0x68 ∷ 0x04 ∷ 0x04 ∷ 0x68 ∷ 0x02 ∷ 0x05 ∷ 0x0A ∷ 0x21 ∷ 0x32 ∷ 0x16 ∷ []) ∷ does send 256 ∷ []
 

@@ -1,7 +1,7 @@
 -- The answers to a list of calls.
 use Rattle.std.specs.Prelude.{List}
 use Rattle.state.specs.declared.answer.Answer.{Answer}
-use Rattle.rules.specs.Call.{Call, octet, gap, send, tick, take, read, write, hand_over_lem, new_diagnosis_lem, judge_parameters_lem, judge_configuration_lem, events, acknowledge, pending, leave}
+use Rattle.rules.specs.Call.{Call, octet, gap, send, tick, take, read, write, hand_over_call, new_diagnosis_call, judge_parameters_call, judge_configuration_call, events, acknowledge, pending, leave}
 use Rattle.rules.specs.Runs.{answers_to, left_by}
 use Rattle.ledger.specs.Ledger.{Ledger}
 use Rattle.ledger.specs.Bus.{heard, paused, send_told, after_send, elapsed}
@@ -16,10 +16,10 @@ step l tick = told 0 (elapsed l)
 step l take = take_outputs l
 step l (read kind index) = read_octet l kind index
 step l (write kind index x) = write_octet l kind index x
-step l hand_over_lem = hand_over l
-step l (new_diagnosis_lem count flags) = new_diagnosis l count flags
-step l (judge_parameters_lem j) = judge_parameters l j
-step l (judge_configuration_lem j) = judge_configuration l j
+step l hand_over_call = hand_over l
+step l (new_diagnosis_call count flags) = new_diagnosis l count flags
+step l (judge_parameters_call j) = judge_parameters l j
+step l (judge_configuration_call j) = judge_configuration l j
 step l events = event_word l
 step l (acknowledge mask) = acknowledge_events l mask
 step l pending = pending_event l

@@ -3,7 +3,7 @@
 use Rattle.std.specs.Prelude.{ℕ, ◌≡◌, Bool, true, false, not, ◌&&◌, ◌||◌, List, [], ◌∷◌}
 use Rattle.buffers.specs.Events.{bit, configuration_event, parameters_event, outputs_event}
 use Rattle.state.specs.declared.setup.Setup.{Setup}
-use Rattle.rules.specs.Call.{Call, octet, gap, send, tick, take, read, write, hand_over_lem, new_diagnosis_lem, judge_parameters_lem, judge_configuration_lem, events, acknowledge, pending, leave}
+use Rattle.rules.specs.Call.{Call, octet, gap, send, tick, take, read, write, hand_over_call, new_diagnosis_call, judge_parameters_call, judge_configuration_call, events, acknowledge, pending, leave}
 use Rattle.ledger.specs.Ledger.{Ledger, parameters_open, configuration_open, fresh}
 use Rattle.ledger.specs.Calls.{step, after}
 use Rattle.ledger.specs.History.{Deed, accepted, withheld, released, emptied, zeroed, outputs_taken, deeds_of}
@@ -40,10 +40,10 @@ acknowledges_outputs tick = false
 acknowledges_outputs take = false
 acknowledges_outputs (read kind index) = false
 acknowledges_outputs (write kind index x) = false
-acknowledges_outputs hand_over_lem = false
-acknowledges_outputs (new_diagnosis_lem count flags) = false
-acknowledges_outputs (judge_parameters_lem j) = false
-acknowledges_outputs (judge_configuration_lem j) = false
+acknowledges_outputs hand_over_call = false
+acknowledges_outputs (new_diagnosis_call count flags) = false
+acknowledges_outputs (judge_parameters_call j) = false
+acknowledges_outputs (judge_configuration_call j) = false
 acknowledges_outputs events = false
 acknowledges_outputs (acknowledge mask) = bit mask outputs_event
 acknowledges_outputs pending = false

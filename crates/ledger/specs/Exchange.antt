@@ -5,7 +5,7 @@ use Rattle.state.specs.declared.answer.Answer.TheVariants.{Value}
 use Rattle.telegram.specs.Framing.{Continues}
 use Rattle.ledger.specs.Ledger.{Ledger, begun}
 use Rattle.ledger.specs.Bus.{heard}
-use Rattle.rules.specs.Call.{Call, octet, gap, send, tick, take, read, write, hand_over_lem, new_diagnosis_lem, judge_parameters_lem, judge_configuration_lem, events, acknowledge, pending, leave}
+use Rattle.rules.specs.Call.{Call, octet, gap, send, tick, take, read, write, hand_over_call, new_diagnosis_call, judge_parameters_call, judge_configuration_call, events, acknowledge, pending, leave}
 use Rattle.ledger.specs.Calls.{answers, after}
 
 -- a telegram is begun, unfinished and not broken off: octets are heard, some came, and some more complete a telegram
@@ -28,10 +28,10 @@ of_user tick = false
 of_user take = true
 of_user (read kind index) = true
 of_user (write kind index x) = true
-of_user hand_over_lem = true
-of_user (new_diagnosis_lem count flags) = true
-of_user (judge_parameters_lem j) = true
-of_user (judge_configuration_lem j) = true
+of_user hand_over_call = true
+of_user (new_diagnosis_call count flags) = true
+of_user (judge_parameters_call j) = true
+of_user (judge_configuration_call j) = true
 of_user events = true
 of_user (acknowledge mask) = true
 of_user pending = true

@@ -18,7 +18,7 @@ use Rattle.ledger.specs.Lists as lists
 use Rattle.ledger.specs.Ledger.{Ledger, with_line, busy, parameters_open, configuration_open, occupied, fresh}
 use Rattle.ledger.specs.Bus.{telegram_on, request_by, outcome_of, completed, broken_off, send_left, silenced}
 use Rattle.ledger.specs.Outcome.{on_outputs}
-use Rattle.rules.specs.Call.{Call, octet, gap, send, tick, take, read, write, hand_over_lem, new_diagnosis_lem, judge_parameters_lem, judge_configuration_lem, events, acknowledge, pending, leave}
+use Rattle.rules.specs.Call.{Call, octet, gap, send, tick, take, read, write, hand_over_call, new_diagnosis_call, judge_parameters_call, judge_configuration_call, events, acknowledge, pending, leave}
 use Rattle.ledger.specs.Calls.{step, answers, after}
 
 -- a Data_Exchange was accepted with these data octets, published at once; its data octets were held back; what was held back was
@@ -94,13 +94,13 @@ deeds_of l tick = cond l.control.noted (clears (with_line l (silenced l))) (deed
 deeds_of l take = outputs_taken ∷ []
 deeds_of l (read kind index) = []
 deeds_of l (write kind index x) = []
-deeds_of l hand_over_lem = []
-deeds_of l (new_diagnosis_lem count flags) = []
-deeds_of l (judge_parameters_lem j) =
+deeds_of l hand_over_call = []
+deeds_of l (new_diagnosis_call count flags) = []
+deeds_of l (judge_parameters_call j) =
     cond (parameters_open l && leb j 1)
     (deeds_by (judged_parameters l.control (some l.buffers.parameters.waiting) (eqb j 1)).outputs [])
     []
-deeds_of l (judge_configuration_lem j) =
+deeds_of l (judge_configuration_call j) =
     cond (configuration_open l && l.control.flags.parameters_good && leb j 1)
     (deeds_by (judged_configuration l.control (some l.buffers.configuration.waiting) (eqb j 1)).outputs [])
     []

@@ -3,7 +3,7 @@ use Rattle.std.specs.Prelude.{ℕ, ◌<◌, ◌≡◌, List, [], ◌∷◌, ◌�
 use Rattle.telegram.specs.Telegram.{Octets}
 use Rattle.state.specs.declared.setup.Setup.{Setup}
 use Rattle.state.specs.declared.answer.Answer.TheVariants.{Value}
-use Rattle.rules.specs.Call.{Call, octet, gap, send, tick, take, read, write, hand_over_lem, new_diagnosis_lem, judge_parameters_lem, judge_configuration_lem, events, acknowledge, pending, leave}
+use Rattle.rules.specs.Call.{Call, octet, gap, send, tick, take, read, write, hand_over_call, new_diagnosis_call, judge_parameters_call, judge_configuration_call, events, acknowledge, pending, leave}
 use Rattle.ledger.specs.Ledger.{Ledger, fresh}
 use Rattle.ledger.specs.Calls.{step, after}
 use Rattle.ledger.specs.ReadBack.{StartTakes}
@@ -17,10 +17,10 @@ OctetsIn tick = Unit
 OctetsIn take = Unit
 OctetsIn (read kind index) = Unit
 OctetsIn (write kind index x) = x < 256
-OctetsIn hand_over_lem = Unit
-OctetsIn (new_diagnosis_lem count flags) = Unit
-OctetsIn (judge_parameters_lem j) = Unit
-OctetsIn (judge_configuration_lem j) = Unit
+OctetsIn hand_over_call = Unit
+OctetsIn (new_diagnosis_call count flags) = Unit
+OctetsIn (judge_parameters_call j) = Unit
+OctetsIn (judge_configuration_call j) = Unit
 OctetsIn events = Unit
 OctetsIn (acknowledge mask) = Unit
 OctetsIn pending = Unit

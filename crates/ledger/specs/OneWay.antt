@@ -54,10 +54,10 @@ pub record Polled (l : Ledger) (t : Telegram) : Type 0 where
   -- it "publishes the empty list": next has no octet and is new, and no zeros by the station (a take then answers 1: History.antt,
   -- TakesTold), event 13
   pub publishes : l.control.modes.sync ≡ false → (completed l t).buffers.outputs.next ≡ []
-  pub is_new_lem : l.control.modes.sync ≡ false → ((completed l t).buffers.outputs.fresh ≡ true) × ((completed l t).buffers.outputs.zeros ≡ false)
+  pub is_new : l.control.modes.sync ≡ false → ((completed l t).buffers.outputs.fresh ≡ true) × ((completed l t).buffers.outputs.zeros ≡ false)
   pub announces : l.control.modes.sync ≡ false → event_set (completed l t) outputs_event ≡ true
   -- "which sync holds back like any other": it is something held back, and what is next stays
-  pub holds_back_lem : l.control.modes.sync ≡ true → ((completed l t).buffers.outputs.back ≡ []) × ((completed l t).buffers.outputs.withheld ≡ true)
+  pub holds_back : l.control.modes.sync ≡ true → ((completed l t).buffers.outputs.back ≡ []) × ((completed l t).buffers.outputs.withheld ≡ true)
   pub next_stays : l.control.modes.sync ≡ true
       → ((completed l t).buffers.outputs.next ≡ l.buffers.outputs.next) × ((completed l t).buffers.outputs.fresh ≡ l.buffers.outputs.fresh)
 
@@ -80,7 +80,7 @@ pub record CommandsRelease (l : Ledger) (t : Telegram) : Type 0 where
 -- what is held back is published, be it without an octet, and nothing is held back any more
 pub record Releases (l : Ledger) (t : Telegram) : Type 0 where
   pub publishes : (completed l t).buffers.outputs.next ≡ l.buffers.outputs.back
-  pub is_new_lem : ((completed l t).buffers.outputs.fresh ≡ true) × ((completed l t).buffers.outputs.zeros ≡ false)
+  pub is_new : ((completed l t).buffers.outputs.fresh ≡ true) × ((completed l t).buffers.outputs.zeros ≡ false)
   pub announces : event_set (completed l t) outputs_event ≡ true
   pub nothing_left : (completed l t).buffers.outputs.withheld ≡ false
 

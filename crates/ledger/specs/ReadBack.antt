@@ -107,7 +107,7 @@ pub record RepliesRead (s : Setup) (slice : List ℕ) (cs : List Call) : Type 0 
   pub fit : Fit (after (fresh s slice) cs)
   pub fixes : (b : ℕ) (bad : Bool) → Fixes (after (fresh s slice) cs) b bad
   pub completes : (t : Telegram) → Draws (after (fresh s slice) cs) t
-  pub heard_whole_lem : (t : Telegram) → Draws (begun_by (after (fresh s slice) cs) (start_octet (kind_of t))) t
+  pub heard_whole : (t : Telegram) → Draws (begun_by (after (fresh s slice) cs) (start_octet (kind_of t))) t
 
 -- reading back: so it is of every list of calls from a station with what Start takes
 abbrev pub ReadingBack : Type 0

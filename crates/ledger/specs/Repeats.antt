@@ -15,7 +15,7 @@ use Rattle.rules.specs.declared.request.Request.{Request}
 use Rattle.rules.specs.declared.request.Data.{Data}
 use Rattle.rules.specs.declared.request.Occupied.{Occupied}
 use Rattle.rules.specs.declared.request.Service.TheVariants.{SetPrm}
-use Rattle.rules.specs.Call.{Call, octet, gap, send, tick, take, read, write, hand_over_lem, new_diagnosis_lem, judge_parameters_lem, judge_configuration_lem, events, acknowledge, pending, leave}
+use Rattle.rules.specs.Call.{Call, octet, gap, send, tick, take, read, write, hand_over_call, new_diagnosis_call, judge_parameters_call, judge_configuration_call, events, acknowledge, pending, leave}
 use Rattle.rules.specs.Control.{with_chain}
 use Rattle.rules.specs.Replies.{diagnoses}
 use Rattle.rules.specs.Requests.{master_of, acts, refilled, service_of}
@@ -87,10 +87,10 @@ completes_new_request l tick = false
 completes_new_request l take = false
 completes_new_request l (read kind index) = false
 completes_new_request l (write kind index x) = false
-completes_new_request l hand_over_lem = false
-completes_new_request l (new_diagnosis_lem count flags) = false
-completes_new_request l (judge_parameters_lem j) = false
-completes_new_request l (judge_configuration_lem j) = false
+completes_new_request l hand_over_call = false
+completes_new_request l (new_diagnosis_call count flags) = false
+completes_new_request l (judge_parameters_call j) = false
+completes_new_request l (judge_configuration_call j) = false
 completes_new_request l events = false
 completes_new_request l (acknowledge mask) = false
 completes_new_request l pending = false

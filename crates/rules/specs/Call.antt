@@ -10,10 +10,10 @@ pub data Call : Type 0 where
   take : Call
   read : (kind index : ℕ) → Call
   write : (kind index value : ℕ) → Call
-  hand_over_lem : Call
-  new_diagnosis_lem : (count flags : ℕ) → Call
-  judge_parameters_lem : (judgement : ℕ) → Call
-  judge_configuration_lem : (judgement : ℕ) → Call
+  hand_over_call : Call
+  new_diagnosis_call : (count flags : ℕ) → Call
+  judge_parameters_call : (judgement : ℕ) → Call
+  judge_configuration_call : (judgement : ℕ) → Call
   events : Call
   acknowledge : (mask : ℕ) → Call
   pending : Call

@@ -1,6 +1,6 @@
 // Each call over the one lent memory: refused with 5 where it is damaged, else its step.
 ghost use Rattle.state.specs.Answer.{Meets};
-ghost use Rattle.rules.specs.Call.{octet, gap, send, tick, take, read, write, hand_over_lem, new_diagnosis_lem, judge_parameters_lem, judge_configuration_lem, events, acknowledge, pending, leave};
+ghost use Rattle.rules.specs.Call.{octet, gap, send, tick, take, read, write, hand_over_call, new_diagnosis_call, judge_parameters_call, judge_configuration_call, events, acknowledge, pending, leave};
 ghost use Rattle.steps.specs.Calls.{called};
 
 use crate::memory::is_well;
@@ -79,7 +79,7 @@ pub fn write(mem: &mut [u8], kind: u32, index: u32, value: u8) -> Answer
 
 // Hand over inputs: they come next.
 pub fn hand_over(mem: &mut [u8]) -> Answer
-    ensures { Meets (called mem.old hand_over_lem) result mem.new }
+    ensures { Meets (called mem.old hand_over_call) result mem.new }
 {
     if !is_well(&mem[..]) {
         return Answer::Refused(Refusal::Damaged);
@@ -89,7 +89,7 @@ pub fn hand_over(mem: &mut [u8]) -> Answer
 
 // New diagnosis, with its count and flags.
 pub fn new_diagnosis(mem: &mut [u8], count: u32, flags: u32) -> Answer
-    ensures { Meets (called mem.old (new_diagnosis_lem count flags)) result mem.new }
+    ensures { Meets (called mem.old (new_diagnosis_call count flags)) result mem.new }
 {
     if !is_well(&mem[..]) {
         return Answer::Refused(Refusal::Damaged);
@@ -99,7 +99,7 @@ pub fn new_diagnosis(mem: &mut [u8], count: u32, flags: u32) -> Answer
 
 // Judge parameters: 1 good, 0 bad.
 pub fn judge_parameters(mem: &mut [u8], judgement: u32) -> Answer
-    ensures { Meets (called mem.old (judge_parameters_lem judgement)) result mem.new }
+    ensures { Meets (called mem.old (judge_parameters_call judgement)) result mem.new }
 {
     if !is_well(&mem[..]) {
         return Answer::Refused(Refusal::Damaged);
@@ -109,7 +109,7 @@ pub fn judge_parameters(mem: &mut [u8], judgement: u32) -> Answer
 
 // Judge configuration: 1 good, 0 bad.
 pub fn judge_configuration(mem: &mut [u8], judgement: u32) -> Answer
-    ensures { Meets (called mem.old (judge_configuration_lem judgement)) result mem.new }
+    ensures { Meets (called mem.old (judge_configuration_call judgement)) result mem.new }
 {
     if !is_well(&mem[..]) {
         return Answer::Refused(Refusal::Damaged);

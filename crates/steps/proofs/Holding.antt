@@ -86,12 +86,12 @@ module _ (s : State) (m : List ℕ) (P : Told → Type 0) (tells : (n : ℕ) (t 
   step_cases (calls.read kind index) = tested (not (in_range s.setup kind index)) Range (absent s kind index) Absent _ tt tt (tells _ _ _)
   step_cases (calls.write kind index x) =
       tested (not (writable kind && in_range s.setup kind index)) Range (absent s kind index) Absent _ tt tt (tells _ _ _)
-  step_cases calls.hand_over_lem = tells _ _ _
-  step_cases (calls.new_diagnosis_lem count flags) =
+  step_cases calls.hand_over_call = tells _ _ _
+  step_cases (calls.new_diagnosis_call count flags) =
       tested (not (within 6 count s.setup.diagnosis_len && leb flags 7)) Range (delayed s.control) Delayed _ tt tt
       (either P (diagnosis_leaves s) (tells _ _ _) (tells _ _ _))
-  step_cases (calls.judge_parameters_lem j) = tested (not (is_open s.parameters)) Judging (not (leb j 1)) Range _ tt tt (tells _ _ _)
-  step_cases (calls.judge_configuration_lem j) =
+  step_cases (calls.judge_parameters_call j) = tested (not (is_open s.parameters)) Judging (not (leb j 1)) Range _ tt tt (tells _ _ _)
+  step_cases (calls.judge_configuration_call j) =
       tested (not (is_open s.configuration && s.control.flags.parameters_good)) Judging (not (leb j 1)) Range _ tt tt (tells _ _ _)
   step_cases calls.events = tells _ _ _
   step_cases (calls.acknowledge mask) = tells _ _ _

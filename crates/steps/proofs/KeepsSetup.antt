@@ -26,7 +26,7 @@ use Rattle.rules.specs.declared.outcome.Outcome.{Outcome}
 use Rattle.rules.specs.Diagnosis.{delayed}
 use Rattle.rules.specs.Line.{clear_noted, ticked}
 use Rattle.rules.specs.Kinds.{in_range, writable}
-use Rattle.rules.specs.Call.{Call, octet, gap, send, tick, take, read, write, hand_over_lem, new_diagnosis_lem, judge_parameters_lem, judge_configuration_lem, events, acknowledge, pending, leave}
+use Rattle.rules.specs.Call.{Call, octet, gap, send, tick, take, read, write, hand_over_call, new_diagnosis_call, judge_parameters_call, judge_configuration_call, events, acknowledge, pending, leave}
 use Rattle.state.specs.With.{with_reply}
 use Rattle.steps.specs.Safe.{Safe}
 use Rattle.steps.specs.Stepped.{Stepped, Told}
@@ -148,14 +148,14 @@ module _ (s : State) (m : List ℕ) (h : Safe s m) where
         setup_is = refl;
         beside_is = kind_beside s m h kind index x (and_right (writable kind) (in_range s.setup kind index) (not-false _ e));
       }))
-  step_keeps hand_over_lem = same refl
-  step_keeps (new_diagnosis_lem count flags) =
+  step_keeps hand_over_call = same refl
+  step_keeps (new_diagnosis_call count flags) =
       either (KeepsTold s m) (not (within 6 count s.setup.diagnosis_len && leb flags 7)) (same refl)
       (either (KeepsTold s m) (delayed s.control) (same refl) (either (KeepsTold s m) (diagnosis_leaves s) (same refl) (same refl)))
-  step_keeps (judge_parameters_lem j) =
+  step_keeps (judge_parameters_call j) =
       either (KeepsTold s m) (not (is_open s.parameters)) (same refl)
       (either (KeepsTold s m) (not (leb j 1)) (same refl) (carried_keeps s m h _ 0))
-  step_keeps (judge_configuration_lem j) =
+  step_keeps (judge_configuration_call j) =
       either (KeepsTold s m) (not (is_open s.configuration && s.control.flags.parameters_good)) (same refl)
       (either (KeepsTold s m) (not (leb j 1)) (same refl) (carried_keeps s m h _ 0))
   step_keeps events = same refl

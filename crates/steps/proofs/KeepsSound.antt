@@ -33,7 +33,7 @@ use Rattle.rules.specs.declared.outcome.Outcome.{Outcome}
 use Rattle.rules.specs.Requests.{master_of}
 use Rattle.rules.specs.Diagnosis.{delayed, diagnosed, delaying, caught_up}
 use Rattle.rules.specs.Kinds.{in_range, writable}
-use Rattle.rules.specs.Call.{Call, octet, gap, send, tick, take, read, write, hand_over_lem, new_diagnosis_lem, judge_parameters_lem, judge_configuration_lem, events, acknowledge, pending, leave}
+use Rattle.rules.specs.Call.{Call, octet, gap, send, tick, take, read, write, hand_over_call, new_diagnosis_call, judge_parameters_call, judge_configuration_call, events, acknowledge, pending, leave}
 use Rattle.rules.proofs.Served.{Lawful, Quiet, clear_quiet, clear_noted_quiet, ticked_quiet, parameters_quiet, configuration_quiet}
 use Rattle.steps.specs.Stepped.{Stepped, Told}
 use Rattle.steps.specs.Line.{begun, busy, diagnosis_leaves}
@@ -214,12 +214,12 @@ module _ (s : State) (m : List ℕ) (h : Sound s) where
   sound_after (read kind index) = either SoundTold (not (in_range s.setup kind index)) h (either SoundTold (absent s kind index) h h)
   sound_after (write kind index x) =
       either SoundTold (not (writable kind && in_range s.setup kind index)) h (either SoundTold (absent s kind index) h h)
-  sound_after hand_over_lem = sound_inputs s h _ (handed_over_permutes s.inputs h.inputs)
-  sound_after (new_diagnosis_lem count flags) = sound_new_diagnosis count flags
-  sound_after (judge_parameters_lem j) =
+  sound_after hand_over_call = sound_inputs s h _ (handed_over_permutes s.inputs h.inputs)
+  sound_after (new_diagnosis_call count flags) = sound_new_diagnosis count flags
+  sound_after (judge_parameters_call j) =
       either SoundTold (not (is_open s.parameters)) h
       (either SoundTold (not (leb j 1)) h (sound_quiet s m h (parameters_quiet s.setup s.control _ _ tt)))
-  sound_after (judge_configuration_lem j) =
+  sound_after (judge_configuration_call j) =
       either SoundTold (not (is_open s.configuration && s.control.flags.parameters_good)) h
       (either SoundTold (not (leb j 1)) h (sound_quiet s m h (configuration_quiet s.setup s.control _ _ tt)))
   sound_after events = h

@@ -7,7 +7,7 @@ use Rattle.state.specs.declared.state.State.{State}
 use Rattle.state.specs.Answer.{Called, refused}
 use Rattle.state.specs.Memory.{kept}
 use Rattle.state.specs.Unpack.{unpacked}
-use Rattle.rules.specs.Call.{Call, octet, gap, send, tick, take, read, write, hand_over_lem, new_diagnosis_lem, judge_parameters_lem, judge_configuration_lem, events, acknowledge, pending, leave}
+use Rattle.rules.specs.Call.{Call, octet, gap, send, tick, take, read, write, hand_over_call, new_diagnosis_call, judge_parameters_call, judge_configuration_call, events, acknowledge, pending, leave}
 use Rattle.steps.specs.Reading.{heard}
 use Rattle.steps.specs.Bus.{paused, send_told, send_left, elapsed}
 use Rattle.steps.specs.Stepped.{Told, told_of}
@@ -22,10 +22,10 @@ step s m tick = told_of 0 (elapsed s m)
 step s m take = take_outputs s m
 step s m (read kind index) = read_octet s m kind index
 step s m (write kind index x) = write_octet s m kind index x
-step s m hand_over_lem = hand_over s m
-step s m (new_diagnosis_lem count flags) = new_diagnosis s m count flags
-step s m (judge_parameters_lem j) = judge_parameters s m j
-step s m (judge_configuration_lem j) = judge_configuration s m j
+step s m hand_over_call = hand_over s m
+step s m (new_diagnosis_call count flags) = new_diagnosis s m count flags
+step s m (judge_parameters_call j) = judge_parameters s m j
+step s m (judge_configuration_call j) = judge_configuration s m j
 step s m events = event_word s m
 step s m (acknowledge mask) = acknowledge_events s m mask
 step s m pending = pending_event s m

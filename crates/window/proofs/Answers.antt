@@ -14,7 +14,7 @@ use Rattle.state.specs.Unpack.{unpacked}
 use Rattle.state.proofs.Choice.{either}
 use Rattle.state.proofs.Tests.{within_holds}
 use Rattle.rules.specs.Diagnosis.{present_flags, delayed}
-use Rattle.rules.specs.Call.{take, new_diagnosis_lem, judge_parameters_lem, judge_configuration_lem}
+use Rattle.rules.specs.Call.{take, new_diagnosis_call, judge_parameters_call, judge_configuration_call}
 use Rattle.steps.specs.Line.{diagnosis_leaves}
 use Rattle.steps.specs.Outcome.{is_open}
 use Rattle.steps.specs.Stepped.{Told}
@@ -38,7 +38,7 @@ module _ (m : List ℕ) (h : Holds m (unpacked m)) where
   unfolding s step_over take_outputs
   taken = either Tells (not s.outputs.set.fresh) tt tt
 
-  renewed : ReadAnswer (step_over m (new_diagnosis_lem s.control.diagnosis.count (present_flags s.control.flags))).answer
+  renewed : ReadAnswer (step_over m (new_diagnosis_call s.control.diagnosis.count (present_flags s.control.flags))).answer
   unfolding s step_over new_diagnosis
   renewed =
       let count = s.control.diagnosis.count in
@@ -46,11 +46,11 @@ module _ (m : List ℕ) (h : Holds m (unpacked m)) where
       rw (within_holds 6 count s.setup.diagnosis_len h.sound.diagnosis_counts.count, le-leb flags 7 (few_flags s.control.flags))
       (either Tells (delayed s.control) (inr refl) (either Tells (diagnosis_leaves s) tt tt))
 
-  judged_parameters_lem : (j : ℕ) → leb j 1 ≡ true → ReadAnswer (step_over m (judge_parameters_lem j)).answer
+  judged_parameters_lem : (j : ℕ) → leb j 1 ≡ true → ReadAnswer (step_over m (judge_parameters_call j)).answer
   unfolding s step_over judge_parameters
   judged_parameters_lem j e = rw e (either Tells (not (is_open s.parameters)) (inl refl) tt)
 
-  judged_configuration_lem : (j : ℕ) → leb j 1 ≡ true → ReadAnswer (step_over m (judge_configuration_lem j)).answer
+  judged_configuration_lem : (j : ℕ) → leb j 1 ≡ true → ReadAnswer (step_over m (judge_configuration_call j)).answer
   unfolding s step_over judge_configuration
   judged_configuration_lem j e = rw e (either Tells (not (is_open s.configuration && s.control.flags.parameters_good)) (inl refl) tt)
 

@@ -1,9 +1,8 @@
 -- What is behind an entry, over a memory: refused where the memory is damaged.
 use Prim.Native.Nat.{ℕ}
 use mathlib.Core.Path.{◌≡◌, refl, sym, ap, ◌∙◌}
-use mathlib.Core.Bool.{Bool, true, false, cond, not}
+use mathlib.Core.Bool.{Bool, true, false, cond}
 use mathlib.Core.List.{List}
-use borrow.Author.Tests.{not-true, not-false}
 use Rattle.state.specs.declared.answer.Answer.{Answer}
 use Rattle.state.specs.declared.answer.Answer.TheVariants.{Refused}
 use Rattle.state.specs.declared.answer.Refusal.TheVariants.{Damaged}
@@ -25,11 +24,11 @@ module _ (m : List ℕ) (b : Behind) where
 
   -- r is what the check told of m
   module _ (r : Bool) (tells : r ≡ well_memory m) where
-    pub damaged : not r ≡ true → Meets (entered_by m b) (Refused Damaged) m
-    damaged f = rw (entered_damaged (sym tells ∙ not-true r f)) (record { answers = refl; leaves = refl })
+    pub damaged : r ≡ false → Meets (entered_by m b) (Refused Damaged) m
+    damaged f = rw (entered_damaged (sym tells ∙ f)) (record { answers = refl; leaves = refl })
 
-    pub passed : {a : Answer} {left : List ℕ} → not r ≡ false → Meets (made m b) a left → Meets (entered_by m b) a left
-    passed f h = rw (entered_makes (sym tells ∙ not-false r f)) h
+    pub passed : {a : Answer} {left : List ℕ} → r ≡ true → Meets (made m b) a left → Meets (entered_by m b) a left
+    passed f h = rw (entered_makes (sym tells ∙ f)) h
 
 -- a call's answer cut, and the memory as the call leaves it
 abbrev pub cut_called : Cut → Called → Called

@@ -11,7 +11,7 @@ use Rattle.state.specs.declared.control.Flags.{Flags}
 use Rattle.state.specs.Answer.{Meets}
 use Rattle.state.specs.Well.{within}
 use Rattle.state.proofs.Choice.{either}
-use Rattle.rules.specs.Call.{Call, new_diagnosis_lem}
+use Rattle.rules.specs.Call.{Call, new_diagnosis_call}
 use Rattle.rules.specs.Control.{bit}
 use Rattle.rules.specs.Diagnosis.{one, present_flags, delayed, delaying, diagnosed}
 use Rattle.ledger.specs.Ledger.{Ledger, diagnosis_leaves}
@@ -71,8 +71,8 @@ module _ (l : Ledger) where
 
 -- a new diagnosis with the count and flags that the code found
 pub renews : (m : List ℕ) {a : Answer} {left : List ℕ} (c k : Control) (flags : ℕ) → c ≡ k → flags ≡ present_flags c.flags
-    → Meets (step_over m (new_diagnosis_lem c.diagnosis.count flags)) a left
-    → Meets (step_over m (new_diagnosis_lem k.diagnosis.count (present_flags k.flags))) a left
+    → Meets (step_over m (new_diagnosis_call c.diagnosis.count flags)) a left
+    → Meets (step_over m (new_diagnosis_call k.diagnosis.count (present_flags k.flags))) a left
 renews m {a} {left} c k flags e f =
     subst (λ (d : Call). Meets (step_over m d) a left)
-    (λ i. new_diagnosis_lem (e i).diagnosis.count ((f ∙ ap (λ (x : Control). present_flags x.flags) e) i))
+    (λ i. new_diagnosis_call (e i).diagnosis.count ((f ∙ ap (λ (x : Control). present_flags x.flags) e) i))

@@ -3,7 +3,7 @@ use Prim.Native.Nat.{ℕ, zero, suc, ◌*◌, ◌^◌, ◌<◌}
 use native.Mathlib.Omega.{arith}
 use mathlib.Core.List.{List, [], ◌∷◌}
 use lib.ListN.{get_or}
-use Rattle.rules.specs.Call.{take, hand_over_lem, new_diagnosis_lem, judge_parameters_lem, judge_configuration_lem, events, acknowledge}
+use Rattle.rules.specs.Call.{take, hand_over_call, new_diagnosis_call, judge_parameters_call, judge_configuration_call, events, acknowledge}
 use Rattle.window.specs.Table.{whole, bits, Behind, calls, nothing, no_cell, Row, beyond, table, row_at}
 
 infixr 4 ◌also◌
@@ -26,9 +26,9 @@ each_row P (x ∷ xs) h (suc n) = each_row (λ k. P (suc k)) xs h.1 n
 module _ (count flags : ℕ) (P : ℕ → Behind → Type 0) (q : (n : ℕ) → P n nothing) (r : (n : ℕ) → 0x15 < n → P n no_cell) where
   -- behind reading a cell there is one of these, or nothing
   pub reading_cases_lem : P 0 (calls events (bits 0)) → P 1 (calls events (bits 8)) → P 2 (calls events (bits 0)) → P 3 (calls events (bits 8))
-      → P 9 (calls hand_over_lem whole) → P 11 (calls take whole) → P 13 (calls (new_diagnosis_lem count flags) whole)
-      → P 14 (calls (judge_parameters_lem 1) whole) → P 15 (calls (judge_parameters_lem 0) whole)
-      → P 16 (calls (judge_configuration_lem 1) whole) → P 17 (calls (judge_configuration_lem 0) whole)
+      → P 9 (calls hand_over_call whole) → P 11 (calls take whole) → P 13 (calls (new_diagnosis_call count flags) whole)
+      → P 14 (calls (judge_parameters_call 1) whole) → P 15 (calls (judge_parameters_call 0) whole)
+      → P 16 (calls (judge_configuration_call 1) whole) → P 17 (calls (judge_configuration_call 0) whole)
       → (cell : ℕ) → P cell (row_at count flags cell).reading
   unfolding table
   reading_cases_lem p0 p1 p2 p3 p9 p11 p13 p14 p15 p16 p17 =

@@ -4,7 +4,7 @@ use Rattle.state.specs.declared.answer.Answer.{Answer}
 use Rattle.state.specs.declared.answer.Answer.TheVariants.{Value, Refused}
 use Rattle.state.specs.declared.answer.Refusal.TheVariants.{Cell}
 use Rattle.state.specs.declared.control.Control.{Control}
-use Rattle.rules.specs.Call.{Call, take, hand_over_lem, new_diagnosis_lem, judge_parameters_lem, judge_configuration_lem, events, acknowledge}
+use Rattle.rules.specs.Call.{Call, take, hand_over_call, new_diagnosis_call, judge_parameters_call, judge_configuration_call, events, acknowledge}
 use Rattle.rules.specs.Diagnosis.{present_flags}
 use Rattle.window.specs.Order.{cell_at}
 use Rattle.window.specs.Entries.{Entry, call, window_read, window_write}
@@ -78,7 +78,7 @@ table count flags =
     -- 08H DIN_Buffer_SM, Mode-Reg1-S
     ∷ idle
     -- 09H New_DIN_Buffer_Cmd, Mode-Reg1-R
-    ∷ read_only hand_over_lem whole
+    ∷ read_only hand_over_call whole
     -- 0AH DOUT_Buffer_SM, WD_Baud_Ctrl-Val
     ∷ idle
     -- 0BH Next_DOUT_Buffer_Cmd, MinTsdr_Val
@@ -86,15 +86,15 @@ table count flags =
     -- 0CH DIAG_Buffer_SM
     ∷ idle
     -- 0DH New_DIAG_Puffer_Cmd
-    ∷ read_only (new_diagnosis_lem count flags) whole
+    ∷ read_only (new_diagnosis_call count flags) whole
     -- 0EH User_Prm_Data_OK
-    ∷ read_only (judge_parameters_lem 1) whole
+    ∷ read_only (judge_parameters_call 1) whole
     -- 0FH User_Prm_Data_NOK
-    ∷ read_only (judge_parameters_lem 0) whole
+    ∷ read_only (judge_parameters_call 0) whole
     -- 10H User_Cfg_Data_OK
-    ∷ read_only (judge_configuration_lem 1) whole
+    ∷ read_only (judge_configuration_call 1) whole
     -- 11H User_Cfg_Data_NOK
-    ∷ read_only (judge_configuration_lem 0) whole
+    ∷ read_only (judge_configuration_call 0) whole
     -- 12H reserved
     ∷ idle
     -- 13H reserved

@@ -2,7 +2,7 @@
 ghost use Rattle.std.specs.Prelude.{◌<◌, ◌≡◌};
 ghost use Rattle.state.specs.Answer.{Meets};
 ghost use Rattle.state.specs.Unpack.{unpacked};
-ghost use Rattle.rules.specs.Call.{new_diagnosis_lem, events};
+ghost use Rattle.rules.specs.Call.{new_diagnosis_call, events};
 ghost use Rattle.rules.specs.Diagnosis.{present_flags};
 ghost use Rattle.steps.specs.Calls.{called};
 ghost use Rattle.window.specs.Table.{bits, cut_to, calls, nothing, no_cell};
@@ -36,7 +36,7 @@ pub fn event_bits(mem: &mut [u8], from: u32) -> Answer
 
 // A new diagnosis with the present count and flags.
 pub fn renew_diagnosis(mem: &mut [u8]) -> Answer
-    ensures { Meets (called mem.old (new_diagnosis_lem (unpacked mem.old).control.diagnosis.count (present_flags (unpacked mem.old).control.flags))) result mem.new }
+    ensures { Meets (called mem.old (new_diagnosis_call (unpacked mem.old).control.diagnosis.count (present_flags (unpacked mem.old).control.flags))) result mem.new }
 {
     if !is_well(&mem[..]) {
         return Answer::Refused(Refusal::Damaged);

@@ -109,7 +109,7 @@ same-length-3 c = search rules
 returns-3 : tie.Need-returns-3
 returns-3 c =
     let d = c.before.before.before in
-    by_command _ _ _ _ d.before.before.enum-told3.given.1 (by_call _ _ (exported d.hand_over_lem.ensures (to_z-of_z (record { sfits = c.code3.type-inv }) ∙ c.code3.ensures)))
+    by_command _ _ _ _ d.before.before.enum-told3.given.1 (by_call _ _ (exported d.hand_over_call.ensures (to_z-of_z (record { sfits = c.code3.type-inv }) ∙ c.code3.ensures)))
 
 same-length-4 : tie.Need-same-length-4
 same-length-4 c = search rules

@@ -15,7 +15,7 @@ same_length : tie.Need-same-length
 same_length c = search rules
 
 returns : tie.Need-returns
-returns c = exported c.before.before.before.hand_over_lem.ensures (to_z-of_z (record { sfits = c.code.type-inv }) ∙ c.code.ensures)
+returns c = exported c.before.before.before.hand_over_call.ensures (to_z-of_z (record { sfits = c.code.type-inv }) ∙ c.code.ensures)
 
 pub dp-hand-over-inputs-spec : {M : Type 1} → statement M
 dp-hand-over-inputs-spec =

@@ -15,7 +15,7 @@ same_length : tie.Need-same-length
 same_length c = search rules
 
 returns : tie.Need-returns
-returns c = exported c.before.before.before.judge_configuration_lem.ensures (to_z-of_z (record { sfits = c.code.type-inv }) ∙ c.code.ensures)
+returns c = exported c.before.before.before.judge_configuration_call.ensures (to_z-of_z (record { sfits = c.code.type-inv }) ∙ c.code.ensures)
 
 pub dp-judge-configuration-spec : {M : Type 1} → statement M
 dp-judge-configuration-spec =

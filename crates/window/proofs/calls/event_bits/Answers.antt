@@ -1,0 +1,9 @@
+-- `window::calls::event_bits` meets its contract.
+use Rattle.rules.specs.Call.{events}
+use Rattle.window.specs.Table.{bits}
+use Rattle.window.proofs.Entered.{cut_meets}
+use borrow.Author.Rules.{rules}
+use Rattle.window.proofs.calls.event_bits.Goals as goal
+
+pub returns : goal.returns
+returns c = cut_meets _ events (bits _) c.events-answer.ensures c.eight_bits.ensures
