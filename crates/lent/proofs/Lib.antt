@@ -1,9 +1,4 @@
-pub mod Value
-pub mod Again
-pub mod Local
-pub mod OnLocal
 pub mod Same
-pub mod Loops
 pub mod Partly
 pub mod Turns
 pub mod Exporting

@@ -3,7 +3,7 @@
 use Prim.Native.Nat.{ℕ, suc, ◌+◌, ◌-◌, ◌≤◌, ◌<◌}
 use native.Mathlib.Omega.{arith}
 use native.Mathlib.Numerals.{unary_clauses}
-use mathlib.Core.Path.{◌≡◌, refl, ap, ◌∙◌}
+use mathlib.Core.Path.{◌≡◌, refl, sym, ap, subst, ◌∙◌}
 use mathlib.Core.Bool.{false}
 use mathlib.Core.List.{List, [], ◌∷◌, ◌++◌}
 use lib.ListN.{length, get_or, drop}
@@ -25,6 +25,12 @@ partly_none h ys all s = record { long = refl; safe = s; comes = refl }
 module _ {h : State} {ys : List ℕ} {all : List Beat} (t : State) (zs : List ℕ) where
   pub partly_more : (b : Beat) (rest : List Beat) → Partly h ys all t zs (b ∷ rest) → Partly h ys all (beat t zs b).state (beat t zs b).memory rest
   partly_more b rest p = record { long = beat_length t zs p.safe b ∙ p.long; safe = safe_beat t zs p.safe b; comes = p.comes }
+
+  -- as the code leaves state and memory
+  pub partly_next : (b : Beat) (rest : List Beat) (u : State) (us : List ℕ) → Partly h ys all t zs (b ∷ rest) → Steps (beat t zs b) u us → Partly h ys all u us rest
+  partly_next b rest u us p e =
+      subst (λ (x : State). Partly h ys all x us rest) (sym e.states)
+      (subst (λ (m : List ℕ). Partly h ys all (beat t zs b).state m rest) (sym e.leaves) (partly_more b rest p))
 
   pub partly_all : Partly h ys all t zs [] → Steps (run_beats h ys all) t zs
   partly_all p = record { states = ap (λ (r : Stepped). r.state) p.comes; leaves = ap (λ (r : Stepped). r.memory) p.comes }

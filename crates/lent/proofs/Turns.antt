@@ -1,10 +1,9 @@
 -- Steps in a row are one run, and a run on the state that a memory holds, packed again, is what the exported calls leave.
 use Prim.Native.Nat.{ℕ}
 use mathlib.Core.Path.{◌≡◌, refl, sym, ap, ◌∙◌}
-use mathlib.Core.Bool.{Bool, true, false, not}
+use mathlib.Core.Bool.{Bool, true, false}
 use lib.ListN.{length}
 use mathlib.Core.List.{List, [], ◌∷◌, ◌++◌}
-use borrow.Author.Tests.{not-true, not-false}
 use Rattle.state.specs.declared.state.State.{State}
 use Rattle.state.specs.Answer.{Called}
 use Rattle.state.specs.Memory.{kept, Holds}
@@ -41,13 +40,13 @@ left_damaged : (cs : List Call) (m : List ℕ) → well_memory m ≡ false → m
 left_damaged [] m e = refl
 left_damaged (c ∷ cs) m e = left_damaged cs m e ∙ ap (λ (r : Called). memory_after r.memory cs) (sym (called_damaged m c e))
 
-pub none_found : (m : List ℕ) (r : Bool) (cs : List Call) → r ≡ well_memory m → not r ≡ true → (false ≡ well_memory m) × (m ≡ memory_after m cs)
+pub none_found : (m : List ℕ) (r : Bool) (cs : List Call) → r ≡ well_memory m → r ≡ false → (false ≡ well_memory m) × (m ≡ memory_after m cs)
 none_found m r cs tells e =
-    let f : false ≡ well_memory m = sym (not-true r e) ∙ tells in
+    let f : false ≡ well_memory m = sym e ∙ tells in
     (f, left_damaged cs m (sym f))
 
-pub one_found : (m : List ℕ) (r : Bool) → r ≡ well_memory m → not r ≡ false → true ≡ well_memory m
-one_found m r tells e = sym (not-false r e) ∙ tells
+pub one_found : (m : List ℕ) (r : Bool) → r ≡ well_memory m → r ≡ true → true ≡ well_memory m
+one_found m r tells e = sym e ∙ tells
 
 -- a gap, as a run of its own
 pub gap_run : (s : State) (m : List ℕ) (t : State) (zs : List ℕ) → Steps (paused s m) t zs → Steps (run_beats s m (gap ∷ [])) t zs
