@@ -17,8 +17,7 @@ use window::command::Command;
 use window::order::Order;
 
 // Start: sets the station up in the memory. 0, or refused by 1 to 4.
-#[unsafe(no_mangle)]
-pub extern "C" fn dp_start(
+pub fn dp_start(
     memory: &mut [u8],
     address: u32,
     ident: u16,
@@ -48,8 +47,7 @@ pub extern "C" fn dp_start(
 }
 
 // The bus's octet. bad: 0 for one that was well received, any other value flags it.
-#[unsafe(no_mangle)]
-pub extern "C" fn dp_octet(memory: &mut [u8], octet: u8, bad: u8) -> i64
+pub fn dp_octet(memory: &mut [u8], octet: u8, bad: u8) -> i64
     ensures { Returns (called memory.old (call.octet octet (not (eqb bad 0)))) result memory.new }
 {
     let answer = calls::octet(memory, octet, !(bad == 0));
@@ -57,8 +55,7 @@ pub extern "C" fn dp_octet(memory: &mut [u8], octet: u8, bad: u8) -> i64
 }
 
 // A gap on the line.
-#[unsafe(no_mangle)]
-pub extern "C" fn dp_gap(memory: &mut [u8]) -> i64
+pub fn dp_gap(memory: &mut [u8]) -> i64
     ensures { Returns (called memory.old gap) result memory.new }
 {
     let answer = calls::gap(memory);
@@ -66,8 +63,7 @@ pub extern "C" fn dp_gap(memory: &mut [u8]) -> i64
 }
 
 // The next octet of the reply, 256 when none is left.
-#[unsafe(no_mangle)]
-pub extern "C" fn dp_send(memory: &mut [u8]) -> i64
+pub fn dp_send(memory: &mut [u8]) -> i64
     ensures { Returns (called memory.old send) result memory.new }
 {
     let answer = calls::send(memory);
@@ -75,8 +71,7 @@ pub extern "C" fn dp_send(memory: &mut [u8]) -> i64
 }
 
 // A Tick, every 1 ms.
-#[unsafe(no_mangle)]
-pub extern "C" fn dp_tick(memory: &mut [u8]) -> i64
+pub fn dp_tick(memory: &mut [u8]) -> i64
     ensures { Returns (called memory.old tick) result memory.new }
 {
     let answer = calls::tick(memory);
@@ -84,8 +79,7 @@ pub extern "C" fn dp_tick(memory: &mut [u8]) -> i64
 }
 
 // Take outputs: 0 nothing new, 1 new, 2 new zeros published by the station.
-#[unsafe(no_mangle)]
-pub extern "C" fn dp_take_outputs(memory: &mut [u8]) -> i64
+pub fn dp_take_outputs(memory: &mut [u8]) -> i64
     ensures { Returns (called memory.old take) result memory.new }
 {
     let answer = calls::take(memory);
@@ -93,8 +87,7 @@ pub extern "C" fn dp_take_outputs(memory: &mut [u8]) -> i64
 }
 
 // An octet of kind 1 outputs, 2 parameters shown, 3 configuration shown, 4 held inputs, 5 the user's diagnosis.
-#[unsafe(no_mangle)]
-pub extern "C" fn dp_read(memory: &mut [u8], kind: u32, index: u32) -> i64
+pub fn dp_read(memory: &mut [u8], kind: u32, index: u32) -> i64
     ensures { Returns (called memory.old (read kind index)) result memory.new }
 {
     let answer = calls::read(memory, kind, index);
@@ -102,8 +95,7 @@ pub extern "C" fn dp_read(memory: &mut [u8], kind: u32, index: u32) -> i64
 }
 
 // An octet of kind 4 or 5 written.
-#[unsafe(no_mangle)]
-pub extern "C" fn dp_write(memory: &mut [u8], kind: u32, index: u32, octet: u8) -> i64
+pub fn dp_write(memory: &mut [u8], kind: u32, index: u32, octet: u8) -> i64
     ensures { Returns (called memory.old (write kind index octet)) result memory.new }
 {
     let answer = calls::write(memory, kind, index, octet);
@@ -111,8 +103,7 @@ pub extern "C" fn dp_write(memory: &mut [u8], kind: u32, index: u32, octet: u8) 
 }
 
 // Hand over inputs.
-#[unsafe(no_mangle)]
-pub extern "C" fn dp_hand_over_inputs(memory: &mut [u8]) -> i64
+pub fn dp_hand_over_inputs(memory: &mut [u8]) -> i64
     ensures { Returns (called memory.old hand_over_call) result memory.new }
 {
     let answer = calls::hand_over(memory);
@@ -120,8 +111,7 @@ pub extern "C" fn dp_hand_over_inputs(memory: &mut [u8]) -> i64
 }
 
 // New diagnosis of `count` octets, flags in bits 0 to 2: Ext_Diag, Stat_Diag, overflow.
-#[unsafe(no_mangle)]
-pub extern "C" fn dp_new_diagnosis(memory: &mut [u8], count: u32, flags: u32) -> i64
+pub fn dp_new_diagnosis(memory: &mut [u8], count: u32, flags: u32) -> i64
     ensures { Returns (called memory.old (new_diagnosis_call count flags)) result memory.new }
 {
     let answer = calls::new_diagnosis(memory, count, flags);
@@ -129,8 +119,7 @@ pub extern "C" fn dp_new_diagnosis(memory: &mut [u8], count: u32, flags: u32) ->
 }
 
 // Judge parameters, 1 good, 0 bad: 1 if a newer set waited, which is now shown, else 0.
-#[unsafe(no_mangle)]
-pub extern "C" fn dp_judge_parameters(memory: &mut [u8], judgement: u32) -> i64
+pub fn dp_judge_parameters(memory: &mut [u8], judgement: u32) -> i64
     ensures { Returns (called memory.old (judge_parameters_call judgement)) result memory.new }
 {
     let answer = calls::judge_parameters(memory, judgement);
@@ -138,8 +127,7 @@ pub extern "C" fn dp_judge_parameters(memory: &mut [u8], judgement: u32) -> i64
 }
 
 // Judge configuration, likewise.
-#[unsafe(no_mangle)]
-pub extern "C" fn dp_judge_configuration(memory: &mut [u8], judgement: u32) -> i64
+pub fn dp_judge_configuration(memory: &mut [u8], judgement: u32) -> i64
     ensures { Returns (called memory.old (judge_configuration_call judgement)) result memory.new }
 {
     let answer = calls::judge_configuration(memory, judgement);
@@ -147,8 +135,7 @@ pub extern "C" fn dp_judge_configuration(memory: &mut [u8], judgement: u32) -> i
 }
 
 // The event word.
-#[unsafe(no_mangle)]
-pub extern "C" fn dp_events(memory: &mut [u8]) -> i64
+pub fn dp_events(memory: &mut [u8]) -> i64
     ensures { Returns (called memory.old events) result memory.new }
 {
     let answer = calls::events(memory);
@@ -156,8 +143,7 @@ pub extern "C" fn dp_events(memory: &mut [u8]) -> i64
 }
 
 // Clears the events of the mask, never 10 or 11.
-#[unsafe(no_mangle)]
-pub extern "C" fn dp_acknowledge(memory: &mut [u8], mask: u16) -> i64
+pub fn dp_acknowledge(memory: &mut [u8], mask: u16) -> i64
     ensures { Returns (called memory.old (acknowledge mask)) result memory.new }
 {
     let answer = calls::acknowledge(memory, mask);
@@ -165,8 +151,7 @@ pub extern "C" fn dp_acknowledge(memory: &mut [u8], mask: u16) -> i64
 }
 
 // The smallest number of a set event, 16 for none.
-#[unsafe(no_mangle)]
-pub extern "C" fn dp_pending(memory: &mut [u8]) -> i64
+pub fn dp_pending(memory: &mut [u8]) -> i64
     ensures { Returns (called memory.old pending) result memory.new }
 {
     let answer = calls::pending(memory);
@@ -174,8 +159,7 @@ pub extern "C" fn dp_pending(memory: &mut [u8]) -> i64
 }
 
 // Leave the master: a clear.
-#[unsafe(no_mangle)]
-pub extern "C" fn dp_leave_master(memory: &mut [u8]) -> i64
+pub fn dp_leave_master(memory: &mut [u8]) -> i64
     ensures { Returns (called memory.old leave) result memory.new }
 {
     let answer = calls::leave(memory);
@@ -201,16 +185,14 @@ fn command(memory: &mut [u8], command: Command) -> i64
 }
 
 // Reads the cell of the window that is at an address in an order, 0 Intel's, any other Motorola's, and so makes the call behind it.
-#[unsafe(no_mangle)]
-pub extern "C" fn dp_window_read(memory: &mut [u8], order: u32, address: u32) -> i64
+pub fn dp_window_read(memory: &mut [u8], order: u32, address: u32) -> i64
     ensures { Returns (entered memory.old (window_read (order_of order) address)) result memory.new }
 {
     command(memory, Command::reading(Order::of(order), address))
 }
 
 // Writes an octet to a cell of the window.
-#[unsafe(no_mangle)]
-pub extern "C" fn dp_window_write(memory: &mut [u8], order: u32, address: u32, octet: u8) -> i64
+pub fn dp_window_write(memory: &mut [u8], order: u32, address: u32, octet: u8) -> i64
     ensures { Returns (entered memory.old (window_write (order_of order) address octet)) result memory.new }
 {
     command(memory, Command::writing(Order::of(order), address, octet))
