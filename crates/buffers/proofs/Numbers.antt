@@ -2,12 +2,12 @@
 use Prim.Native.Nat.{ℕ, zero, suc, ◌-◌, ◌%◌, ◌<◌, ◌≤◌}
 use native.Mathlib.Omega.{arith}
 use mathlib.Core.Path.{◌≡◌, refl, sym, ap, subst, ◌∙◌}
-use mathlib.Core.Bool.{Bool, true, false, cond, ◌&&◌, ◌||◌, false≢true}
+use mathlib.Core.Bool.{Bool, true, false, cond, ◌&&◌, false≢true}
 use mathlib.Core.List.{List, [], ◌∷◌}
 use lib.ListN.{length, get_or}
 use borrow.Author.Tests.{eqb-true, ne_eqb}
 use lib.Dec.{eqb, ltb}
-use Rattle.buffers.specs.Roles.{fill, next, held, back, fill_of, next_of, held_of, back_of, Permutation}
+use Rattle.buffers.specs.Roles.{fill_of, next_of, held_of, back_of, Permutation}
 use Rattle.buffers.specs.Number.{before, number_of, permutations, places_of, number_of4, permutations4, places_of4}
 use Rattle.buffers.proofs.Below.{all_below, both, passes_below}
 use Rattle.buffers.proofs.Roles.{permutes, tested}

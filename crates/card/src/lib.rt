@@ -1,5 +1,6 @@
 // The station as firmware in C calls it: the memory first, plain numbers, a refusal negated.
 #![tactic(auto)]
+
 ghost use Rattle.std.specs.Prelude.{not, eqb, length};
 ghost use Rattle.state.specs.Start.{given};
 ghost use Rattle.state.specs.Unpack.{unpacked};

@@ -1,5 +1,6 @@
 // Acyclic channels: sixteen of them, each with an indication and a response buffer behind the other buffers.
 #![tactic(auto)]
+
 pub mod channel;
 pub mod deeds;
 pub mod places;

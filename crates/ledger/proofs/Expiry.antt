@@ -1,5 +1,5 @@
 -- Ticks without a telegram: the watchdog counts down and expires at the last of them (specs/Watchdog.antt: Expires).
-use Prim.Native.Nat.{ℕ, zero, suc, ◌+◌, ◌-◌, ◌≤◌, ◌<◌}
+use Prim.Native.Nat.{ℕ, zero, suc, ◌+◌, ◌-◌, ◌≤◌}
 use native.Mathlib.Omega.{arith}
 use mathlib.Core.Path.{◌≡◌, refl, sym, ap, subst, ◌∙◌}
 use mathlib.Core.Bool.{Bool, true, false, cond, not, ◌&&◌}
@@ -10,7 +10,7 @@ use lib.ListN.{replicate}
 use borrow.Author.Tests.{lt-leb, eq-eqb, ne_eqb}
 use Rattle.telegram.proofs.Run.{no_true}
 use Rattle.buffers.specs.declared.events.Events.{Events}
-use Rattle.buffers.specs.Events.{bit, raised, cleared, data_exchange_event, watchdog_event, configuration_event, parameters_event, outputs_event}
+use Rattle.buffers.specs.Events.{bit, cleared, data_exchange_event, watchdog_event, configuration_event, parameters_event, outputs_event}
 use Rattle.buffers.proofs.Word.{raised_same, raised_other, cleared_other}
 use Rattle.state.specs.declared.control.Phase.{Phase}
 use Rattle.state.specs.declared.control.Phase.TheVariants.{WaitPrm, WaitCfg, DataExch}

@@ -32,7 +32,7 @@ use Rattle.ledger.proofs.Runs.{answers_append}
 use Rattle.ledger.proofs.Settling.{settle_outputs}
 use Rattle.ledger.proofs.Kept.{step_kept, after_kept}
 use Rattle.ledger.proofs.ByCases.{take_cases, read_cases, write_cases, diagnosis_cases, parameters_cases, configuration_cases}
-use Rattle.ledger.specs.History.{Deed, accepted, withheld, released, emptied, zeroed, outputs_taken, newest_withheld, newest, readable, holds_back, deeds_by, clears, heard_deeds, deeds_of, history, made, DeedsMake, OutputsRead, OutputsReadable, WithheldTold, sync_obeyed, ClearLast, news_of, TakesTold}
+use Rattle.ledger.specs.History.{Deed, accepted, withheld, released, emptied, zeroed, outputs_taken, newest_withheld, newest, readable, holds_back, deeds_by, clears, heard_deeds, deeds_of, history, made, DeedsMake, OutputsRead, OutputsReadable, WithheldTold, ClearLast, news_of, TakesTold}
 
 -- ---------------------------------------------------------------------------------------------------
 -- The outputs as the deeds make them, the newest deed first.

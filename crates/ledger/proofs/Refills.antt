@@ -1,11 +1,10 @@
 -- Which telegrams refill the watchdog, and what else can become of it at a last octet (specs/Watchdog.antt: Refills).
-use Prim.Native.Nat.{ℕ}
-use mathlib.Core.Path.{◌≡◌, refl, sym, ap, subst, ◌∙◌}
+use mathlib.Core.Path.{◌≡◌, refl, sym, ap, ◌∙◌}
 use mathlib.Core.Bool.{Bool, true, false, cond, not, ◌&&◌}
 use mathlib.Core.Logic.{◌⊎◌, inl, inr}
 use lib.Dec.{eqb}
 use lib.ListN.{length}
-use borrow.Author.Tests.{eqb-true, not-true}
+use borrow.Author.Tests.{eqb-true}
 use Rattle.telegram.specs.Telegram.{Telegram, payload_of}
 use Rattle.state.specs.declared.setup.Setup.{Setup}
 use Rattle.state.specs.declared.control.Watchdog.{Watchdog}
@@ -14,7 +13,6 @@ use Rattle.state.specs.Start.{no_owner}
 use Rattle.state.specs.Well.{within}
 use Rattle.state.proofs.Tests.{within_true}
 use Rattle.rules.specs.declared.request.Request.{Request}
-use Rattle.rules.specs.declared.request.Service.{Service}
 use Rattle.rules.specs.declared.request.Service.TheVariants.{SetPrm}
 use Rattle.rules.specs.declared.outcome.Outcome.{Outcome}
 use Rattle.rules.specs.Control.{bit, owns}
@@ -24,7 +22,7 @@ use Rattle.rules.specs.Services.{other_owns, other_ident, serve}
 use Rattle.rules.proofs.ByCases.{refilled_same}
 use Rattle.rules.proofs.WatchdogMoves.{Stays, serve_stays}
 use Rattle.ledger.specs.Ledger.{Ledger, occupied}
-use Rattle.ledger.specs.Bus.{request_by, prm_by, data_by, outcome_of, answered, completed}
+use Rattle.ledger.specs.Bus.{request_by, prm_by, data_by, outcome_of, answered}
 use Rattle.ledger.specs.Watchdog.{Passes, Leaves, Refills}
 
 module _ (l : Ledger) (t : Telegram) where

@@ -2,24 +2,21 @@
 use Prim.Native.Nat.{ℕ, ◌+◌, ◌*◌, ◌/◌, ◌%◌, ◌≤◌}
 use native.Mathlib.Nat.{mul-le-mul}
 use native.Mathlib.Omega.{arith}
-use mathlib.Core.Path.{◌≡◌, refl, sym, ap, ◌∙◌}
+use mathlib.Core.Path.{◌≡◌, refl, ap, ◌∙◌}
 use mathlib.Core.Bool.{Bool, true, false, cond, not, ◌&&◌, ◌||◌}
-use mathlib.Core.List.{List}
 use mathlib.Core.Logic.{◌⊎◌, inl, inr}
-use lib.Dec.{leb, eqb}
+use lib.Dec.{eqb}
 use lib.ListN.{length, get_or}
 use borrow.Author.Tests.{le-leb, lt-leb, eq-eqb, ne_eqb, eqb-true}
 use Rattle.telegram.specs.Telegram.{Telegram, payload_of}
 use Rattle.telegram.proofs.Run.{no_true}
 use Rattle.state.specs.declared.setup.Setup.{Setup}
-use Rattle.state.specs.declared.control.Watchdog.{Watchdog}
 use Rattle.state.specs.declared.control.Control.{Control}
 use Rattle.state.specs.Start.{no_owner}
 use Rattle.state.specs.Well.{within}
 use Rattle.state.proofs.Tests.{within_holds}
 use Rattle.rules.specs.declared.request.Request.{Request}
 use Rattle.rules.specs.declared.request.Prm.{Prm}
-use Rattle.rules.specs.declared.outcome.Outcome.{Outcome}
 use Rattle.rules.specs.Control.{bit, in_wait_prm}
 use Rattle.rules.specs.Diagnosis.{one, status2}
 use Rattle.rules.specs.Phases.{wait_prm, wait_cfg}
@@ -30,7 +27,7 @@ use Rattle.rules.specs.Watchdog.{wants_watchdog, bad_factors, fast_base, ticks_b
 use Rattle.rules.proofs.ByCases.{refilled_same}
 use Rattle.rules.proofs.LookedAt.{same_base, same_outcome}
 use Rattle.ledger.specs.Ledger.{Ledger, occupied}
-use Rattle.ledger.specs.Bus.{request_by, prm_by, data_by, outcome_of, answered, completed}
+use Rattle.ledger.specs.Bus.{request_by, prm_by, data_by, answered, completed}
 use Rattle.ledger.specs.Watchdog.{datum, Passes, GoodFactors, BadFactors, Counts, Taken, SwitchedOn, SwitchedOff, Faults, NothingElse, TicksAlways, WatchdogBase}
 use Rattle.ledger.proofs.OctetReplies.{one_low}
 use Rattle.ledger.proofs.Octets.{always_octal}

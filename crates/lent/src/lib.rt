@@ -1,6 +1,7 @@
 // The unpacked state, lent to be changed by octet and tick. Each hands it by value to the station's step and stores what
 // comes back.
 #![tactic(auto)]
+
 pub mod bench;
 pub mod exports;
 

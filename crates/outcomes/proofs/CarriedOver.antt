@@ -1,9 +1,9 @@
 -- An outcome carried out over the memory, part by part: the memory then holds the state after it.
-use Prim.Native.Nat.{ℕ, ◌≤◌}
+use Prim.Native.Nat.{ℕ}
 use native.Mathlib.Omega.{arith}
 use mathlib.Core.Path.{◌≡◌, refl, sym, ap, subst, ◌∙◌}
 use mathlib.Core.List.{List, ◌++◌}
-use lib.ListN.{length, take, take-append-drop}
+use lib.ListN.{take, take-append-drop}
 use Rattle.buffers.specs.declared.triple.Triple.{Triple}
 use Rattle.buffers.specs.Roles.{next_of}
 use Rattle.buffers.specs.Roles as role
@@ -19,7 +19,7 @@ use Rattle.state.proofs.Channelled.{kept_channelled}
 use Rattle.state.specs.Unpack.{unpacked}
 use Rattle.state.specs.With.{with_control, with_control_but_chain, with_outputs, with_inputs, with_parameters, with_configuration}
 use Rattle.state.proofs.Damage.{fronted_same}
-use Rattle.state.proofs.Front.{kept_take, kept_drop, kept_length}
+use Rattle.state.proofs.Front.{kept_take, kept_drop}
 use Rattle.state.proofs.PartsRead.{outputs_read, inputs_read, parameters_read, configuration_read, all_but_control}
 use Rattle.state.proofs.Places.{inside}
 use Rattle.state.proofs.Written.{again, onto}

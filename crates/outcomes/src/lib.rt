@@ -1,5 +1,6 @@
 // What the rules give, carried out on the state and the buffers of the lent memory.
 #![tactic(auto)]
+
 pub mod carry;
 pub mod line;
 pub mod over;

@@ -1,5 +1,6 @@
 // The service access points of document 01, and the lookup of one by its number (document 02, Req 03).
 #![tactic(auto)]
+
 ghost use Rattle.std.specs.Prelude.{◌≡◌};
 ghost use Rattle.points.specs.Points.{number_of, table};
 ghost use Rattle.points.specs.Lookup.{Promised};

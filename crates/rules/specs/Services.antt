@@ -14,7 +14,6 @@ use Rattle.rules.specs.declared.request.Occupied.{Occupied}
 use Rattle.rules.specs.declared.request.Prm.{Prm}
 use Rattle.rules.specs.declared.request.Service.{Service}
 use Rattle.rules.specs.declared.request.Service.TheVariants.{Nothing, Status, Reject, GlobalControl, DataExchange, SetPrm, ChkCfg, SlaveDiag, GetCfg, ReadInputs, ReadOutputs}
-use Rattle.rules.specs.declared.outcome.OutputsDeed.TheVariants as outputs-deed
 use Rattle.rules.specs.declared.outcome.InputsDeed.TheVariants as inputs-deed
 use Rattle.rules.specs.declared.outcome.SetDeed.TheVariants as set-deed
 use Rattle.rules.specs.declared.outcome.Outcome.{Outcome}

@@ -1,6 +1,7 @@
 // The rules of the station on the control part of its state: what a telegram, a tick or a user call changes there, what
 // becomes of the buffers, and what is drawn. No buffer and no memory here.
 #![tactic(auto)]
+
 pub mod diagnosis;
 pub mod kinds;
 pub mod line;

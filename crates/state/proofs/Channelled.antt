@@ -5,9 +5,9 @@ use mathlib.Core.Path.{◌≡◌, sym, subst, ap}
 use mathlib.Core.List.{List}
 use lib.ListN.{length}
 use Rattle.octets.specs.Part.{part}
-use Rattle.channels.specs.Image.{channels_at, rows_length, loaded}
+use Rattle.channels.specs.Image.{channels_at, rows_length}
 use Rattle.channels.specs.Rules.{Sound}
-use Rattle.channels.specs.Places.{lengths_in, room_of}
+use Rattle.channels.specs.Places.{lengths_in}
 use Rattle.channels.proofs.Same.{loaded_same, room_same}
 use Rattle.state.specs.declared.setup.Setup.{Setup}
 use Rattle.state.specs.declared.state.State.{State}

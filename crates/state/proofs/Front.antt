@@ -3,9 +3,9 @@ use Prim.Native.Nat.{ℕ, ◌+◌, ◌-◌, ◌≤◌}
 use native.Mathlib.Omega.{arith}
 use mathlib.Core.Path.{◌≡◌, sym, ap, ◌∙◌}
 use mathlib.Core.List.{List, ◌++◌}
-use lib.ListN.{length, take, drop, replicate, length-append, length-drop}
+use lib.ListN.{length, take, drop, length-append, length-drop}
 use lib.Seq.{take_at, drop_at, drop-drop}
-use Rattle.octets.specs.Part.{part, pasted}
+use Rattle.octets.specs.Part.{part}
 use Rattle.state.specs.declared.state.State.{State}
 use Rattle.state.specs.Image.{image}
 use Rattle.state.specs.Layout.{image_length}

@@ -1,11 +1,11 @@
 -- A sound state and its image are each other's: the octets that pass the tests are the images of the sound states.
-use Prim.Native.Nat.{ℕ, zero, suc, ◌+◌, ◌-◌, ◌*◌, ◌/◌, ◌%◌, ◌≤◌, ◌<◌}
+use Prim.Native.Nat.{ℕ, zero, suc, ◌+◌, ◌*◌, ◌/◌, ◌%◌, ◌≤◌, ◌<◌}
 use native.Mathlib.Omega.{arith}
 use native.Mathlib.Nat.{mod-add-div}
 use mathlib.Core.Path.{◌≡◌, refl, sym, ap, subst, ◌∙◌}
 use mathlib.Core.Bool.{Bool, true}
 use mathlib.Core.List.{List, [], ◌∷◌, ◌++◌}
-use lib.ListN.{length, get_or, take, drop, replicate, take-append-drop}
+use lib.ListN.{length, get_or, take, drop, take-append-drop}
 use lib.Dec.{leb, eqb}
 use lib.Seq.{drop-cons}
 use borrow.Author.Tests.{leb-true, le-leb, eqb-true}
@@ -18,7 +18,7 @@ use Rattle.state.specs.Layout.{image_length}
 use Rattle.state.specs.Image.{bit_of, low_word, high_word, double_octets, flags_of, modes_of, marks_of, inputs_code, image}
 use Rattle.state.specs.Unpack.{word_at, double_at, setup_in, flags_in, reader_in, sender_in, unpacked}
 use Rattle.state.specs.Sound.{Sound}
-use Rattle.state.specs.Well.{all, length_tests, lengths_tests, count_tests, line_tests, limit_tests, code_tests, image_tests, well_image}
+use Rattle.state.specs.Well.{all, length_tests, lengths_tests, count_tests, line_tests, code_tests, image_tests, well_image}
 use Rattle.state.proofs.Numbers.{reading_back, reading_counted, reading_le, kind_back, kind_counted, kind_le, stage_back, stage_counted, stage_le, phase_back, phase_counted, phase_le, drawn_back, drawn_counted, drawn_le}
 use Rattle.state.proofs.Asking.{tests_ranged, lengths_hold}
 use Rattle.state.proofs.Tests.{all_at, all_behind, within_true, within_holds, none_or_true, none_or_holds, set_counts_true, set_counts_holds}

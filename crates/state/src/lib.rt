@@ -1,5 +1,6 @@
 // The station's state by value, its image in the first octets of the lent memory, and Start.
 #![tactic(auto)]
+
 pub mod answer;
 pub mod chain;
 pub mod control;

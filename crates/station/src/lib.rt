@@ -1,5 +1,6 @@
 // The station over its lent memory: the calls of the bus and of the vat program.
 #![tactic(auto)]
+
 pub mod bus;
 pub mod calls;
 pub mod completing;

@@ -1,6 +1,7 @@
 // The telegram layer: telegrams of the bus as octets, read and sent one octet after the other.
 // It knows no DP service.
 #![tactic(auto)]
+
 pub mod reader;
 pub mod sender;
 

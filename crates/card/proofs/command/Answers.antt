@@ -4,7 +4,6 @@ use mir.Facts.{to_z-of_z}
 use mathlib.Core.Path.{◌∙◌}
 use Rattle.state.specs.Unpack.{unpacked}
 use Rattle.card.proofs.Exporting.{exported, handed_on, by_call, by_command}
-use borrow.Author.Rules.{rules}
 use Rattle.card.proofs.command.Goals as goal
 
 pub returns-in-LowEvents : goal.returns-in-LowEvents

@@ -2,7 +2,6 @@ use mir.Syntax.{w64}
 use mir.Facts.{to_z-of_z}
 use mathlib.Core.Path.{◌∙◌}
 use Rattle.card.proofs.Exporting.{exported}
-use borrow.Author.Rules.{rules}
 use Rattle.card.proofs.dp_pending.Goals as goal
 
 pub returns : goal.returns

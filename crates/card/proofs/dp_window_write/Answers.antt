@@ -3,7 +3,6 @@ use mir.Syntax.{w64}
 use mir.Facts.{to_z-of_z}
 use Rattle.window.specs.Entries.{window_write}
 use Rattle.card.proofs.Exporting.{handed_on, by_access}
-use borrow.Author.Rules.{rules}
 use Rattle.card.proofs.dp_window_write.Goals as goal
 
 pub returns : goal.returns

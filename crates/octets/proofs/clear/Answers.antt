@@ -1,10 +1,9 @@
 -- `octets::clear` meets its contract: after i turns the first i octets are 0 and the rest is as it was.
-use Prim.Native.Nat.{◌≤◌, ◌-◌}
 use native.Mathlib.Omega.{arith}
 use mathlib.Core.Path.{◌≡◌, refl, ap, ◌∙◌}
-use mathlib.Core.List.{◌++◌, append-nil}
+use mathlib.Core.List.{append-nil}
 use native.Mathlib.Nat.{le_refl}
-use lib.ListN.{set, length, drop, replicate, length-set, drop_of_length-le}
+use lib.ListN.{set, length, length-set, drop_of_length-le}
 use borrow.Author.Fill.{fill_more}
 use Rattle.octets.proofs.clear.Goals as goal
 

@@ -7,7 +7,6 @@ use borrow.Rule.Slice.PartMut.{put_mid}
 use lib.ListN.{replicate}
 use Rattle.octets.specs.Part.{pasted}
 use Rattle.octets.proofs.Parts.{lent_clear}
-use borrow.Author.Rules.{rules}
 use Rattle.octets.proofs.clear_at.Goals as goal
 
 pub returns : goal.returns

@@ -1,11 +1,8 @@
 -- `octets::copy` meets its contract: after i turns the first i octets are copied and the rest is as it was.
 use Prim.Native.Nat.{◌≤◌, ◌-◌}
-use native.Mathlib.Omega.{arith}
-use mathlib.Core.Path.{◌≡◌, refl, ap, ◌∙◌}
+use mathlib.Core.Path.{◌≡◌}
 use mathlib.Core.List.{◌++◌}
-use lib.ListN.{set, get_or, length, take, drop, length-set}
-use lib.Seq.{take-length}
-use Rattle.octets.proofs.Loops.{copy_more}
+use lib.ListN.{length, take, drop}
 use Rattle.octets.proofs.copy.Given as goal
 
 abbrev pub invariant-loop-i : goal.invariant-loop-i

@@ -5,7 +5,6 @@ use mathlib.Core.Path.{ap, ◌∙◌}
 use borrow.Rule.Slice.PartMut.{put_mid}
 use lib.ListN.{length}
 use Rattle.octets.proofs.Parts.{lent_copy}
-use borrow.Author.Rules.{rules}
 use Rattle.octets.proofs.copy_at.Goals as goal
 
 pub returns : goal.returns

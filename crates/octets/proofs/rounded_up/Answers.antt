@@ -2,7 +2,6 @@
 use native.Mathlib.Omega.{arith}
 use mathlib.Core.Path.{refl}
 use Rattle.octets.specs.Part.{rounded_up}
-use borrow.Author.Rules.{rules}
 use Rattle.octets.proofs.rounded_up.Goals as goal
 
 pub returns : goal.returns

@@ -1,7 +1,6 @@
 -- `octets::store` meets its contract: past the end nothing is set.
 use mathlib.Core.Path.{sym}
 use lib.Seq.{set_out}
-use borrow.Author.Rules.{rules}
 use Rattle.octets.proofs.store.Goals as goal
 
 pub returns-else-at-part : goal.returns-else-at-part

@@ -6,7 +6,6 @@ use mathlib.Core.Path.{ap, ◌∙◌}
 use borrow.Rule.Slice.PartMut.{put_mid}
 use Rattle.octets.specs.Part.{stored_in}
 use Rattle.octets.proofs.Parts.{lent_store}
-use borrow.Author.Rules.{rules}
 use Rattle.octets.proofs.store_at.Goals as goal
 
 pub returns : goal.returns

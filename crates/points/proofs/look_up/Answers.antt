@@ -1,10 +1,10 @@
 -- After n turns none of the first n entries has the number.
-use Prim.Native.Nat.{◌+◌, ◌≤◌, ◌<◌, ◌-◌}
+use Prim.Native.Nat.{◌+◌, ◌≤◌, ◌<◌}
 use mathlib.Core.Path.{◌≡◌, sym, ◌∙◌}
 use native.Mathlib.Omega.{arith}
 use lib.ListN.{length}
 use Rattle.points.specs.Points.{table}
-use Rattle.points.proofs.Looking.{Absent, absent_at_first, next_entry, absent_still, absent_throughout}
+use Rattle.points.proofs.Looking.{absent_at_first, next_entry, absent_still, absent_throughout}
 use Rattle.points.proofs.Promises.{promised_hit, promised_none}
 use Rattle.points.proofs.look_up.Goals as goal
 

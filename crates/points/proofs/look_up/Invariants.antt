@@ -1,11 +1,6 @@
 -- After n turns none of the first n entries has the number.
-use Prim.Native.Nat.{◌+◌, ◌≤◌, ◌<◌, ◌-◌}
-use mathlib.Core.Path.{◌≡◌, sym, ◌∙◌}
-use native.Mathlib.Omega.{arith}
-use lib.ListN.{length}
-use Rattle.points.specs.Points.{table}
-use Rattle.points.proofs.Looking.{Absent, absent_at_first, next_entry, absent_still, absent_throughout}
-use Rattle.points.proofs.Promises.{promised_hit, promised_none}
+use Prim.Native.Nat.{◌≤◌, ◌-◌}
+use Rattle.points.proofs.Looking.{Absent}
 use Rattle.points.proofs.look_up.Given as goal
 
 abbrev pub invariant-loop-looked_at : goal.invariant-loop-looked_at

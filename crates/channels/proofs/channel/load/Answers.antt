@@ -1,7 +1,6 @@
 -- `channels::channel::load` meets its contract.
 use mathlib.Core.Path.{refl}
 use Rattle.channels.specs.Image.{loaded}
-use borrow.Author.Rules.{rules}
 use Rattle.channels.proofs.channel.load.Goals as goal
 
 pub returns : goal.returns

@@ -3,7 +3,6 @@ use native.Mathlib.Omega.{arith}
 use mathlib.Core.Path.{refl}
 use lib.ListN.{length-set}
 use Rattle.channels.specs.Image.{saved}
-use borrow.Author.Rules.{rules}
 use Rattle.channels.proofs.channel.save.Goals as goal
 
 pub bounds-mem-n-2 : goal.bounds-mem-n-2

@@ -1,7 +1,6 @@
 -- `channels::deeds::channel_in` meets its contract.
 use borrow.Author.Tests.{lt-ltb, le-ltb}
 use Rattle.channels.specs.Deeds.{channel_in}
-use borrow.Author.Rules.{rules}
 use Rattle.channels.proofs.deeds.channel_in.Goals as goal
 
 pub returns-then-n-lt16 : goal.returns-then-n-lt16

@@ -1,6 +1,5 @@
 -- `channels::deeds::empty_all` meets its contract.
 use Rattle.channels.specs.Deeds.{emptied}
-use borrow.Author.Rules.{rules}
 use Rattle.channels.proofs.deeds.empty_all.Goals as goal
 
 pub returns : goal.returns

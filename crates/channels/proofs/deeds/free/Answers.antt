@@ -3,7 +3,6 @@ use borrow.Author.Tests.{le-ltb}
 use Rattle.channels.specs.declared.channel.Channel.{Channel}
 use Rattle.channels.specs.Deeds.{freed, freed_in}
 use Rattle.channels.proofs.Done.{saved_by}
-use borrow.Author.Rules.{rules}
 use Rattle.channels.proofs.deeds.free.Goals as goal
 
 pub returns-then-n-lt16 : goal.returns-then-n-lt16

@@ -1,7 +1,6 @@
 -- `channels::deeds::is_set_up` meets its contract.
 use borrow.Author.Tests.{lt-ltb, le-ltb}
 use Rattle.channels.specs.Deeds.{is_set_up}
-use borrow.Author.Rules.{rules}
 use Rattle.channels.proofs.deeds.is_set_up.Goals as goal
 
 pub returns-then-n-ge16 : goal.returns-then-n-ge16

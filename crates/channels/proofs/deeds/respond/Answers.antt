@@ -4,7 +4,6 @@ use lib.ListN.{length}
 use Rattle.octets.specs.Part.{pasted}
 use Rattle.channels.specs.Image.{saved}
 use Rattle.channels.specs.Deeds.{responded, responded_in}
-use borrow.Author.Rules.{rules}
 use Rattle.channels.proofs.deeds.respond.Goals as goal
 
 pub returns : goal.returns

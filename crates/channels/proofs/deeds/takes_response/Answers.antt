@@ -1,7 +1,6 @@
 -- `channels::deeds::takes_response` meets its contract.
 use mathlib.Core.Bool.{not, ◌&&◌}
 use lib.Dec.{eqb, leb}
-use borrow.Author.Rules.{rules}
 use Rattle.channels.proofs.deeds.takes_response.Goals as goal
 
 pub returns : goal.returns

@@ -4,7 +4,6 @@ use mathlib.Core.Path.{ap, ◌∙◌}
 use Rattle.octets.specs.Part.{rounded_up}
 use Rattle.channels.specs.declared.channel.Channel.{Channel}
 use Rattle.channels.specs.Image.{loaded}
-use borrow.Author.Rules.{rules}
 use Rattle.channels.proofs.places.response_at.Goals as goal
 
 pub returns : goal.returns

@@ -1,5 +1,4 @@
 -- `channels::places::room_before` meets its contract.
-use Prim.Native.Nat.{◌*◌, ◌-◌, ◌≤◌}
 use native.Mathlib.Omega.{arith}
 use mathlib.Core.Path.{◌≡◌, refl, ap, ◌∙◌}
 use Rattle.octets.specs.Part.{rounded_up}
@@ -7,7 +6,6 @@ use Rattle.channels.specs.declared.channel.Channel.{Channel}
 use Rattle.channels.specs.Image.{loaded}
 use Rattle.channels.specs.Places.{lengths_in, room_from}
 use Rattle.channels.proofs.Found.{room_next}
-use borrow.Author.Rules.{rules}
 use Rattle.channels.proofs.places.room_before.Goals as goal
 
 pub loop-k-init : goal.loop-k-init

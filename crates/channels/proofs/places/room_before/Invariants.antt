@@ -1,13 +1,7 @@
 -- `channels::places::room_before` meets its contract.
 use Prim.Native.Nat.{◌*◌, ◌-◌, ◌≤◌}
-use native.Mathlib.Omega.{arith}
-use mathlib.Core.Path.{◌≡◌, refl, ap, ◌∙◌}
-use Rattle.octets.specs.Part.{rounded_up}
-use Rattle.channels.specs.declared.channel.Channel.{Channel}
-use Rattle.channels.specs.Image.{loaded}
+use mathlib.Core.Path.{◌≡◌}
 use Rattle.channels.specs.Places.{lengths_in, room_from}
-use Rattle.channels.proofs.Found.{room_next}
-use borrow.Author.Rules.{rules}
 use Rattle.channels.proofs.places.room_before.Given as goal
 
 abbrev pub invariant-loop-k : goal.invariant-loop-k

@@ -1,7 +1,6 @@
 -- `channels::poll::load_poll` meets its contract.
 use mathlib.Core.Path.{refl}
 use Rattle.channels.specs.Image.{poll_in}
-use borrow.Author.Rules.{rules}
 use Rattle.channels.proofs.poll.load_poll.Goals as goal
 
 pub returns : goal.returns

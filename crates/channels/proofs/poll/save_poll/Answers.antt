@@ -1,7 +1,6 @@
 -- `channels::poll::save_poll` meets its contract.
 use mathlib.Core.Path.{refl}
 use Rattle.channels.specs.Image.{poll_saved}
-use borrow.Author.Rules.{rules}
 use Rattle.channels.proofs.poll.save_poll.Goals as goal
 
 pub returns : goal.returns

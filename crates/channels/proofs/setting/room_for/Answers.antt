@@ -1,12 +1,10 @@
 -- `channels::setting::room_for` meets its contract.
-use Prim.Native.Nat.{◌*◌, ◌-◌, ◌≤◌}
 use native.Mathlib.Omega.{arith}
 use mathlib.Core.Path.{◌≡◌, refl, ap, ◌∙◌}
 use Rattle.channels.specs.Image.{channels}
 use Rattle.channels.specs.Places.{room_from}
 use Rattle.channels.specs.Setting.{lengths_given}
 use Rattle.channels.proofs.Found.{room_next}
-use borrow.Author.Rules.{rules}
 use Rattle.channels.proofs.setting.room_for.Goals as goal
 
 pub loop-n-init : goal.loop-n-init

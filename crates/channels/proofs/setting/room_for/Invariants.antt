@@ -1,12 +1,9 @@
 -- `channels::setting::room_for` meets its contract.
 use Prim.Native.Nat.{◌*◌, ◌-◌, ◌≤◌}
-use native.Mathlib.Omega.{arith}
-use mathlib.Core.Path.{◌≡◌, refl, ap, ◌∙◌}
+use mathlib.Core.Path.{◌≡◌}
 use Rattle.channels.specs.Image.{channels}
 use Rattle.channels.specs.Places.{room_from}
 use Rattle.channels.specs.Setting.{lengths_given}
-use Rattle.channels.proofs.Found.{room_next}
-use borrow.Author.Rules.{rules}
 use Rattle.channels.proofs.setting.room_for.Given as goal
 
 abbrev pub invariant-loop-n : goal.invariant-loop-n

@@ -1,5 +1,5 @@
 -- `channels::setting::set_up` meets its contract.
-use Prim.Native.Nat.{ℕ, ◌-◌, ◌≤◌}
+use Prim.Native.Nat.{ℕ}
 use native.Mathlib.Numerals.{add-one}
 use native.Mathlib.Omega.{arith}
 use mathlib.Core.Path.{◌≡◌, refl, ap, ◌∙◌}
@@ -8,7 +8,6 @@ use lib.ListN.{length}
 use Rattle.channels.specs.Image.{channels, saved}
 use Rattle.channels.specs.Setting.{free, set_up}
 use Rattle.channels.proofs.Columns.{saved_length}
-use borrow.Author.Rules.{rules}
 use Rattle.channels.proofs.setting.set_up.Goals as goal
 
 pub loop-n-init : goal.loop-n-init

@@ -1,14 +1,9 @@
 -- `channels::setting::set_up` meets its contract.
-use Prim.Native.Nat.{ℕ, ◌-◌, ◌≤◌}
-use native.Mathlib.Numerals.{add-one}
-use native.Mathlib.Omega.{arith}
-use mathlib.Core.Path.{◌≡◌, refl, ap, ◌∙◌}
-use mathlib.Core.List.{List}
+use Prim.Native.Nat.{◌-◌, ◌≤◌}
+use mathlib.Core.Path.{◌≡◌}
 use lib.ListN.{length}
-use Rattle.channels.specs.Image.{channels, saved}
-use Rattle.channels.specs.Setting.{free, set_up}
-use Rattle.channels.proofs.Columns.{saved_length}
-use borrow.Author.Rules.{rules}
+use Rattle.channels.specs.Image.{channels}
+use Rattle.channels.specs.Setting.{set_up}
 use Rattle.channels.proofs.setting.set_up.Given as goal
 
 abbrev pub invariant-loop-n : goal.invariant-loop-n

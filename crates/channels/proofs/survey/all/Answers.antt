@@ -4,7 +4,6 @@ use borrow.Author.Tests.{eq-eqb, ne_eqb}
 use Rattle.channels.specs.Image.{channels}
 use Rattle.channels.specs.Places.{surveyed}
 use Rattle.channels.proofs.Found.{says_damaged, found_says}
-use borrow.Author.Rules.{rules}
 use Rattle.channels.proofs.survey.all.Goals as goal
 
 pub returns-then-all_broken-ne0 : goal.returns-then-all_broken-ne0

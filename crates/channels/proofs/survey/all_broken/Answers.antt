@@ -1,7 +1,6 @@
 -- `channels::survey::all_broken` meets its contract.
 use Rattle.channels.specs.Rules.{well_at}
 use Rattle.channels.proofs.Fours.{groups_keep}
-use borrow.Author.Rules.{rules}
 use Rattle.channels.proofs.survey.all_broken.Goals as goal
 
 pub returns : goal.returns

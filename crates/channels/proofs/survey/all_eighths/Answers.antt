@@ -3,7 +3,6 @@ use native.Mathlib.Omega.{arith}
 use Rattle.channels.specs.Rules.{well_at}
 use Rattle.channels.specs.Places.{lengths_in}
 use Rattle.channels.proofs.Fours.{group_keeps, groups_room}
-use borrow.Author.Rules.{rules}
 use Rattle.channels.proofs.survey.all_eighths.Goals as goal
 
 pub eighths_at-requires : goal.eighths_at-requires

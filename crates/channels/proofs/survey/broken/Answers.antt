@@ -3,7 +3,6 @@ use mathlib.Core.Path.{◌≡◌, refl, ap, ◌∙◌}
 use Rattle.ranges.specs.Octets.{octets, at_most}
 use lib.ListN.{replicate}
 use Rattle.channels.proofs.Fours.{or_five, all_by}
-use borrow.Author.Rules.{rules}
 use Rattle.channels.proofs.survey.broken.Goals as goal
 
 pub returns : goal.returns

@@ -8,7 +8,6 @@ use Rattle.ranges.proofs.Words.{octets_part}
 use Rattle.channels.specs.Image.{channels, rows_end}
 use Rattle.channels.specs.Rules.{all_keep}
 use Rattle.channels.proofs.Fours.{rows_keep}
-use borrow.Author.Rules.{rules}
 use Rattle.channels.proofs.survey.broken_at.Goals as goal
 
 pub returns : goal.returns

@@ -7,7 +7,6 @@ use Rattle.ranges.specs.Octets.{octets, at_most}
 use Rattle.ranges.proofs.Words.{octets_part}
 use Rattle.channels.specs.Image.{channels, rows_end}
 use Rattle.channels.proofs.Fours.{rows_short, eighths_room}
-use borrow.Author.Rules.{rules}
 use Rattle.channels.proofs.survey.eighths_at.Goals as goal
 
 pub eighths-indications-requires : goal.eighths-indications-requires

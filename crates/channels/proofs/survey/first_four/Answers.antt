@@ -4,7 +4,6 @@ use mathlib.Core.Path.{sym, ◌∙◌}
 use borrow.Author.Tests.{eq-eqb, ne_eqb}
 use Rattle.channels.specs.Places.{surveyed}
 use Rattle.channels.proofs.Found.{says_damaged, found_says}
-use borrow.Author.Rules.{rules}
 use Rattle.channels.proofs.survey.first_four.Goals as goal
 
 pub returns-then-broken_at-ne0 : goal.returns-then-broken_at-ne0

@@ -1,10 +1,8 @@
 -- `channels::survey::survey_of` meets its contract.
 use mathlib.Core.Path.{sym, ◌∙◌}
-use borrow.Author.Tests.{not-false}
 use Rattle.channels.proofs.Exact.{both}
 use Rattle.channels.proofs.Found.{columns_nothing}
 use Rattle.channels.proofs.Fours.{first_found}
-use borrow.Author.Rules.{rules}
 use Rattle.channels.proofs.survey.survey_of.Goals as goal
 
 pub returns : goal.returns

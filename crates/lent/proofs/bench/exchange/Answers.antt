@@ -1,6 +1,5 @@
 -- `lent::bench::exchange` meets its contract.
 use mathlib.Core.List.{◌++◌}
-use borrow.Author.Rules.{rules}
 use Rattle.steps.proofs.Holding.{holds_safe}
 use Rattle.station.proofs.Guarding.{found, found_length}
 use Rattle.station.proofs.Stepping.{holding}

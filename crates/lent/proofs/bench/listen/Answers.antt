@@ -1,5 +1,5 @@
-use Rattle.std.proofs.Common.{List, get_or, drop, length, subst, arith}
-use Rattle.lent.specs.Run.{Beat, octet, well_received}
+use Rattle.std.proofs.Common.{List, subst, arith}
+use Rattle.lent.specs.Run.{Beat, well_received}
 use Rattle.lent.proofs.Partly.{Partly, partly_none, partly_next, partly_all, next_octet, no_octet}
 use Rattle.lent.proofs.bench.listen.Goals as goal
 

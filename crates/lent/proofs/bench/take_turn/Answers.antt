@@ -1,6 +1,5 @@
 -- `lent::bench::take_turn` meets its contract.
 use mathlib.Core.List.{[], ◌∷◌, ◌++◌}
-use borrow.Author.Rules.{rules}
 use Rattle.lent.specs.Run.{gap, well_received, ticks}
 use Rattle.lent.proofs.Turns.{safe_after, in_turn, gap_run}
 use Rattle.lent.proofs.bench.take_turn.Goals as goal

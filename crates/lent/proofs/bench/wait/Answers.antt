@@ -1,5 +1,5 @@
 use Rattle.std.proofs.Common.{List, subst, arith}
-use Rattle.lent.specs.Run.{Beat, tick, ticks}
+use Rattle.lent.specs.Run.{Beat, ticks}
 use Rattle.lent.proofs.Partly.{Partly, partly_none, partly_next, partly_all, all_ticks, next_tick, no_tick}
 use Rattle.lent.proofs.bench.wait.Goals as goal
 

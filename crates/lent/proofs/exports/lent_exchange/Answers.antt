@@ -1,6 +1,5 @@
 -- `lent::exports::lent_exchange` meets its contract.
 use mathlib.Core.Bool.{true, false}
-use borrow.Author.Rules.{rules}
 use Rattle.lent.proofs.Exporting.{exported}
 use Rattle.lent.proofs.exports.lent_exchange.Goals as goal
 

@@ -1,4 +1,3 @@
-use borrow.Author.Rules.{rules}
 use Rattle.outcomes.proofs.carry.bring_new.Goals as goal
 
 pub returns-then-t : goal.returns-then-t

@@ -1,4 +1,3 @@
-use borrow.Author.Rules.{rules}
 use Rattle.steps.specs.Outcome.{carried}
 use Rattle.outcomes.proofs.carry.carry_out.Goals as goal
 
@@ -21,7 +20,7 @@ returns-in-Release c = record { states = c.on_state-in-Release.ensures; leaves =
 pub returns-in-Zeros : goal.returns-in-Zeros
 unfolding carried
 returns-in-Zeros c = record {
-      states = c.on_state-in-Zeros.ensures;
-      leaves = rw c.in-Zeros.is
-          c.clear_next.ensures;
-    }
+  states = c.on_state-in-Zeros.ensures;
+  leaves = rw c.in-Zeros.is
+      c.clear_next.ensures;
+}

@@ -1,4 +1,3 @@
-use borrow.Author.Rules.{rules}
 use native.Mathlib.Omega.{arith}
 use Rattle.buffers.specs.Roles as role
 use Rattle.state.specs.Layout.{output_row}
@@ -12,7 +11,7 @@ clear_at-requires c = rw (c.outputs_at-from.ensures, c.next.ensures)
 
 pub returns : goal.returns
 returns c = rw (
-      c.clear_at.ensures,
-      c.outputs_at-from.ensures,
-      c.next.ensures,
-    )
+  c.clear_at.ensures,
+  c.outputs_at-from.ensures,
+  c.next.ensures,
+)

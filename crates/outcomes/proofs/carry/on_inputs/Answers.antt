@@ -1,4 +1,3 @@
-use borrow.Author.Rules.{rules}
 use Rattle.outcomes.proofs.carry.on_inputs.Goals as goal
 
 pub returns-in-Bring : goal.returns-in-Bring

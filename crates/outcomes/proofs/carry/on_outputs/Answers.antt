@@ -1,4 +1,3 @@
-use borrow.Author.Rules.{rules}
 use Rattle.outcomes.proofs.carry.on_outputs.Goals as goal
 
 pub returns-in-Publish : goal.returns-in-Publish

@@ -1,4 +1,3 @@
-use borrow.Author.Rules.{rules}
 use Rattle.outcomes.proofs.carry.on_sets.Goals as goal
 
 pub returns-in-Receive : goal.returns-in-Receive

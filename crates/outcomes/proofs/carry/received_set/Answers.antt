@@ -1,4 +1,3 @@
-use borrow.Author.Rules.{rules}
 use Rattle.outcomes.proofs.carry.received_set.Goals as goal
 
 pub returns-then-is_open : goal.returns-then-is_open

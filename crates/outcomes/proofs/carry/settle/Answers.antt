@@ -1,8 +1,6 @@
 use Rattle.steps.proofs.NothingWaits.{unsettled}
 use mathlib.Core.Path.{sym, ap, ◌∙◌}
-use borrow.Author.Tests.{not-true}
 use mathlib.Core.Bool.{◌||◌}
-use borrow.Author.Rules.{rules}
 use Rattle.outcomes.proofs.carry.settle.Goals as goal
 
 pub returns-then-not-waits : goal.returns-then-not-waits

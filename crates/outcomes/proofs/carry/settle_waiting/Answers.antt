@@ -1,4 +1,3 @@
-use borrow.Author.Rules.{rules}
 use Rattle.steps.specs.Outcome.{settle}
 use Rattle.steps.proofs.KeepsSafe.{safe_after_reply}
 use Rattle.outcomes.proofs.carry.settle_waiting.Goals as goal
@@ -10,8 +9,8 @@ carry_out-requires c = rw c.after_reply-t.ensures
 pub returns : goal.returns
 unfolding settle
 returns c = rw (
-      ← c.after_reply-t.ensures,
-      ← c.busy.ensures,
-      ← c.clear_noted.ensures,
-    )
+  ← c.after_reply-t.ensures,
+  ← c.busy.ensures,
+  ← c.clear_noted.ensures,
+)
     c.carry_out.ensures

@@ -1,6 +1,5 @@
 use mathlib.Core.Path.{ap, ◌∙◌}
 use Rattle.steps.specs.Line.{is_inside}
-use borrow.Author.Rules.{rules}
 use Rattle.outcomes.proofs.line.begun.Goals as goal
 
 pub returns : goal.returns

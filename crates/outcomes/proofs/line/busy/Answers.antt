@@ -1,4 +1,3 @@
-use borrow.Author.Rules.{rules}
 use Rattle.outcomes.proofs.line.busy.Goals as goal
 
 pub returns : goal.returns

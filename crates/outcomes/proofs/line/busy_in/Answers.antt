@@ -1,5 +1,4 @@
 -- `outcomes::line::busy_in` meets its contract.
-use borrow.Author.Rules.{rules}
 use Rattle.outcomes.proofs.line.busy_in.Goals as goal
 
 pub returns : goal.returns

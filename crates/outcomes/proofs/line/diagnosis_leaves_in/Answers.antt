@@ -1,5 +1,4 @@
 -- `outcomes::line::diagnosis_leaves_in` meets its contract.
-use borrow.Author.Rules.{rules}
 use Rattle.outcomes.proofs.line.diagnosis_leaves_in.Goals as goal
 
 pub returns : goal.returns

@@ -1,5 +1,4 @@
 -- `outcomes::line::waits` meets its contract.
-use borrow.Author.Rules.{rules}
 use Rattle.outcomes.proofs.line.waits.Goals as goal
 
 pub returns : goal.returns

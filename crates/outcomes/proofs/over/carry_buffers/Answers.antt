@@ -1,5 +1,4 @@
 -- `outcomes::over::carry_buffers` meets its contract.
-use borrow.Author.Rules.{rules}
 use Rattle.outcomes.proofs.over.carry_buffers.Goals as goal
 
 pub returns-in-Zeros : goal.returns-in-Zeros

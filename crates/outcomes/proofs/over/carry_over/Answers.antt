@@ -2,7 +2,6 @@
 use native.Mathlib.Omega.{arith}
 use Rattle.state.specs.Unpack.{unpacked}
 use Rattle.outcomes.proofs.CarriedOver.{safe_then, carried_over}
-use borrow.Author.Rules.{rules}
 use Rattle.outcomes.proofs.over.carry_over.Goals as goal
 
 pub carry_buffers-requires : goal.carry_buffers-requires

@@ -5,7 +5,6 @@ use Rattle.state.specs.Layout.{output_row}
 use Rattle.state.specs.Unpack.{unpacked}
 use Rattle.steps.proofs.Behind.{safe_long}
 use Rattle.steps.proofs.KeepsSafe.{buffer_room}
-use borrow.Author.Rules.{rules}
 use Rattle.outcomes.proofs.over.clear_next.Goals as goal
 
 pub setup-setup-requires : goal.setup-setup-requires

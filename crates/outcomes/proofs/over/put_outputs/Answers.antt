@@ -3,7 +3,6 @@ use mathlib.Core.Path.{◌∙◌}
 use Rattle.state.specs.Memory.{kept}
 use Rattle.state.specs.With.{with_outputs}
 use Rattle.outcomes.proofs.CarriedOver.{put}
-use borrow.Author.Rules.{rules}
 use Rattle.outcomes.proofs.over.put_outputs.Goals as goal
 
 pub returns-in-Keep : goal.returns-in-Keep

@@ -3,7 +3,6 @@ use mathlib.Core.Path.{refl}
 use Rattle.state.specs.Unpack.{unpacked}
 use Rattle.state.proofs.Damage.{fronted_same}
 use Rattle.outcomes.proofs.Settled.{catches_up, rests}
-use borrow.Author.Rules.{rules}
 use Rattle.outcomes.proofs.settling.catch_up.Goals as goal
 
 pub returns-then-delayed-diagnosis_leaves_in : goal.returns-then-delayed-diagnosis_leaves_in

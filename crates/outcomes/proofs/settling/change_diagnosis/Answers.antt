@@ -4,7 +4,6 @@ use mathlib.Core.Path.{◌∙◌}
 use Rattle.state.specs.Memory.{kept}
 use Rattle.state.specs.With.{with_control_but_chain, with_swapped}
 use Rattle.state.proofs.Written.{then}
-use borrow.Author.Rules.{rules}
 use Rattle.outcomes.proofs.settling.change_diagnosis.Goals as goal
 
 pub returns : goal.returns

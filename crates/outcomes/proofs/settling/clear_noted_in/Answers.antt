@@ -2,7 +2,6 @@
 use Rattle.state.specs.Unpack.{unpacked}
 use Rattle.state.proofs.Damage.{fronted_same}
 use Rattle.outcomes.proofs.Settled.{clears, clears_none}
-use borrow.Author.Rules.{rules}
 use Rattle.outcomes.proofs.settling.clear_noted_in.Goals as goal
 
 pub returns-then-noted-busy_in : goal.returns-then-noted-busy_in

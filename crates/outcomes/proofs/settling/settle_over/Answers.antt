@@ -2,7 +2,6 @@
 use Rattle.state.specs.Unpack.{unpacked}
 use Rattle.state.proofs.Damage.{fronted_same}
 use Rattle.outcomes.proofs.Settled.{settles_none}
-use borrow.Author.Rules.{rules}
 use Rattle.outcomes.proofs.settling.settle_over.Goals as goal
 
 pub returns-else-waits : goal.returns-else-waits

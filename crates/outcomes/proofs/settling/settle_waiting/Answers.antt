@@ -1,7 +1,6 @@
 -- `outcomes::settling::settle_waiting` meets its contract.
 use Rattle.state.specs.Unpack.{unpacked}
 use Rattle.outcomes.proofs.Settled.{holds_front, caught_fronts, settles}
-use borrow.Author.Rules.{rules}
 use Rattle.outcomes.proofs.settling.settle_waiting.Goals as goal
 
 pub clear_noted_in-requires : goal.clear_noted_in-requires

@@ -1,5 +1,5 @@
 -- `ranges::checks::four_halves` meets its contract.
-use Rattle.std.proofs.Common.{◌+◌, ◌≤◌, length, arith, rules}
+use Rattle.std.proofs.Common.{◌+◌, ◌≤◌, length, arith}
 use Rattle.ranges.proofs.Words.{half_none, four_none}
 use Rattle.ranges.proofs.checks.four_halves.Goals as goal
 

@@ -1,5 +1,5 @@
 -- `ranges::checks::nothing_across` meets its contract.
-use Rattle.std.proofs.Common.{◌+◌, ◌*◌, ◌≤◌, length, arith, rules}
+use Rattle.std.proofs.Common.{◌+◌, ◌*◌, ◌≤◌, length, arith}
 use Rattle.ranges.specs.Octets.{nothing_at}
 use Rattle.ranges.proofs.Words.{half_none, or_four}
 use Rattle.ranges.proofs.checks.nothing_across.Goals as goal

@@ -1,5 +1,5 @@
 -- `ranges::checks::nothing_behind` meets its contract.
-use Rattle.std.proofs.Common.{ltb, ap, ◌∙◌, rules}
+use Rattle.std.proofs.Common.{ltb, ap, ◌∙◌}
 use Rattle.ranges.proofs.Words.{behind_first}
 use Rattle.ranges.proofs.checks.nothing_behind.Goals as goal
 

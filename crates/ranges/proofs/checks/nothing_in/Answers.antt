@@ -1,5 +1,5 @@
 -- `ranges::checks::nothing_in` meets its contract.
-use Rattle.std.proofs.Common.{◌+◌, ◌≤◌, length, arith, rules}
+use Rattle.std.proofs.Common.{◌+◌, ◌≤◌, length, arith}
 use Rattle.ranges.proofs.Words.{four_none}
 use Rattle.ranges.proofs.checks.nothing_in.Goals as goal
 

@@ -1,5 +1,5 @@
 -- `ranges::checks::two_words_within` meets its contract.
-use Rattle.std.proofs.Common.{ℕ, ◌+◌, ◌<◌, ◌≤◌, ◌&&◌, length, get_or, sym, ap, ◌∙◌, ap₂, arith, rules}
+use Rattle.std.proofs.Common.{ℕ, ◌+◌, ◌<◌, ◌≤◌, ◌&&◌, length, get_or, sym, ap, ◌∙◌, ap₂, arith}
 use Rattle.ranges.specs.Octets.{octets, at_most, lows}
 use Rattle.ranges.proofs.Words.{or_zero, octets_part, two_words}
 use Rattle.ranges.proofs.checks.two_words_within.Goals as goal

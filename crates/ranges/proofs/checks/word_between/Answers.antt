@@ -1,5 +1,5 @@
 -- `ranges::checks::word_between` meets its contract.
-use Rattle.std.proofs.Common.{◌&&◌, ap, ◌∙◌, rules}
+use Rattle.std.proofs.Common.{◌&&◌, ap, ◌∙◌}
 use Rattle.ranges.specs.Octets.{octets, at_most, lows}
 use Rattle.ranges.proofs.Words.{octets_part}
 use Rattle.ranges.proofs.checks.word_between.Goals as goal

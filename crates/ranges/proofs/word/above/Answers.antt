@@ -1,5 +1,5 @@
 -- `ranges::word::above` meets its contract.
-use Rattle.std.proofs.Common.{◌+◌, ◌-◌, eqb, ap, ◌∙◌, arith, lit<, rules}
+use Rattle.std.proofs.Common.{◌+◌, ◌-◌, eqb, ap, ◌∙◌, arith, lit<}
 use lib.Bits.{bit_and, bit_or}
 use Rattle.ranges.proofs.Limits.{rep, cut, above_is}
 use Rattle.ranges.proofs.word.above.Goals as goal

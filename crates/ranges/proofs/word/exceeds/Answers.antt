@@ -1,5 +1,5 @@
 -- `ranges::word::exceeds` meets its contract.
-use Rattle.std.proofs.Common.{◌≡◌, ◌%◌, ◌^◌, ◌∙◌, arith, rules}
+use Rattle.std.proofs.Common.{◌≡◌, ◌%◌, ◌^◌, ◌∙◌, arith}
 use Rattle.ranges.proofs.Limits.{rep}
 use Rattle.ranges.proofs.Halves.{cap, exceeds_is}
 use Rattle.ranges.proofs.word.exceeds.Goals as goal

@@ -1,6 +1,5 @@
 -- `ranges::word::half` meets its contract.
 use Rattle.ranges.proofs.Words.{quarter}
-use Rattle.std.proofs.Common.{rules}
 use Rattle.ranges.proofs.word.half.Goals as goal
 
 pub returns : goal.returns

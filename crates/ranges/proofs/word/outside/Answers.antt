@@ -1,5 +1,5 @@
 -- `ranges::word::outside` meets its contract.
-use Rattle.std.proofs.Common.{◌&&◌, eqb, ap, ◌∙◌, arith, rules}
+use Rattle.std.proofs.Common.{◌&&◌, eqb, ap, ◌∙◌, arith}
 use lib.Bits.{bit_and, and_le_r}
 use Rattle.ranges.proofs.Words.{or_zero}
 use Rattle.ranges.proofs.Limits.{rep, both_are}

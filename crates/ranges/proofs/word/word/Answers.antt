@@ -1,6 +1,5 @@
 -- `ranges::word::word` meets its contract.
 use Rattle.ranges.proofs.Words.{eight}
-use Rattle.std.proofs.Common.{rules}
 use Rattle.ranges.proofs.word.word.Goals as goal
 
 pub returns : goal.returns

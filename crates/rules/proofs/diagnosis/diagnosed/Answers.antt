@@ -1,5 +1,4 @@
 use native.Mathlib.Nat.{div-one}
-use borrow.Author.Rules.{rules}
 use Rattle.rules.specs.Diagnosis.{diagnosed}
 use Rattle.rules.proofs.diagnosis.diagnosed.Goals as goal
 

@@ -1,4 +1,3 @@
-use borrow.Author.Rules.{rules}
 use Rattle.rules.specs.Diagnosis.{header_of}
 use Rattle.rules.proofs.diagnosis.header_of.Goals as goal
 

@@ -1,7 +1,6 @@
 -- `rules::kinds::in_range` meets its contract.
 use mathlib.Core.Bool.{◌&&◌}
 use lib.Dec.{leb, ltb}
-use borrow.Author.Rules.{rules}
 use Rattle.rules.proofs.kinds.in_range.Goals as goal
 
 pub returns : goal.returns

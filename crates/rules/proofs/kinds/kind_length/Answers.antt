@@ -13,26 +13,26 @@ returns-then-kind-eq3 c = simp (ne_eqb _ _ c.if-kind-eq1.false, ne_eqb _ _ c.if-
 
 pub returns-then-kind-eq4 : goal.returns-then-kind-eq4
 returns-then-kind-eq4 c = simp (
-      ne_eqb _ _ c.if-kind-eq1.false,
-      ne_eqb _ _ c.if-kind-eq2.false,
-      ne_eqb _ _ c.if-kind-eq3.false,
-      eq-eqb _ _ c.if-kind-eq4.true,
-    )
+  ne_eqb _ _ c.if-kind-eq1.false,
+  ne_eqb _ _ c.if-kind-eq2.false,
+  ne_eqb _ _ c.if-kind-eq3.false,
+  eq-eqb _ _ c.if-kind-eq4.true,
+)
 
 pub returns-then-kind-eq5 : goal.returns-then-kind-eq5
 returns-then-kind-eq5 c = simp (
-      ne_eqb _ _ c.if-kind-eq1.false,
-      ne_eqb _ _ c.if-kind-eq2.false,
-      ne_eqb _ _ c.if-kind-eq3.false,
-      ne_eqb _ _ c.if-kind-eq4.false,
-      eq-eqb _ _ c.if-kind-eq5.true,
-    )
+  ne_eqb _ _ c.if-kind-eq1.false,
+  ne_eqb _ _ c.if-kind-eq2.false,
+  ne_eqb _ _ c.if-kind-eq3.false,
+  ne_eqb _ _ c.if-kind-eq4.false,
+  eq-eqb _ _ c.if-kind-eq5.true,
+)
 
 pub returns : goal.returns
 returns c = simp (
-      ne_eqb _ _ c.if-kind-eq1.false,
-      ne_eqb _ _ c.if-kind-eq2.false,
-      ne_eqb _ _ c.if-kind-eq3.false,
-      ne_eqb _ _ c.if-kind-eq4.false,
-      ne_eqb _ _ c.if-kind-eq5.false,
-    )
+  ne_eqb _ _ c.if-kind-eq1.false,
+  ne_eqb _ _ c.if-kind-eq2.false,
+  ne_eqb _ _ c.if-kind-eq3.false,
+  ne_eqb _ _ c.if-kind-eq4.false,
+  ne_eqb _ _ c.if-kind-eq5.false,
+)

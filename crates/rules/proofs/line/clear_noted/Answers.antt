@@ -1,4 +1,3 @@
-use borrow.Author.Rules.{rules}
 use Rattle.rules.proofs.line.clear_noted.Goals as goal
 
 pub returns-then-control-busy : goal.returns-then-control-busy

@@ -1,4 +1,3 @@
-use borrow.Author.Rules.{rules}
 use Rattle.rules.proofs.line.clear_on.Goals as goal
 
 pub returns-then-busy : goal.returns-then-busy

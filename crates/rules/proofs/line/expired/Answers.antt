@@ -1,4 +1,3 @@
-use borrow.Author.Rules.{rules}
 use Rattle.rules.proofs.line.expired.Goals as goal
 
 pub returns : goal.returns

@@ -1,5 +1,4 @@
 use borrow.Author.Tests.{le-leb, lt-leb}
-use borrow.Author.Rules.{rules}
 use Rattle.rules.specs.Line.{ticked}
 use Rattle.rules.proofs.line.ticked.Goals as goal
 
@@ -10,17 +9,17 @@ returns-then-not-counts c = rw (← c.counts.ensures, c.if-not-counts.true, c.dr
 pub returns-then-remaining-le1 : goal.returns-then-remaining-le1
 unfolding ticked
 returns-then-remaining-le1 c = rw (
-      ← c.counts.ensures,
-      c.if-not-counts.false,
-      le-leb _ _ c.if-remaining-le1.true,
-      c.expired.ensures,
-    )
+  ← c.counts.ensures,
+  c.if-not-counts.false,
+  le-leb _ _ c.if-remaining-le1.true,
+  c.expired.ensures,
+)
 
 pub returns : goal.returns
 unfolding ticked
 returns c = rw (
-      ← c.counts.ensures,
-      c.if-not-counts.false,
-      lt-leb _ _ c.if-remaining-le1.false,
-      c.drawing-2.ensures,
-    )
+  ← c.counts.ensures,
+  c.if-not-counts.false,
+  lt-leb _ _ c.if-remaining-le1.false,
+  c.drawing-2.ensures,
+)

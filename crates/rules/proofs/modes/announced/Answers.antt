@@ -1,5 +1,4 @@
 -- `rules::modes::announced` meets its contract.
-use borrow.Author.Rules.{rules}
 use Rattle.rules.proofs.modes.announced.Goals as goal
 
 pub returns-in-Publish : goal.returns-in-Publish

@@ -1,5 +1,4 @@
 -- `rules::modes::commanded` meets its contract.
-use borrow.Author.Rules.{rules}
 use Rattle.rules.proofs.modes.commanded.Goals as goal
 
 pub returns : goal.returns

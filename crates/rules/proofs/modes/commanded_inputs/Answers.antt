@@ -1,5 +1,4 @@
 -- `rules::modes::commanded_inputs` meets its contract.
-use borrow.Author.Rules.{rules}
 use Rattle.rules.proofs.modes.commanded_inputs.Goals as goal
 
 pub returns-then-commands_freeze : goal.returns-then-commands_freeze

@@ -1,6 +1,5 @@
 -- `rules::modes::commanded_outputs` meets its contract.
 use borrow.Author.Tests.{eq-eqb, ne_eqb}
-use borrow.Author.Rules.{rules}
 use Rattle.rules.proofs.modes.commanded_outputs.Goals as goal
 
 pub returns-then-first-eq1 : goal.returns-then-first-eq1

@@ -1,4 +1,3 @@
-use borrow.Author.Rules.{rules}
 use Rattle.rules.specs.Phases.{data_exch}
 use Rattle.rules.proofs.phases.data_exch.Goals as goal
 

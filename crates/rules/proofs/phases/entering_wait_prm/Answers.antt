@@ -1,4 +1,3 @@
-use borrow.Author.Rules.{rules}
 use Rattle.rules.proofs.phases.entering_wait_prm.Goals as goal
 
 pub returns : goal.returns

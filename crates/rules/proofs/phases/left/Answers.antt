@@ -1,5 +1,4 @@
 -- `rules::phases::left` meets its contract.
-use borrow.Author.Rules.{rules}
 use Rattle.rules.proofs.phases.left.Goals as goal
 
 pub returns : goal.returns

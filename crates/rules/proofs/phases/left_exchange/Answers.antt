@@ -1,4 +1,3 @@
-use borrow.Author.Rules.{rules}
 use Rattle.rules.proofs.phases.left_exchange.Goals as goal
 
 pub returns-then-in_exchange : goal.returns-then-in_exchange

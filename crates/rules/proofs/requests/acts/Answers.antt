@@ -1,9 +1,8 @@
-use borrow.Author.Rules.{rules}
 use Rattle.rules.proofs.requests.acts.Goals as goal
 
 pub returns : goal.returns
 returns c = rw (
-      c.master_of-master.ensures,
-      c.global_form-global.ensures,
-      c.to_station-here.ensures,
-    )
+  c.master_of-master.ensures,
+  c.global_form-global.ensures,
+  c.to_station-here.ensures,
+)

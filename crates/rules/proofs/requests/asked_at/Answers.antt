@@ -5,7 +5,6 @@ use Rattle.points.specs.Points.{number_of}
 use Rattle.rules.specs.declared.request.Request.{Request}
 use Rattle.rules.specs.Requests.{point_of}
 use Rattle.rules.proofs.Points.{asked, asked_at_point}
-use borrow.Author.Rules.{rules}
 use Rattle.rules.proofs.requests.asked_at.Goals as goal
 
 -- the match knows the point

@@ -1,6 +1,5 @@
 -- at1, at2, ..: the places past the first, the second, .. test.
 use borrow.Author.Tests.{eq-eqb, ne_eqb}
-use borrow.Author.Rules.{rules}
 use Rattle.rules.proofs.requests.function_service.Goals as goal
 
 pub returns-then-function-eq9 : goal.returns-then-function-eq9

@@ -1,4 +1,3 @@
-use borrow.Author.Rules.{rules}
 use Rattle.points.proofs.Promises.{found_number, none_found}
 use Rattle.rules.proofs.Points.{asked_nowhere}
 use Rattle.rules.proofs.requests.point_of.Goals as goal

@@ -1,5 +1,4 @@
 use borrow.Author.Tests.{eq-eqb, ne_eqb, le-leb, lt-leb}
-use borrow.Author.Rules.{rules}
 use Rattle.rules.proofs.requests.request_of.Goals as goal
 
 pub returns-then-da-lt128 : goal.returns-then-da-lt128

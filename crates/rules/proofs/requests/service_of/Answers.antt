@@ -1,4 +1,3 @@
-use borrow.Author.Rules.{rules}
 use Rattle.rules.specs.Requests.{service_of}
 use Rattle.rules.proofs.requests.service_of.Goals as goal
 

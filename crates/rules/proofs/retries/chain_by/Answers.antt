@@ -5,7 +5,6 @@ use borrow.Author.Tests.{ne_eqb}
 use Rattle.state.specs.Chain.{chain_of, no_chain}
 use Rattle.rules.specs.Requests.{master_of}
 use Rattle.rules.specs.Retries.{fcb_of}
-use borrow.Author.Rules.{rules}
 use Rattle.rules.proofs.retries.chain_by.Goals as goal
 
 pub returns-then-r-eq1 : goal.returns-then-r-eq1

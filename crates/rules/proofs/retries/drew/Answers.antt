@@ -1,5 +1,4 @@
 -- `rules::retries::drew` meets its contract.
-use borrow.Author.Rules.{rules}
 use Rattle.rules.proofs.retries.drew.Goals as goal
 
 pub returns-then-is_exchange-replies_e5 : goal.returns-then-is_exchange-replies_e5

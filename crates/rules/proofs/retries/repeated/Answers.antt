@@ -1,5 +1,4 @@
 -- `rules::retries::repeated` meets its contract.
-use borrow.Author.Rules.{rules}
 use Rattle.rules.proofs.retries.repeated.Goals as goal
 
 pub returns : goal.returns

@@ -4,12 +4,11 @@ use native.Mathlib.Omega.{arith}
 use mathlib.Core.Path.{◌≡◌, sym, ap, ◌∙◌}
 use mathlib.Core.Bool.{Bool, true, false, ◌&&◌, and-true, and-false}
 use lib.Dec.{eqb}
-use borrow.Author.Tests.{eq-eqb, ne_eqb, not-true, not-false}
+use borrow.Author.Tests.{eq-eqb, ne_eqb}
 use Rattle.state.specs.Chain.{fcb_in}
 use Rattle.rules.specs.declared.request.Request.{Request}
 use Rattle.rules.specs.Requests.{master_of}
 use Rattle.rules.specs.Retries.{asks, fcv_of, fcb_of, same}
-use borrow.Author.Rules.{rules}
 use Rattle.rules.proofs.retries.repeats.Goals as goal
 
 -- a request whose frame count bit counts

@@ -1,5 +1,4 @@
 use borrow.Author.Tests.{eq-eqb, ne_eqb}
-use borrow.Author.Rules.{rules}
 use Rattle.rules.specs.Services.{data_exchange}
 use Rattle.rules.proofs.services.data_exchange.Goals as goal
 
@@ -10,17 +9,17 @@ returns-then-not-exchanging c = rw (← c.exchanges-exchanging.ensures, c.if-not
 pub returns-then-not-fits : goal.returns-then-not-fits
 unfolding data_exchange
 returns-then-not-fits c = rw (
-      ← c.exchanges-exchanging.ensures,
-      c.if-not-exchanging.false,
-      ne_eqb _ _ c.if-not-fits.true,
-      c.cfg_fault.ensures,
-    )
+  ← c.exchanges-exchanging.ensures,
+  c.if-not-exchanging.false,
+  ne_eqb _ _ c.if-not-fits.true,
+  c.cfg_fault.ensures,
+)
 
 pub returns : goal.returns
 unfolding data_exchange
 returns c = rw (
-      ← c.exchanges-exchanging.ensures,
-      c.if-not-exchanging.false,
-      eq-eqb _ _ c.if-not-fits.false,
-      c.good_exchange.ensures,
-    )
+  ← c.exchanges-exchanging.ensures,
+  c.if-not-exchanging.false,
+  eq-eqb _ _ c.if-not-fits.false,
+  c.good_exchange.ensures,
+)

@@ -1,4 +1,3 @@
-use borrow.Author.Rules.{rules}
 use Rattle.rules.specs.Services.{global_control}
 use Rattle.rules.proofs.services.global_control.Goals as goal
 

@@ -1,5 +1,4 @@
 -- `rules::services::good_exchange` meets its contract.
-use borrow.Author.Rules.{rules}
 use Rattle.rules.proofs.services.good_exchange.Goals as goal
 
 pub returns : goal.returns

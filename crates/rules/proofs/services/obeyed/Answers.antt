@@ -1,12 +1,11 @@
 -- `rules::services::obeyed` meets its contract.
-use borrow.Author.Rules.{rules}
 use Rattle.rules.proofs.services.obeyed.Goals as goal
 
 pub returns : goal.returns
 returns c = rw (
-      c.commanded-modes.ensures,
-      c.announced-events.ensures,
-      c.storing-stored.ensures,
-      c.commanded_inputs-inputs.ensures,
-      c.commanded_outputs-outputs.ensures,
-    )
+  c.commanded-modes.ensures,
+  c.announced-events.ensures,
+  c.storing-stored.ensures,
+  c.commanded_inputs-inputs.ensures,
+  c.commanded_outputs-outputs.ensures,
+)

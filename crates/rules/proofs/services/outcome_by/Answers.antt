@@ -4,7 +4,6 @@ use mathlib.Core.Bool.{Bool, false, cond, ◌&&◌}
 use Rattle.rules.specs.Requests.{refilled, service_of}
 use Rattle.rules.specs.Retries.{is_repeat, chained, repeated}
 use Rattle.rules.specs.Services.{serve}
-use borrow.Author.Rules.{rules}
 use Rattle.rules.proofs.services.outcome_by.Goals as goal
 
 pub returns-then-acts-repeats : goal.returns-then-acts-repeats

@@ -4,7 +4,6 @@ use mathlib.Core.Bool.{Bool, false}
 use Rattle.state.specs.declared.control.Control.{Control}
 use Rattle.rules.specs.declared.request.Request.{Request}
 use borrow.Author.Tests.{eq-eqb, ne_eqb}
-use borrow.Author.Rules.{rules}
 use Rattle.rules.specs.Services.{other_owns, set_prm}
 use Rattle.rules.specs.Requests.{master_of}
 use Rattle.rules.proofs.services.set_prm.Goals as goal
@@ -33,25 +32,25 @@ returns-then-not-status c = rw (free c.args.control c.args.r _ _ c.master_of-mas
 pub returns-then-other_ident-bad_watchdog : goal.returns-then-other_ident-bad_watchdog
 unfolding set_prm
 returns-then-other_ident-bad_watchdog c = rw (
-      free c.args.control c.args.r _ _ c.master_of-master.ensures c.other_owns-other.ensures c.if-other.false,
-      c.if-not-fits.false,
-      ne_eqb _ _ c.if-status-eq1.false,
-      eq-eqb _ _ c.if-not-status.false,
-      ← c.other_ident.ensures,
-      ← c.bad_watchdog.ensures,
-      c.if-other_ident-bad_watchdog.true,
-      c.prm_fault-then-other_ident-bad_watchdog.ensures,
-    )
+  free c.args.control c.args.r _ _ c.master_of-master.ensures c.other_owns-other.ensures c.if-other.false,
+  c.if-not-fits.false,
+  ne_eqb _ _ c.if-status-eq1.false,
+  eq-eqb _ _ c.if-not-status.false,
+  ← c.other_ident.ensures,
+  ← c.bad_watchdog.ensures,
+  c.if-other_ident-bad_watchdog.true,
+  c.prm_fault-then-other_ident-bad_watchdog.ensures,
+)
 
 pub returns : goal.returns
 unfolding set_prm
 returns c = rw (
-      free c.args.control c.args.r _ _ c.master_of-master.ensures c.other_owns-other.ensures c.if-other.false,
-      c.if-not-fits.false,
-      ne_eqb _ _ c.if-status-eq1.false,
-      eq-eqb _ _ c.if-not-status.false,
-      ← c.other_ident.ensures,
-      ← c.bad_watchdog.ensures,
-      c.if-other_ident-bad_watchdog.false,
-      c.good_prm.ensures,
-    )
+  free c.args.control c.args.r _ _ c.master_of-master.ensures c.other_owns-other.ensures c.if-other.false,
+  c.if-not-fits.false,
+  ne_eqb _ _ c.if-status-eq1.false,
+  eq-eqb _ _ c.if-not-status.false,
+  ← c.other_ident.ensures,
+  ← c.bad_watchdog.ensures,
+  c.if-other_ident-bad_watchdog.false,
+  c.good_prm.ensures,
+)

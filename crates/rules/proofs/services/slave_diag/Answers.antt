@@ -1,4 +1,3 @@
-use borrow.Author.Rules.{rules}
 use Rattle.rules.specs.Services.{slave_diag}
 use Rattle.rules.proofs.services.slave_diag.Goals as goal
 

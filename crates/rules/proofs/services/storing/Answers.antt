@@ -1,5 +1,4 @@
 use borrow.Author.Tests.{eq-eqb, ne_eqb}
-use borrow.Author.Rules.{rules}
 use Rattle.rules.proofs.services.storing.Goals as goal
 
 pub returns-then-first-control : goal.returns-then-first-control

@@ -1,4 +1,3 @@
-use borrow.Author.Rules.{rules}
 use Rattle.rules.specs.User.{judged_parameters}
 use Rattle.rules.proofs.user.judged_parameters.Goals as goal
 
@@ -9,17 +8,17 @@ returns-then-waits c = rw (c.if-waits.true, c.changing_sets.ensures)
 pub returns-then-good : goal.returns-then-good
 unfolding judged_parameters
 returns-then-good c = rw (
-      c.if-waits.false,
-      ← c.clear-events.ensures,
-      c.if-good.true,
-      c.changing_sets-then-good.ensures,
-    )
+  c.if-waits.false,
+  ← c.clear-events.ensures,
+  c.if-good.true,
+  c.changing_sets-then-good.ensures,
+)
 
 pub returns : goal.returns
 unfolding judged_parameters
 returns c = rw (
-      c.if-waits.false,
-      ← c.clear-events.ensures,
-      c.if-good.false,
-      c.entering_wait_prm.ensures,
-    )
+  c.if-waits.false,
+  ← c.clear-events.ensures,
+  c.if-good.false,
+  c.entering_wait_prm.ensures,
+)

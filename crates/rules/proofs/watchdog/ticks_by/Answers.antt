@@ -1,7 +1,6 @@
 -- `rules::watchdog::ticks_by` meets its contract.
 use native.Mathlib.Nat.{mul-le-mul}
 use native.Mathlib.Omega.{arith}
-use borrow.Author.Rules.{rules}
 use Rattle.rules.proofs.watchdog.ticks_by.Goals as goal
 
 pub overflow_mul-product : goal.overflow_mul-product

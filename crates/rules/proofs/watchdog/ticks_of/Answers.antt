@@ -1,6 +1,5 @@
 -- `rules::watchdog::ticks_of` meets its contract.
 use borrow.Author.Tests.{eq-eqb, ne_eqb}
-use borrow.Author.Rules.{rules}
 use Rattle.rules.proofs.watchdog.ticks_of.Goals as goal
 
 pub returns-then-p-eq1 : goal.returns-then-p-eq1

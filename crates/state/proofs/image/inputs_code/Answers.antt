@@ -1,7 +1,6 @@
 -- `state::image::inputs_code` meets its contract.
 use native.Mathlib.Omega.{arith}
 use Rattle.state.proofs.SetCodes.{roles_below}
-use borrow.Author.Rules.{rules}
 use Rattle.state.proofs.image.inputs_code.Goals as goal
 
 pub overflow_mul-result : goal.overflow_mul-result

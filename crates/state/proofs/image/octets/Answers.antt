@@ -3,7 +3,6 @@ use mathlib.Core.List.{◌∷◌, ◌++◌}
 use Rattle.octets.specs.Part.{part}
 use Rattle.state.specs.Image.{image}
 use Rattle.state.proofs.Written.{four}
-use borrow.Author.Rules.{rules}
 use Rattle.state.proofs.image.octets.Goals as goal
 
 pub returns : goal.returns

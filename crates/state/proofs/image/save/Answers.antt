@@ -4,7 +4,6 @@ use mathlib.Core.Path.{ap, ◌∙◌}
 use mathlib.Core.List.{List, ◌++◌}
 use lib.ListN.{length, drop}
 use Rattle.state.specs.Image.{image}
-use borrow.Author.Rules.{rules}
 use Rattle.state.proofs.image.save.Goals as goal
 
 pub returns : goal.returns

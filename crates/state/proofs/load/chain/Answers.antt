@@ -1,6 +1,5 @@
 -- `state::load::chain` meets its contract.
 use Rattle.state.specs.Unpack.{unpacked}
-use borrow.Author.Rules.{rules}
 use mathlib.Core.Path.{refl}
 use Rattle.state.proofs.load.chain.Goals as goal
 

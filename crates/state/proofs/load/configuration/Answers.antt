@@ -1,6 +1,5 @@
 -- `state::load::configuration` meets its contract.
 use Rattle.state.specs.Unpack.{unpacked}
-use borrow.Author.Rules.{rules}
 use Rattle.state.proofs.load.configuration.Goals as goal
 
 pub returns : goal.returns

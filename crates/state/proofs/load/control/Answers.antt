@@ -1,7 +1,6 @@
 -- `state::load::control` meets its contract.
 use lib.ListN.{get_or}
 use Rattle.state.specs.Unpack.{unpacked}
-use borrow.Author.Rules.{rules}
 use Rattle.state.proofs.load.control.Goals as goal
 
 pub returns : goal.returns

@@ -1,7 +1,6 @@
 -- `state::load::diagnosis` meets its contract.
 use mathlib.Core.Path.{refl}
 use Rattle.state.specs.Unpack.{unpacked}
-use borrow.Author.Rules.{rules}
 use Rattle.state.proofs.load.diagnosis.Goals as goal
 
 pub returns : goal.returns

@@ -1,7 +1,6 @@
 -- `state::load::double_at` meets its contract.
 use mathlib.Core.Path.{◌∙◌}
 use Rattle.state.proofs.ByWords.{double_read}
-use borrow.Author.Rules.{rules}
 use Rattle.state.proofs.load.double_at.Goals as goal
 
 pub returns : goal.returns

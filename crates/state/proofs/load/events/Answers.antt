@@ -2,7 +2,6 @@
 use Prim.Native.Nat.{ℕ}
 use mathlib.Core.Path.{ap}
 use Rattle.state.specs.Unpack.{unpacked}
-use borrow.Author.Rules.{rules}
 use Rattle.state.proofs.load.events.Goals as goal
 
 pub returns : goal.returns

@@ -1,7 +1,6 @@
 -- `state::load::noted` meets its contract.
 use mathlib.Core.Path.{refl}
 use Rattle.state.specs.Unpack.{unpacked}
-use borrow.Author.Rules.{rules}
 use Rattle.state.proofs.load.noted.Goals as goal
 
 pub returns : goal.returns

@@ -1,7 +1,6 @@
 -- `state::load::outputs` meets its contract.
 use lib.ListN.{get_or}
 use Rattle.state.specs.Unpack.{bit_at, unpacked}
-use borrow.Author.Rules.{rules}
 use Rattle.state.proofs.load.outputs.Goals as goal
 
 pub returns : goal.returns

@@ -1,6 +1,5 @@
 -- `state::load::parameters` meets its contract.
 use Rattle.state.specs.Unpack.{unpacked}
-use borrow.Author.Rules.{rules}
 use Rattle.state.proofs.load.parameters.Goals as goal
 
 pub returns : goal.returns

@@ -2,7 +2,6 @@
 use mathlib.Core.Path.{◌∙◌}
 use lib.ListN.{get_or}
 use Rattle.state.specs.Unpack.{sender_in, unpacked}
-use borrow.Author.Rules.{rules}
 use Rattle.state.proofs.load.reply.Goals as goal
 
 pub returns : goal.returns

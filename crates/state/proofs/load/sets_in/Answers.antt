@@ -1,7 +1,6 @@
 -- `state::load::sets_in` meets its contract.
 use Prim.Native.Nat.{◌+◌}
 use lib.ListN.{get_or}
-use borrow.Author.Rules.{rules}
 use Rattle.state.proofs.load.sets_in.Goals as goal
 
 pub returns : goal.returns

@@ -1,7 +1,6 @@
 -- `state::load::setup` meets its contract.
 use mathlib.Core.Path.{ap, ◌∙◌}
 use Rattle.state.specs.Unpack.{setup_in, unpacked}
-use borrow.Author.Rules.{rules}
 use Rattle.state.proofs.load.setup.Goals as goal
 
 pub returns : goal.returns

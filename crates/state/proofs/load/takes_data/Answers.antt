@@ -6,7 +6,6 @@ use lib.Dec.{eqb, ltb}
 use Rattle.telegram.specs.Reading.{takes_data}
 use Rattle.state.specs.Unpack.{unpacked}
 use Rattle.state.proofs.LineCounts.{body_numbered}
-use borrow.Author.Rules.{rules}
 use Rattle.state.proofs.load.takes_data.Goals as goal
 
 pub returns : goal.returns

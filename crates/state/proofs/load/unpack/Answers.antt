@@ -1,5 +1,4 @@
 -- `state::load::unpack` meets its contract.
-use borrow.Author.Rules.{rules}
 use Rattle.state.proofs.load.unpack.Goals as goal
 
 pub returns : goal.returns

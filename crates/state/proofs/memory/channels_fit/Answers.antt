@@ -1,7 +1,7 @@
 -- `state::memory::channels_fit` meets its contract.
 use Prim.Native.Nat.{ℕ, ◌+◌, ◌<◌}
 use native.Mathlib.Omega.{arith}
-use mathlib.Core.Path.{◌≡◌, sym, ap, ◌∙◌}
+use mathlib.Core.Path.{sym, ap, ◌∙◌}
 use mathlib.Core.Bool.{◌&&◌}
 use lib.Dec.{leb}
 use lib.ListN.{length, get_or}
@@ -12,7 +12,6 @@ use Rattle.channels.specs.Places.{lengths_in, room_of, surveyed}
 use Rattle.channels.proofs.Found.{survey_well, says_found, found_small, told_damaged}
 use Rattle.state.specs.Layout.{end_of, last_end}
 use Rattle.state.specs.Unpack.{unpacked}
-use borrow.Author.Rules.{rules}
 use Rattle.state.proofs.memory.channels_fit.Goals as goal
 
 pub overflow_add-bound : goal.overflow_add-bound

@@ -5,7 +5,7 @@ use mathlib.Core.Bool.{Bool, true, false, not, ◌&&◌}
 use mathlib.Core.List.{List, [], ◌∷◌, ◌++◌}
 use lib.Dec.{leb}
 use lib.ListN.{length, take}
-use borrow.Author.Tests.{leb-true, not-true, not-false}
+use borrow.Author.Tests.{leb-true, not-false}
 use Rattle.state.specs.Layout.{end_of}
 use Rattle.state.specs.Short.{short_end}
 use Rattle.state.specs.Unpack.{unpacked, setup_in}
@@ -13,7 +13,6 @@ use Rattle.state.specs.Well.{all, exchanges_nothing, range_tests, chain_tests, l
 use Rattle.state.proofs.Choice.{and_left, and_right}
 use Rattle.state.proofs.ShortLengths.{short_lengths_are, short_inputs_are, short_room, long_room}
 use Rattle.state.proofs.Tests.{all_fails, Passed, others_decide, test_first}
-use borrow.Author.Rules.{rules}
 use Rattle.state.proofs.memory.has_room.Goals as goal
 
 -- the tests: outputs or inputs, the lengths by themselves, and the room

@@ -1,12 +1,11 @@
 -- `state::memory::has_room_for_channels` meets its contract.
 use Prim.Native.Nat.{ℕ}
 use native.Mathlib.Omega.{arith}
-use mathlib.Core.Path.{◌≡◌, sym, ap, ◌∙◌}
+use mathlib.Core.Path.{◌≡◌, sym, ◌∙◌}
 use mathlib.Core.Bool.{Bool, true, false, not, ◌&&◌}
 use mathlib.Core.List.{List, ◌++◌}
 use lib.Dec.{leb}
 use lib.ListN.{length}
-use borrow.Author.Tests.{not-true, not-false}
 use Rattle.channels.specs.Rules.{well_channels}
 use Rattle.channels.specs.Places.{lengths_in}
 use Rattle.state.specs.Layout.{last_end}
@@ -14,7 +13,6 @@ use Rattle.state.specs.Unpack.{unpacked, setup_in}
 use Rattle.state.specs.Well.{all, exchanges_nothing, range_tests, chain_tests, lengths_tests}
 use Rattle.state.proofs.ShortLengths.{short_lengths_are, long_end_lem}
 use Rattle.state.proofs.Tests.{test_first}
-use borrow.Author.Rules.{rules}
 use Rattle.state.proofs.memory.has_room_for_channels.Goals as goal
 
 -- the channels, and that the last buffer ends in the memory

@@ -6,7 +6,6 @@ use mathlib.Core.Bool.{Bool, true, false, not, ◌&&◌}
 use mathlib.Core.List.{List, [], ◌∷◌, ◌++◌}
 use lib.Dec.{leb}
 use lib.ListN.{length, get_or}
-use borrow.Author.Tests.{not-true}
 use Rattle.channels.specs.Rules.{well_channels}
 use Rattle.channels.specs.Places.{lengths_in, room_of}
 use Rattle.channels.proofs.Found.{rows_nothing}
@@ -16,7 +15,6 @@ use Rattle.state.specs.Unpack.{unpacked}
 use Rattle.state.specs.Well.{all, lengths_tests, image_tests, well_image}
 use Rattle.state.proofs.Damage.{short_fails}
 use Rattle.state.proofs.Tests.{all_fails, others_decide}
-use borrow.Author.Rules.{rules}
 use Rattle.state.proofs.memory.holds_state.Goals as goal
 
 -- the tests of the image, and that the buffers end in the memory

@@ -1,6 +1,5 @@
 -- `state::saving::keep_octet` meets its contract.
 use Rattle.state.proofs.Written.{octet_kept, octet_past}
-use borrow.Author.Rules.{rules}
 use Rattle.state.proofs.saving.keep_octet.Goals as goal
 
 pub returns-then-k-lt2 : goal.returns-then-k-lt2

@@ -2,7 +2,6 @@
 use native.Mathlib.Omega.{arith}
 use lib.ListN.{length-set}
 use Rattle.state.proofs.Written.{in_front, chain_saved}
-use borrow.Author.Rules.{rules}
 use Rattle.state.proofs.saving.save_chain.Goals as goal
 
 pub bounds-mem-55 : goal.bounds-mem-55

@@ -1,7 +1,6 @@
 -- `state::saving::save_control` meets its contract.
 use Rattle.state.specs.With.{with_standing, with_event_word, with_ticks}
 use Rattle.state.proofs.Written.{then}
-use borrow.Author.Rules.{rules}
 use Rattle.state.proofs.saving.save_control.Goals as goal
 
 pub returns : goal.returns

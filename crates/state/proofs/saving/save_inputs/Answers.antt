@@ -3,7 +3,6 @@ use mathlib.Core.Path.{◌∙◌}
 use mathlib.Core.List.{[], ◌∷◌}
 use lib.ListN.{length-set}
 use Rattle.state.proofs.Written.{wrote, inputs_saved}
-use borrow.Author.Rules.{rules}
 use Rattle.state.proofs.saving.save_inputs.Goals as goal
 
 pub shape_of-mem : goal.shape_of-mem

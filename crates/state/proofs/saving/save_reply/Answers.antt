@@ -1,7 +1,6 @@
 -- `state::saving::save_reply` meets its contract.
 use Rattle.state.specs.With.{with_sender, with_outline}
 use Rattle.state.proofs.Written.{then}
-use borrow.Author.Rules.{rules}
 use Rattle.state.proofs.saving.save_reply.Goals as goal
 
 pub returns : goal.returns

@@ -4,7 +4,6 @@ use mathlib.Core.Path.{◌∙◌}
 use mathlib.Core.List.{[], ◌∷◌}
 use lib.ListN.{length-set}
 use Rattle.state.proofs.Written.{in_front, wrote, sender_saved}
-use borrow.Author.Rules.{rules}
 use Rattle.state.proofs.saving.save_sender.Goals as goal
 
 pub bounds-mem-17 : goal.bounds-mem-17

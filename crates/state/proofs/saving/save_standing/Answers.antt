@@ -4,7 +4,6 @@ use mathlib.Core.Path.{◌∙◌}
 use mathlib.Core.List.{[], ◌∷◌}
 use lib.ListN.{length-set}
 use Rattle.state.proofs.Written.{in_front, wrote, four, standing_saved}
-use borrow.Author.Rules.{rules}
 use Rattle.state.proofs.saving.save_standing.Goals as goal
 
 pub bounds-mem-64 : goal.bounds-mem-64

@@ -3,7 +3,6 @@ use native.Mathlib.Omega.{arith}
 use mathlib.Core.Path.{◌∙◌}
 use lib.ListN.{length-set}
 use Rattle.state.proofs.Written.{in_front, wrote, four, ticks_saved}
-use borrow.Author.Rules.{rules}
 use Rattle.state.proofs.saving.save_ticks.Goals as goal
 
 pub bounds-mem-45 : goal.bounds-mem-45

@@ -1,7 +1,6 @@
 -- `state::start::initial` meets its contract.
 use mathlib.Core.Bool.{false}
 use Rattle.state.specs.Start.{initial_state}
-use borrow.Author.Rules.{rules}
 use Rattle.state.proofs.start.initial.Goals as goal
 
 pub returns : goal.returns

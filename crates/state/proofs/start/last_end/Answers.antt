@@ -1,7 +1,6 @@
 -- `state::start::last_end` meets its contract.
 use Prim.Native.Nat.{◌+◌}
 use Rattle.state.specs.Layout.{last_end}
-use borrow.Author.Rules.{rules}
 use Rattle.state.proofs.start.last_end.Goals as goal
 
 pub returns : goal.returns

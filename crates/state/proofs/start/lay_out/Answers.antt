@@ -2,13 +2,11 @@
 use Prim.Native.Nat.{ℕ}
 use native.Mathlib.Omega.{arith}
 use mathlib.Core.Path.{ap, ◌∙◌}
-use mathlib.Core.List.{List}
 use Rattle.channels.specs.Image.{channels}
 use Rattle.channels.specs.Setting.{lengths_given, set_up}
 use Rattle.state.specs.Memory.{kept}
 use Rattle.state.specs.Start.{initial_state, wiped, laid_out}
 use Rattle.state.proofs.Places.{end_behind, last_behind}
-use borrow.Author.Rules.{rules}
 use Rattle.state.proofs.start.lay_out.Goals as goal
 
 pub wipe-requires : goal.wipe-requires

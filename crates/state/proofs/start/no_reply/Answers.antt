@@ -1,5 +1,4 @@
 -- `state::start::no_reply` meets its contract.
-use borrow.Author.Rules.{rules}
 use Rattle.state.proofs.start.no_reply.Goals as goal
 
 pub returns : goal.returns

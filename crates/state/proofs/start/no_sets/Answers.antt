@@ -1,5 +1,4 @@
 -- `state::start::no_sets` meets its contract.
-use borrow.Author.Rules.{rules}
 use Rattle.state.proofs.start.no_sets.Goals as goal
 
 pub returns : goal.returns

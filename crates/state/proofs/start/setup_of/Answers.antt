@@ -2,10 +2,9 @@
 use native.Mathlib.Omega.{arith}
 use mathlib.Core.Path.{◌≡◌, sym, ◌∙◌}
 use mathlib.Core.Bool.{true}
-use borrow.Author.Tests.{not-true, not-false, lt-ltb, le-ltb}
+use borrow.Author.Tests.{lt-ltb, le-ltb}
 use Rattle.state.specs.Start.{given, lengths_ok, asked}
 use Rattle.state.proofs.Asking.{lengths_ranged}
-use borrow.Author.Rules.{rules}
 use Rattle.state.proofs.start.setup_of.Goals as goal
 
 -- the lengths passed

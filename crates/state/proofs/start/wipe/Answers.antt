@@ -3,7 +3,6 @@ use native.Mathlib.Omega.{arith}
 use mathlib.Core.Path.{◌∙◌}
 use Rattle.state.specs.Start.{wiped}
 use Rattle.state.proofs.Places.{get_cfg_inside, end_behind}
-use borrow.Author.Rules.{rules}
 use Rattle.state.proofs.start.wipe.Goals as goal
 
 pub overflow_sub-end : goal.overflow_sub-end

@@ -4,7 +4,6 @@ use mathlib.Core.Bool.{◌&&◌}
 use lib.Dec.{eqb}
 use lib.ListN.{get_or}
 use borrow.Author.Tests.{eq-eqb, ne_eqb}
-use borrow.Author.Rules.{rules}
 use Rattle.state.proofs.well.exchanges_nothing.Goals as goal
 
 pub returns-then-mem-ne0 : goal.returns-then-mem-ne0

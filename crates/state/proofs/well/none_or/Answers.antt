@@ -1,7 +1,6 @@
 -- `state::well::none_or` meets its contract.
 use mathlib.Core.Path.{◌∙◌}
 use borrow.Author.Tests.{eq-eqb, ne_eqb}
-use borrow.Author.Rules.{rules}
 use Rattle.state.proofs.well.none_or.Goals as goal
 
 pub returns-then-x-eq0 : goal.returns-then-x-eq0

@@ -1,8 +1,7 @@
 -- `state::well::set_counts` meets its contract.
 use mathlib.Core.Path.{sym, ◌∙◌}
-use borrow.Author.Tests.{eq-eqb, not-true, not-false}
+use borrow.Author.Tests.{eq-eqb}
 use Rattle.state.proofs.Tests.{set_counts_out, set_counts_in}
-use borrow.Author.Rules.{rules}
 use Rattle.state.proofs.well.set_counts.Goals as goal
 
 pub returns-then-shown-eq0 : goal.returns-then-shown-eq0

@@ -8,7 +8,6 @@ use Rattle.ranges.specs.Octets.{octets, lows}
 use Rattle.state.specs.Short.{short_input_tests}
 use Rattle.state.specs.Well.{all}
 use Rattle.state.proofs.ShortLengths.{short_input_word}
-use borrow.Author.Rules.{rules}
 use Rattle.state.proofs.well.short_inputs.Goals as goal
 
 pub returns-then-mem-ne0 : goal.returns-then-mem-ne0

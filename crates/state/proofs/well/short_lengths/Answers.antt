@@ -3,7 +3,6 @@ use native.Mathlib.Omega.{arith}
 use mathlib.Core.Path.{◌∙◌}
 use Rattle.ranges.specs.Octets.{octets, lows}
 use Rattle.state.proofs.ShortLengths.{short_word}
-use borrow.Author.Rules.{rules}
 use Rattle.state.proofs.well.short_lengths.Goals as goal
 
 pub returns : goal.returns

@@ -4,7 +4,6 @@ use mathlib.Core.Path.{◌∙◌}
 use Rattle.ranges.specs.Octets.{octets, lows}
 use Rattle.state.specs.Well.{code_limits}
 use Rattle.state.proofs.ByWords.{limits_all}
-use borrow.Author.Rules.{rules}
 use Rattle.state.proofs.well.well_codes.Goals as goal
 
 pub returns : goal.returns

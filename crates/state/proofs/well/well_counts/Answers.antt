@@ -8,7 +8,6 @@ use lib.ListN.{get_or, replicate}
 use Rattle.state.specs.Well.{count_tests}
 use Rattle.state.proofs.ByWords.{limits_all, nothing_open}
 use Rattle.state.proofs.Tests.{all_fails, others_decide, within_holds, within_below, within_above}
-use borrow.Author.Rules.{rules}
 use Rattle.state.proofs.well.well_counts.Goals as goal
 
 -- the count of the diagnosis passes

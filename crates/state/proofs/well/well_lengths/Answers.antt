@@ -9,7 +9,6 @@ use borrow.Author.Tests.{lt-leb, le-leb}
 use Rattle.state.specs.Unpack.{setup_in}
 use Rattle.state.specs.Well.{range_tests}
 use Rattle.state.proofs.Tests.{all_fails, others_decide}
-use borrow.Author.Rules.{rules}
 use Rattle.state.proofs.well.well_lengths.Goals as goal
 
 -- the tests, the two of the chain in one

@@ -4,7 +4,6 @@ use mathlib.Core.Bool.{not}
 use borrow.Author.Tests.{lt-leb, le-leb}
 use Rattle.state.specs.Well.{line_tests}
 use Rattle.state.proofs.Tests.{all_fails, others_decide}
-use borrow.Author.Rules.{rules}
 use Rattle.state.proofs.well.well_line.Goals as goal
 
 pub returns-then-not-mem : goal.returns-then-not-mem

@@ -1,10 +1,8 @@
 -- `state::well::well_sets` meets its contract.
 use mathlib.Core.Path.{sym, ap, ◌∙◌}
 use mathlib.Core.Bool.{not}
-use borrow.Author.Tests.{not-true}
 use Rattle.state.specs.Well.{set_tests}
 use Rattle.state.proofs.Tests.{all_fails, others_decide}
-use borrow.Author.Rules.{rules}
 use Rattle.state.proofs.well.well_sets.Goals as goal
 
 pub returns-then-not-none_or : goal.returns-then-not-none_or

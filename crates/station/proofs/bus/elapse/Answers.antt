@@ -1,5 +1,5 @@
 -- `station::bus::elapse` meets its contract.
-use Rattle.std.proofs.Common.{not, ap, refl, rules}
+use Rattle.std.proofs.Common.{not, ap, refl}
 use Rattle.station.proofs.Ticking.{tick_drops, tick_carries, tick_rests, tick_counts}
 use Rattle.station.proofs.bus.elapse.Goals as goal
 

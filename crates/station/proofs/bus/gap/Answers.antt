@@ -2,7 +2,6 @@
 use Rattle.outcomes.proofs.Settled.{holds_front, settled_front}
 use Rattle.station.proofs.SentOverMemory.{paused_fronts}
 use Rattle.steps.specs.Bus.{paused}
-use Rattle.std.proofs.Common.{rules}
 use Rattle.station.proofs.bus.gap.Goals as goal
 
 pub settle_over-requires : goal.settle_over-requires

@@ -1,5 +1,4 @@
 -- `station::bus::pause` meets its contract.
-use Rattle.std.proofs.Common.{rules}
 use Rattle.steps.specs.Bus.{paused}
 use Rattle.steps.proofs.KeepsSafe.{safe_read_by}
 use Rattle.station.proofs.bus.pause.Goals as goal

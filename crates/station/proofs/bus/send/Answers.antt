@@ -1,8 +1,6 @@
 -- `station::bus::send` meets its contract.
-use borrow.Author.Tests.{not-true, not-false}
 use Rattle.outcomes.proofs.Settled.{holds_front, settled_front}
 use Rattle.station.proofs.SentOverMemory.{nothing_left, sent_fronts, octet_left}
-use Rattle.std.proofs.Common.{rules}
 use Rattle.station.proofs.bus.send.Goals as goal
 
 pub returns-then-not-left : goal.returns-then-not-left

@@ -1,6 +1,5 @@
 -- `station::bus::silence` meets its contract.
 use Rattle.steps.proofs.KeepsSafe.{safe_beginning}
-use Rattle.std.proofs.Common.{rules}
 use Rattle.station.proofs.bus.silence.Goals as goal
 
 pub settle-requires : goal.settle-requires
@@ -8,9 +7,9 @@ settle-requires c = rw (c.no_reply-t.ensures, c.read_by-t.ensures) (safe_beginni
 
 pub returns : goal.returns
 returns c = rw (
-      c.no_reply-t.ensures,
-      c.read_by-t.ensures,
-      c.silenced_reader-reader.ensures,
-      c.begun.ensures,
-    )
+  c.no_reply-t.ensures,
+  c.read_by-t.ensures,
+  c.silenced_reader-reader.ensures,
+  c.begun.ensures,
+)
     at c.settle.ensures

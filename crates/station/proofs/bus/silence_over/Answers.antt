@@ -1,7 +1,6 @@
 -- `station::bus::silence_over` meets its contract.
 use Rattle.outcomes.proofs.Settled.{holds_front, settled_front}
 use Rattle.station.proofs.Ticking.{silenced_fronts}
-use Rattle.std.proofs.Common.{rules}
 use Rattle.station.proofs.bus.silence_over.Goals as goal
 
 pub settle_waiting-requires : goal.settle_waiting-requires

@@ -2,7 +2,7 @@
 use Rattle.state.proofs.Damage.{fronted_same}
 use Rattle.station.proofs.Ticking.{tick_rests, tick_counts}
 use Rattle.state.specs.Unpack.{unpacked}
-use Rattle.std.proofs.Common.{not, ap, rules}
+use Rattle.std.proofs.Common.{not, ap}
 use Rattle.station.proofs.bus.tick.Goals as goal
 
 pub returns-then-control : goal.returns-then-control

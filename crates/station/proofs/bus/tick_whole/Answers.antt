@@ -1,7 +1,6 @@
 -- `station::bus::tick_whole` meets its contract.
 use Rattle.station.proofs.Ticking.{tick_drops, tick_carries_over}
 use Rattle.state.specs.Unpack.{unpacked}
-use Rattle.std.proofs.Common.{rules}
 use Rattle.station.proofs.bus.tick_whole.Goals as goal
 
 pub returns-then-control : goal.returns-then-control

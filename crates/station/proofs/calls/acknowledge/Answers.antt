@@ -1,6 +1,5 @@
 -- `station::calls::acknowledge` meets its contract.
 use Rattle.station.proofs.Guarding.{damaged, found, passed}
-use Rattle.std.proofs.Common.{rules}
 use Rattle.station.proofs.calls.acknowledge.Goals as goal
 
 pub returns-then-not-is_well : goal.returns-then-not-is_well

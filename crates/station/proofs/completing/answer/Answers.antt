@@ -1,5 +1,5 @@
 -- `station::completing::answer` meets its contract.
-use Rattle.std.proofs.Common.{arith, rules}
+use Rattle.std.proofs.Common.{arith}
 use Rattle.state.specs.Unpack.{unpacked}
 use Rattle.station.proofs.CompletedOverMemory.{answered_over}
 use Rattle.station.proofs.completing.answer.Goals as goal

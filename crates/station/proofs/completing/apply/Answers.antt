@@ -1,5 +1,5 @@
 -- `station::completing::apply` meets its contract.
-use Rattle.std.proofs.Common.{sym, ap, ◌∙◌, rules}
+use Rattle.std.proofs.Common.{sym, ap, ◌∙◌}
 use Rattle.state.specs.Unpack.{unpacked}
 use Rattle.state.specs.With.{with_incoming}
 use Rattle.rules.specs.declared.outcome.Outcome.{Outcome}

@@ -1,6 +1,5 @@
 -- `station::completing::complete` meets its contract.
-use Rattle.std.proofs.Common.{◌≡◌, Bool, ◌&&◌, sym, ap, ◌∙◌, rules}
-use borrow.Author.Tests.{not-true, not-false}
+use Rattle.std.proofs.Common.{◌≡◌, Bool, ◌&&◌, sym, ap, ◌∙◌}
 use Rattle.state.specs.declared.chain.Chain.{Chain}
 use Rattle.state.specs.declared.setup.Setup.{Setup}
 use Rattle.rules.specs.declared.request.Request.{Request}

@@ -1,5 +1,5 @@
 -- `station::completing::diagnose` meets its contract.
-use Rattle.std.proofs.Common.{refl, arith, rules}
+use Rattle.std.proofs.Common.{refl, arith}
 use Rattle.state.specs.Unpack.{unpacked}
 use Rattle.state.proofs.Damage.{fronted_same}
 use Rattle.station.proofs.CompletedOverMemory.{diagnosed_over}

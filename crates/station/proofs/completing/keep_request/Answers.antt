@@ -1,5 +1,5 @@
 -- `station::completing::keep_request` meets its contract.
-use Rattle.std.proofs.Common.{Bool, cond, sym, ap, ◌∙◌, rules}
+use Rattle.std.proofs.Common.{Bool, cond, sym, ap, ◌∙◌}
 use Rattle.state.specs.declared.chain.Chain.{Chain}
 use Rattle.state.specs.Memory.{kept}
 use Rattle.state.specs.With.{with_chain}

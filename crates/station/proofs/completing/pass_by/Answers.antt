@@ -1,5 +1,5 @@
 -- `station::completing::pass_by` meets its contract.
-use Rattle.std.proofs.Common.{ap, ◌∙◌, rules}
+use Rattle.std.proofs.Common.{ap, ◌∙◌}
 use Rattle.buffers.specs.Roles.{held_of}
 use Rattle.state.specs.declared.state.Drawn.TheVariants.{Nothing}
 use Rattle.state.specs.declared.state.Outputs.{Outputs}

@@ -1,5 +1,5 @@
 -- `station::completing::reply_exchange` meets its contract.
-use Rattle.std.proofs.Common.{arith, rules}
+use Rattle.std.proofs.Common.{arith}
 use Rattle.station.proofs.ExchangeReplied.{drew_inputs, sends_inputs, drew_flag, sends_flag, drew_e5, sends_e5, replied_over}
 use Rattle.station.proofs.completing.reply_exchange.Goals as goal
 

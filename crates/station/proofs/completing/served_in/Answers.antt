@@ -1,5 +1,4 @@
 -- `station::completing::served_in` meets its contract.
-use Rattle.std.proofs.Common.{rules}
 use Rattle.station.proofs.completing.served_in.Goals as goal
 
 pub prm_in-requires : goal.prm_in-requires
@@ -7,16 +6,16 @@ prm_in-requires c = c.requires.0
 
 pub returns : goal.returns
 returns c = rw (
-      c.serve.ensures,
-      c.prm_in.ensures,
-      c.is_open-2.ensures,
-      c.configuration.ensures,
-      c.is_open.ensures,
-      c.parameters.ensures,
-      c.outputs-outputs.ensures,
-      c.refilled-control.ensures,
-      c.control.ensures,
-      c.requires.1,
-      c.incoming-incoming.ensures,
-      c.setup-setup.ensures,
-    )
+  c.serve.ensures,
+  c.prm_in.ensures,
+  c.is_open-2.ensures,
+  c.configuration.ensures,
+  c.is_open.ensures,
+  c.parameters.ensures,
+  c.outputs-outputs.ensures,
+  c.refilled-control.ensures,
+  c.control.ensures,
+  c.requires.1,
+  c.incoming-incoming.ensures,
+  c.setup-setup.ensures,
+)

@@ -1,5 +1,5 @@
 -- `station::hearing::drop_reply` meets its contract.
-use Rattle.std.proofs.Common.{◌∙◌, rules}
+use Rattle.std.proofs.Common.{◌∙◌}
 use Rattle.state.specs.Memory.{kept}
 use Rattle.state.specs.With.{with_incoming, with_reply}
 use Rattle.state.proofs.Written.{then}

@@ -1,5 +1,5 @@
 -- `station::hearing::hear_data` meets its contract.
-use Rattle.std.proofs.Common.{ap, ◌∙◌, rules}
+use Rattle.std.proofs.Common.{ap, ◌∙◌}
 use Rattle.telegram.specs.Reading.{takes_data}
 use Rattle.state.specs.declared.state.Incoming.{Incoming}
 use Rattle.state.specs.Unpack.{unpacked}

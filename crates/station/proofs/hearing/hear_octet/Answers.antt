@@ -1,5 +1,5 @@
 -- `station::hearing::hear_octet` meets its contract.
-use Rattle.std.proofs.Common.{Bool, sym, ap, ◌∙◌, rules}
+use Rattle.std.proofs.Common.{Bool, sym, ap, ◌∙◌}
 use borrow.Author.Tests.{not-true}
 use Rattle.state.specs.Unpack.{unpacked}
 use Rattle.state.proofs.Choice.{and_left, and_right}

@@ -2,7 +2,6 @@
 use Rattle.state.specs.Unpack.{unpacked}
 use Rattle.station.proofs.HeardOverMemory.{leaves_ignored, leaves_plain, leaves_turn}
 use Rattle.station.proofs.TurnedOverMemory.{turning}
-use Rattle.std.proofs.Common.{rules}
 use Rattle.station.proofs.hearing.hear_other.Goals as goal
 
 pub returns-then-is_ignored : goal.returns-then-is_ignored

@@ -1,5 +1,5 @@
 -- `station::hearing::is_plain` meets its contract.
-use Rattle.std.proofs.Common.{not, ◌&&◌, ap, ◌∙◌, rules}
+use Rattle.std.proofs.Common.{not, ◌&&◌, ap, ◌∙◌}
 use Rattle.steps.specs.Line.{is_inside}
 use Rattle.station.proofs.hearing.is_plain.Goals as goal
 

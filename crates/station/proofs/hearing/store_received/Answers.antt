@@ -1,6 +1,6 @@
 -- `station::hearing::store_received` meets its contract. In each branch: `read` after setup and telegram were read, `set` after the
 -- set was, `at` where its fill buffer is found.
-use Rattle.std.proofs.Common.{arith, rules}
+use Rattle.std.proofs.Common.{arith}
 use Rattle.buffers.specs.Roles as role
 use Rattle.state.specs.Layout.{output_row, parameter_row, configuration_row}
 use Rattle.steps.proofs.Holding.{holds_safe}

@@ -1,7 +1,6 @@
 -- `station::hearing::turn` meets its contract.
 use Rattle.outcomes.proofs.Settled.{holds_front, settled_front}
 use Rattle.station.proofs.TurnedOverMemory.{leaves_fresh, begun_fronts, leaves_begun, completed_fronts, broken_fronts}
-use Rattle.std.proofs.Common.{rules}
 use Rattle.station.proofs.hearing.turn.Goals as goal
 
 pub settle_over-requires : goal.settle_over-requires

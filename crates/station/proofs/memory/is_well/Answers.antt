@@ -1,6 +1,5 @@
 -- `station::memory::is_well` meets its contract.
-use Rattle.std.proofs.Common.{sym, ◌∙◌, rules}
-use borrow.Author.Tests.{not-true, not-false}
+use Rattle.std.proofs.Common.{sym, ◌∙◌}
 use Rattle.steps.specs.Calls.{well_memory}
 use Rattle.station.proofs.memory.is_well.Goals as goal
 

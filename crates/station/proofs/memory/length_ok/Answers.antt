@@ -1,6 +1,5 @@
 -- `station::memory::length_ok` meets its contract.
 use Rattle.steps.specs.Calls.{length_ok}
-use Rattle.std.proofs.Common.{rules}
 use Rattle.station.proofs.memory.length_ok.Goals as goal
 
 pub returns : goal.returns

@@ -1,6 +1,5 @@
 -- `station::over_memory::judge_configuration` meets its contract.
 use Rattle.steps.specs.Step.{step_over}
-use Rattle.std.proofs.Common.{rules}
 use Rattle.station.proofs.over_memory.judge_configuration.Goals as goal
 
 pub returns : goal.returns

@@ -1,5 +1,5 @@
 -- `station::over_memory::pending` meets its contract.
-use Rattle.std.proofs.Common.{refl, ap, ◌∙◌, rules}
+use Rattle.std.proofs.Common.{refl, ap, ◌∙◌}
 use Rattle.state.specs.declared.answer.Answer.TheVariants.{Value}
 use Rattle.buffers.specs.declared.events.Events.{Events}
 use Rattle.buffers.specs.Events.{pending_of}

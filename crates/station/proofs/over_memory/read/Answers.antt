@@ -1,6 +1,5 @@
 -- `station::over_memory::read` meets its contract.
 use Rattle.station.proofs.Stepping.{answered}
-use Rattle.std.proofs.Common.{rules}
 use Rattle.station.proofs.over_memory.read.Goals as goal
 
 pub read_octet-requires : goal.read_octet-requires

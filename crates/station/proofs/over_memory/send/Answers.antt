@@ -1,5 +1,5 @@
 -- `station::over_memory::send` meets its contract.
-use Rattle.std.proofs.Common.{refl, rules}
+use Rattle.std.proofs.Common.{refl}
 use Rattle.station.proofs.Stepping.{on_memory_lem}
 use Rattle.station.proofs.over_memory.send.Goals as goal
 

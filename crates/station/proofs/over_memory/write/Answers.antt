@@ -1,6 +1,5 @@
 -- `station::over_memory::write` meets its contract.
 use Rattle.station.proofs.Stepping.{wrote}
-use Rattle.std.proofs.Common.{rules}
 use Rattle.station.proofs.over_memory.write.Goals as goal
 
 pub write_octet-requires : goal.write_octet-requires

@@ -1,4 +1,3 @@
-use Rattle.std.proofs.Common.{rules}
 use Rattle.station.proofs.reading.begin.Goals as goal
 
 pub returns : goal.returns

@@ -1,4 +1,3 @@
-use Rattle.std.proofs.Common.{rules}
 use Rattle.steps.proofs.KeepsSafe.{safe_read_by}
 use Rattle.station.proofs.reading.complete.Goals as goal
 
@@ -11,8 +10,8 @@ answer-requires c = rw c.read_by-t.ensures
 
 pub returns : goal.returns
 returns c = rw (
-      c.outcome_of-o.ensures,
-      c.request_by-r.ensures,
-      c.read_by-t.ensures,
-    )
+  c.outcome_of-o.ensures,
+  c.request_by-r.ensures,
+  c.read_by-t.ensures,
+)
     at c.answer.ensures

@@ -1,5 +1,5 @@
 -- `station::reading::hear` meets its contract.
-use Rattle.std.proofs.Common.{sym, ◌∙◌, rules}
+use Rattle.std.proofs.Common.{sym, ◌∙◌}
 use Rattle.station.proofs.reading.hear.Goals as goal
 
 pub returns-then-bad : goal.returns-then-bad

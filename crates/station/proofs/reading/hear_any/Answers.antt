@@ -1,5 +1,5 @@
 -- `station::reading::hear_any` meets its contract.
-use Rattle.std.proofs.Common.{refl, rules}
+use Rattle.std.proofs.Common.{refl}
 use Rattle.steps.specs.Reading.{heard}
 use Rattle.station.proofs.reading.hear_any.Goals as goal
 
@@ -11,10 +11,10 @@ returns-then-is_ignored c = rw (← c.status.ensures, ← c.is_ignored.ensures, 
 pub returns : goal.returns
 unfolding heard
 returns c = rw (
-      ← c.status.ensures,
-      ← c.is_ignored.ensures,
-      c.if-is_ignored.false,
-      ← c.receive-next.ensures,
-      ← c.status-2.ensures,
-    )
+  ← c.status.ensures,
+  ← c.is_ignored.ensures,
+  c.if-is_ignored.false,
+  ← c.receive-next.ensures,
+  ← c.status-2.ensures,
+)
     c.hear_as.ensures

@@ -1,4 +1,4 @@
-use Rattle.std.proofs.Common.{refl, rules}
+use Rattle.std.proofs.Common.{refl}
 use Rattle.steps.proofs.KeepsSafe.{safe_steps, safe_completed, safe_read_by}
 use Rattle.station.proofs.reading.hear_as.Goals as goal
 
@@ -17,16 +17,16 @@ returns-in-Inside c = rw c.in-Inside.is c.hear_inside.ensures
 
 pub returns-in-Complete : goal.returns-in-Complete
 returns-in-Complete c = rw (
-      c.in-Complete.is,
-      ← c.complete-t.ensures.states,
-      ← c.complete-t.ensures.leaves,
-    )
+  c.in-Complete.is,
+  ← c.complete-t.ensures.states,
+  ← c.complete-t.ensures.leaves,
+)
     c.settle.ensures
 
 pub returns-in-Broken : goal.returns-in-Broken
 returns-in-Broken c = rw (
-      c.in-Broken.is,
-      ← c.off.ensures,
-      ← c.read_by.ensures,
-    )
+  c.in-Broken.is,
+  ← c.off.ensures,
+  ← c.read_by.ensures,
+)
     c.settle-in-Broken.ensures

@@ -1,5 +1,4 @@
 -- `station::reading::hear_datum` meets its contract.
-use Rattle.std.proofs.Common.{rules}
 use Rattle.station.proofs.HeardOverMemory.{heard_data}
 use Rattle.station.proofs.reading.hear_datum.Goals as goal
 

@@ -1,4 +1,3 @@
-use Rattle.std.proofs.Common.{rules}
 use Rattle.steps.proofs.KeepsSafe.{safe_beginning}
 use Rattle.station.proofs.reading.hear_inside.Goals as goal
 
@@ -11,8 +10,8 @@ settle-requires c = rw c.begin.ensures (safe_beginning _ _ _ c.requires)
 
 pub returns : goal.returns
 returns c = rw (
-      ← c.begun.ensures,
-      c.if-begun.false,
-      ← c.begin.ensures,
-    )
+  ← c.begun.ensures,
+  c.if-begun.false,
+  ← c.begin.ensures,
+)
     c.settle.ensures

@@ -1,5 +1,4 @@
 -- `station::reading::outcome_of` meets its contract.
-use Rattle.std.proofs.Common.{rules}
 use Rattle.steps.specs.Reading.{outcome_of}
 use Rattle.station.proofs.reading.outcome_of.Goals as goal
 

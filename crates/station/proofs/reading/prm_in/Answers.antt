@@ -1,4 +1,3 @@
-use Rattle.std.proofs.Common.{rules}
 use Rattle.steps.proofs.KeepsSafe.{prm_room}
 use Rattle.station.proofs.reading.prm_in.Goals as goal
 

@@ -1,5 +1,5 @@
 -- `station::reading::read_by` meets its contract.
-use Rattle.std.proofs.Common.{ap, rules}
+use Rattle.std.proofs.Common.{ap}
 use Rattle.state.specs.With.{with_incoming}
 use Rattle.station.proofs.reading.read_by.Goals as goal
 

@@ -1,4 +1,4 @@
-use Rattle.std.proofs.Common.{arith, rules, le-ltb, lt-ltb, eq-eqb, ne_eqb}
+use Rattle.std.proofs.Common.{arith, le-ltb, lt-ltb, eq-eqb, ne_eqb}
 use Rattle.buffers.specs.Roles as role
 use Rattle.state.specs.Layout.{output_row, parameter_row, configuration_row}
 use Rattle.steps.proofs.KeepsSafe.{buffer_room}
@@ -11,11 +11,11 @@ store_at-requires c = rw (c.outputs_at-from.ensures, c.fill.ensures)
 
 pub returns-then-reader-lt128 : goal.returns-then-reader-lt128
 returns-then-reader-lt128 c = rw (
-      lt-ltb _ _ c.if-reader-lt128.true,
-      c.store_at.ensures,
-      c.outputs_at-from.ensures,
-      c.fill.ensures,
-    )
+  lt-ltb _ _ c.if-reader-lt128.true,
+  c.store_at.ensures,
+  c.outputs_at-from.ensures,
+  c.fill.ensures,
+)
 
 pub store_at-requires-then-reader-eq61 : goal.store_at-requires-then-reader-eq61
 store_at-requires-then-reader-eq61 c = rw (c.parameters_at-from.ensures, c.fill-then-reader-eq61.ensures)
@@ -25,12 +25,12 @@ store_at-requires-then-reader-eq61 c = rw (c.parameters_at-from.ensures, c.fill-
 
 pub returns-then-reader-eq61 : goal.returns-then-reader-eq61
 returns-then-reader-eq61 c = rw (
-      le-ltb _ _ c.if-reader-lt128.false,
-      eq-eqb _ _ c.if-reader-eq61.true,
-      c.store_at-then-reader-eq61.ensures,
-      c.parameters_at-from.ensures,
-      c.fill-then-reader-eq61.ensures,
-    )
+  le-ltb _ _ c.if-reader-lt128.false,
+  eq-eqb _ _ c.if-reader-eq61.true,
+  c.store_at-then-reader-eq61.ensures,
+  c.parameters_at-from.ensures,
+  c.fill-then-reader-eq61.ensures,
+)
 
 pub store_at-requires-then-reader-eq62 : goal.store_at-requires-then-reader-eq62
 store_at-requires-then-reader-eq62 c = rw (c.configuration_at-from.ensures, c.fill-then-reader-eq62.ensures)
@@ -40,18 +40,18 @@ store_at-requires-then-reader-eq62 c = rw (c.configuration_at-from.ensures, c.fi
 
 pub returns-then-reader-eq62 : goal.returns-then-reader-eq62
 returns-then-reader-eq62 c = rw (
-      le-ltb _ _
-          c.if-reader-lt128.false,
-      ne_eqb _ _ c.if-reader-eq61.false,
-      eq-eqb _ _ c.if-reader-eq62.true,
-      c.store_at-then-reader-eq62.ensures,
-      c.configuration_at-from.ensures,
-      c.fill-then-reader-eq62.ensures,
-    )
+  le-ltb _ _
+      c.if-reader-lt128.false,
+  ne_eqb _ _ c.if-reader-eq61.false,
+  eq-eqb _ _ c.if-reader-eq62.true,
+  c.store_at-then-reader-eq62.ensures,
+  c.configuration_at-from.ensures,
+  c.fill-then-reader-eq62.ensures,
+)
 
 pub returns-else-reader-eq62 : goal.returns-else-reader-eq62
 returns-else-reader-eq62 c = rw (
-      le-ltb _ _ c.if-reader-lt128.false,
-      ne_eqb _ _ c.if-reader-eq61.false,
-      ne_eqb _ _ c.if-reader-eq62.false,
-    )
+  le-ltb _ _ c.if-reader-lt128.false,
+  ne_eqb _ _ c.if-reader-eq61.false,
+  ne_eqb _ _ c.if-reader-eq62.false,
+)

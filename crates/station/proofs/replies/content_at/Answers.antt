@@ -1,5 +1,4 @@
 -- `station::replies::content_at` meets its contract.
-use Rattle.std.proofs.Common.{rules}
 use Rattle.station.proofs.replies.content_at.Goals as goal
 
 pub input_octet-requires : goal.input_octet-requires

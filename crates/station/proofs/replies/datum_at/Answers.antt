@@ -1,5 +1,5 @@
 -- `station::replies::datum_at` meets its contract.
-use Rattle.std.proofs.Common.{◌∙◌, rules, eq-eqb, ne_eqb}
+use Rattle.std.proofs.Common.{◌∙◌, eq-eqb, ne_eqb}
 use Rattle.steps.specs.Replies.{datum_at}
 use Rattle.station.proofs.SentOverMemory.{datum_inside}
 use Rattle.station.proofs.replies.datum_at.Goals as goal
@@ -13,31 +13,31 @@ input_octet-requires c = c.requires
 pub returns-then-is_exchange : goal.returns-then-is_exchange
 unfolding datum_at
 returns-then-is_exchange c = rw (
-      ← c.reply-reply.ensures,
-      ← c.is_exchange.ensures,
-      c.if-is_exchange.true,
-      c.input_octet.ensures,
-    )
+  ← c.reply-reply.ensures,
+  ← c.is_exchange.ensures,
+  c.if-is_exchange.true,
+  c.input_octet.ensures,
+)
 
 pub returns-then-k-eq0 : goal.returns-then-k-eq0
 unfolding datum_at
 returns-then-k-eq0 c = rw (
-      ← c.reply-reply.ensures,
-      ← c.is_exchange.ensures,
-      c.if-is_exchange.false,
-      eq-eqb _ _ c.if-k-eq0.true,
-    )
+  ← c.reply-reply.ensures,
+  ← c.is_exchange.ensures,
+  c.if-is_exchange.false,
+  eq-eqb _ _ c.if-k-eq0.true,
+)
 
 pub returns-then-k-eq1 : goal.returns-then-k-eq1
 unfolding datum_at
 returns-then-k-eq1 c = rw (
-      ← c.reply-reply.ensures,
-      ← c.is_exchange.ensures,
-      c.if-is_exchange.false,
-      ne_eqb _ _ c.if-k-eq0.false,
-      eq-eqb _ _ c.if-k-eq1.true,
-      c.reply_point.ensures,
-    )
+  ← c.reply-reply.ensures,
+  ← c.is_exchange.ensures,
+  c.if-is_exchange.false,
+  ne_eqb _ _ c.if-k-eq0.false,
+  eq-eqb _ _ c.if-k-eq1.true,
+  c.reply_point.ensures,
+)
 
 pub content_at-requires : goal.content_at-requires
 content_at-requires c = c.requires

@@ -1,5 +1,4 @@
 -- `station::replies::draw` meets its contract.
-use Rattle.std.proofs.Common.{rules}
 use Rattle.steps.specs.Replies.{reply_for}
 use Rattle.station.proofs.replies.draw.Goals as goal
 

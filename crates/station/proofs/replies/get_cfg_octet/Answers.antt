@@ -1,7 +1,6 @@
 -- `station::replies::get_cfg_octet` meets its contract.
 use Rattle.steps.proofs.KeepsSafe.{get_cfg_room}
 use Rattle.steps.proofs.Holding.{holds_safe}
-use Rattle.std.proofs.Common.{rules}
 use Rattle.station.proofs.replies.get_cfg_octet.Goals as goal
 
 pub setup-setup-requires : goal.setup-setup-requires

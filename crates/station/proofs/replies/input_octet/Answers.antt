@@ -1,6 +1,5 @@
 -- `station::replies::input_octet` meets its contract.
 use Rattle.station.proofs.SentOverMemory.{inputs_room}
-use Rattle.std.proofs.Common.{rules}
 use Rattle.station.proofs.replies.input_octet.Goals as goal
 
 pub setup-setup-requires : goal.setup-setup-requires
@@ -11,18 +10,18 @@ inputs-inputs-requires c = c.requires.long
 
 pub octet_in-requires : goal.octet_in-requires
 octet_in-requires c = rw (
-      c.inputs_at.ensures,
-      c.fill.ensures,
-      c.inputs-inputs.ensures,
-      c.setup-setup.ensures,
-    )
+  c.inputs_at.ensures,
+  c.fill.ensures,
+  c.inputs-inputs.ensures,
+  c.setup-setup.ensures,
+)
     (inputs_room _ _ c.requires)
 
 pub returns : goal.returns
 returns c = rw (
-      c.octet_in.ensures,
-      c.inputs_at.ensures,
-      c.fill.ensures,
-      c.inputs-inputs.ensures,
-      c.setup-setup.ensures,
-    )
+  c.octet_in.ensures,
+  c.inputs_at.ensures,
+  c.fill.ensures,
+  c.inputs-inputs.ensures,
+  c.setup-setup.ensures,
+)

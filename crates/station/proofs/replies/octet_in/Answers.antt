@@ -1,4 +1,4 @@
-use Rattle.std.proofs.Common.{◌≡◌, ℕ, ◌+◌, ◌≤◌, List, length, get_or, sym, rules}
+use Rattle.std.proofs.Common.{◌≡◌, ℕ, ◌+◌, ◌≤◌, List, length, get_or, sym}
 use lib.ListN.{get_or-eq_default}
 use Rattle.octets.specs.Part.{part}
 use Rattle.octets.proofs.Parts.{part_at, part_length}

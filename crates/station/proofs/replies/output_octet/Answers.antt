@@ -1,6 +1,5 @@
 -- `station::replies::output_octet` meets its contract.
 use Rattle.station.proofs.SentOverMemory.{outputs_room}
-use Rattle.std.proofs.Common.{rules}
 use Rattle.station.proofs.replies.output_octet.Goals as goal
 
 pub setup-setup-requires : goal.setup-setup-requires
@@ -15,8 +14,8 @@ octet_in-requires c = rw (c.outputs_at.ensures, c.reply-reply.ensures, c.setup-s
 
 pub returns : goal.returns
 returns c = rw (
-      c.octet_in.ensures,
-      c.outputs_at.ensures,
-      c.reply-reply.ensures,
-      c.setup-setup.ensures,
-    )
+  c.octet_in.ensures,
+  c.outputs_at.ensures,
+  c.reply-reply.ensures,
+  c.setup-setup.ensures,
+)

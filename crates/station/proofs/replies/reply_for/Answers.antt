@@ -1,5 +1,5 @@
 -- `station::replies::reply_for` meets its contract.
-use Rattle.std.proofs.Common.{sym, refl, rules}
+use Rattle.std.proofs.Common.{sym, refl}
 use Rattle.station.proofs.replies.reply_for.Goals as goal
 
 pub returns : goal.returns

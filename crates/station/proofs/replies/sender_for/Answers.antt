@@ -1,5 +1,4 @@
 -- `station::replies::sender_for` meets its contract.
-use Rattle.std.proofs.Common.{rules}
 use Rattle.station.proofs.replies.sender_for.Goals as goal
 
 pub returns-in-Nothing : goal.returns-in-Nothing

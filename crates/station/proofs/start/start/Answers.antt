@@ -1,10 +1,8 @@
 -- `station::start::start` meets its contract.
-use Rattle.std.proofs.Common.{◌≡◌, ℕ, true, List, length, sym, refl, ap, ◌∙◌, rules}
+use Rattle.std.proofs.Common.{length, sym, refl, ap, ◌∙◌}
 use Rattle.channels.proofs.Exact.{lengths_say}
 use Rattle.state.specs.declared.setup.Setup.{Setup}
-use Rattle.state.specs.declared.start.Asked.TheVariants.{Accepted, Declined}
-use Rattle.steps.specs.Calls.{length_ok}
-use Rattle.state.specs.Start.{given, asked}
+use Rattle.state.specs.Start.{given}
 use Rattle.state.proofs.Asking.{accepts}
 use Rattle.steps.proofs.Guarded.{started_short, started_declined, started_accepted}
 use Rattle.station.proofs.start.start.Goals as goal

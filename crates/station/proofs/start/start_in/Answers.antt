@@ -1,5 +1,5 @@
 -- `station::start::start_in` meets its contract.
-use Rattle.std.proofs.Common.{ltb, length, sym, ap, ◌∙◌, rules, le-ltb, lt-ltb}
+use Rattle.std.proofs.Common.{ltb, length, sym, ap, ◌∙◌, le-ltb, lt-ltb}
 use Rattle.steps.specs.Calls.{started_in}
 use Rattle.station.proofs.start.start_in.Goals as goal
 

@@ -1,5 +1,5 @@
 -- `station::user::absent` meets its contract.
-use Rattle.std.proofs.Common.{◌&&◌, ◌||◌, eqb, leb, ◌∙◌, rules}
+use Rattle.std.proofs.Common.{◌&&◌, ◌||◌, eqb, leb, ◌∙◌}
 use Rattle.rules.specs.Diagnosis.{is_delayed}
 use Rattle.station.proofs.user.absent.Goals as goal
 

@@ -1,5 +1,5 @@
 -- `station::user::acknowledge` meets its contract.
-use Rattle.std.proofs.Common.{refl, rules}
+use Rattle.std.proofs.Common.{refl}
 use Rattle.state.proofs.Damage.{fronted_same}
 use Rattle.steps.specs.User.{acknowledge_events}
 use Rattle.station.proofs.user.acknowledge.Goals as goal

@@ -1,5 +1,5 @@
 -- `station::user::hand_over` meets its contract.
-use Rattle.std.proofs.Common.{refl, rules}
+use Rattle.std.proofs.Common.{refl}
 use Rattle.state.proofs.Damage.{fronted_same}
 use Rattle.steps.specs.User.{hand_over}
 use Rattle.station.proofs.user.hand_over.Goals as goal

@@ -1,5 +1,5 @@
 -- `station::user::judge_configuration` meets its contract.
-use Rattle.std.proofs.Common.{not, ap, refl, rules}
+use Rattle.std.proofs.Common.{not, ap, refl}
 use borrow.Author.Tests.{le-leb, lt-leb}
 use Rattle.steps.specs.User.{judge_configuration}
 use Rattle.station.proofs.UserOverMemory.{judges_configuration}
@@ -13,12 +13,12 @@ returns-then-not-is_open-control c = rw (← c.configuration-configuration.ensur
 pub returns-then-not-judgement : goal.returns-then-not-judgement
 unfolding judge_configuration
 returns-then-not-judgement c = rw (
-      ← c.configuration-configuration.ensures,
-      ← c.control-control.ensures,
-      ← c.is_open.ensures,
-      c.if-not-is_open-control.false,
-      lt-leb _ _ c.if-not-judgement.true,
-    )
+  ← c.configuration-configuration.ensures,
+  ← c.control-control.ensures,
+  ← c.is_open.ensures,
+  c.if-not-is_open-control.false,
+  lt-leb _ _ c.if-not-judgement.true,
+)
     (record { answers = refl; leaves = refl })
 
 pub returns : goal.returns

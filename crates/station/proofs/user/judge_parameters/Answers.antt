@@ -1,5 +1,5 @@
 -- `station::user::judge_parameters` meets its contract.
-use Rattle.std.proofs.Common.{not, ap, refl, rules}
+use Rattle.std.proofs.Common.{not, ap, refl}
 use borrow.Author.Tests.{le-leb, lt-leb}
 use Rattle.steps.specs.User.{judge_parameters}
 use Rattle.station.proofs.UserOverMemory.{judges_parameters}

@@ -1,6 +1,5 @@
 -- `station::user::leave` meets its contract.
 use Rattle.station.proofs.UserOverMemory.{leaves_master}
-use Rattle.std.proofs.Common.{rules}
 use Rattle.station.proofs.user.leave.Goals as goal
 
 pub returns : goal.returns

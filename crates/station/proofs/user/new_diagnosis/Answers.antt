@@ -1,6 +1,5 @@
 -- `station::user::new_diagnosis` meets its contract.
-use Rattle.std.proofs.Common.{not, ap, ℕ, ◌≡◌, true, ◌≤◌, leb, [], ◌∷◌, refl, arith, rules, leb-true}
-use borrow.Author.Tests.{not-false}
+use Rattle.std.proofs.Common.{not, ap, ℕ, ◌≡◌, true, ◌≤◌, leb, [], ◌∷◌, refl, arith, leb-true}
 use Rattle.state.specs.Well.{all}
 use Rattle.state.proofs.Tests.{all_at}
 use Rattle.state.proofs.Damage.{fronted_same}
@@ -21,12 +20,12 @@ returns-then-not-count-setup c = rw (← c.setup-setup.ensures, c.if-not-count-s
 pub returns-then-is_delayed : goal.returns-then-is_delayed
 unfolding new_diagnosis
 returns-then-is_delayed c = rw (
-      ← c.setup-setup.ensures,
-      c.if-not-count-setup.false,
-      ← c.control-control.ensures,
-      ← c.is_delayed.ensures,
-      c.if-is_delayed.true,
-    )
+  ← c.setup-setup.ensures,
+  c.if-not-count-setup.false,
+  ← c.control-control.ensures,
+  ← c.is_delayed.ensures,
+  c.if-is_delayed.true,
+)
     (record { answers = refl; leaves = refl })
 
 pub overflow_cast-n : goal.overflow_cast-n

@@ -1,7 +1,6 @@
 -- `station::user::take_outputs` meets its contract.
 use Rattle.state.proofs.Damage.{fronted_same}
 use Rattle.station.proofs.UserOverMemory.{takes_none, takes_new}
-use Rattle.std.proofs.Common.{rules}
 use Rattle.station.proofs.user.take_outputs.Goals as goal
 
 pub returns-then-not-outputs : goal.returns-then-not-outputs

@@ -1,7 +1,6 @@
 -- `window::calls::eight_bits` meets its contract.
 use mathlib.Core.Path.{sym, ap}
 use Rattle.window.specs.Table.{bits, cut_to}
-use borrow.Author.Rules.{rules}
 use Rattle.window.proofs.calls.eight_bits.Goals as goal
 
 pub returns-in-Value : goal.returns-in-Value

@@ -2,7 +2,6 @@
 use Rattle.rules.specs.Call.{events}
 use Rattle.window.specs.Table.{bits}
 use Rattle.window.proofs.Entered.{cut_meets}
-use borrow.Author.Rules.{rules}
 use Rattle.window.proofs.calls.event_bits.Goals as goal
 
 pub returns : goal.returns

@@ -2,7 +2,6 @@
 use mathlib.Core.Path.{refl}
 use Rattle.window.specs.Table.{nothing}
 use Rattle.window.proofs.Entered.{damaged, passed}
-use borrow.Author.Rules.{rules}
 use Rattle.window.proofs.calls.nothing.Goals as goal
 
 pub returns-then-not-is_well : goal.returns-then-not-is_well

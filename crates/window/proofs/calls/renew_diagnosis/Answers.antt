@@ -1,7 +1,6 @@
 -- `window::calls::renew_diagnosis` meets its contract.
 use Rattle.station.proofs.Guarding.{found, damaged, passed}
 use Rattle.window.proofs.Present.{renews}
-use borrow.Author.Rules.{rules}
 use Rattle.window.proofs.calls.renew_diagnosis.Goals as goal
 
 pub returns-then-not-is_well : goal.returns-then-not-is_well

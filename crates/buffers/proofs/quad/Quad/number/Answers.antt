@@ -1,10 +1,9 @@
 -- `buffers::quad::Quad::number` meets its contract.
-use Prim.Native.Nat.{◌+◌, ◌-◌, ◌*◌, ◌%◌, ◌<◌}
+use Prim.Native.Nat.{◌+◌, ◌-◌, ◌*◌, ◌%◌}
 use native.Mathlib.Omega.{arith}
 use lib.ListN.{get_or}
 use lib.Dec.{ltb}
 use Rattle.buffers.proofs.Flag.{flag, flag_le, flag_below}
-use borrow.Author.Rules.{rules}
 use Rattle.buffers.proofs.quad.Quad.number.Goals as goal
 
 pub overflow_sub-result : goal.overflow_sub-result

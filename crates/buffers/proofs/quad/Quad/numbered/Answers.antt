@@ -1,5 +1,4 @@
 -- `buffers::quad::Quad::numbered` meets its contract.
-use borrow.Author.Rules.{rules}
 use Rattle.buffers.proofs.quad.Quad.numbered.Goals as goal
 
 pub returns : goal.returns

@@ -4,7 +4,6 @@ use native.Mathlib.Omega.{arith}
 use mathlib.Core.Path.{ap}
 use lib.ListN.{get_or}
 use lib.Dec.{ltb}
-use borrow.Author.Rules.{rules}
 use Rattle.buffers.proofs.Flag.{flag, flag_le}
 use Rattle.buffers.proofs.triple.Triple.number.Goals as goal
 

@@ -7,7 +7,6 @@ use mir.Syntax.{w64}
 use mir.Val.{SFits, to_z}
 use mir.Facts.{to_z_pos, to_z-of_z}
 use Rattle.state.specs.Answer.{answer_number}
-use borrow.Author.Rules.{rules}
 use Rattle.state.proofs.answer.Answer.code.Goals as goal
 
 -- a small number negated is a number of the code

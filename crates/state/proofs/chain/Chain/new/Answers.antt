@@ -1,7 +1,6 @@
 -- `state::chain::Chain::new` meets its contract.
 use native.Mathlib.Omega.{arith}
 use Rattle.state.proofs.SetCodes.{drawn_below}
-use borrow.Author.Rules.{rules}
 use Rattle.state.proofs.chain.Chain.new.Goals as goal
 
 pub overflow_mul-code : goal.overflow_mul-code

@@ -1,4 +1,4 @@
-use Rattle.std.proofs.Common.{◌∙◌, rules}
+use Rattle.std.proofs.Common.{◌∙◌}
 use Rattle.telegram.proofs.Steps.{body_data, body_check, body_off}
 use Rattle.telegram.proofs.reader.Reader.on_body.Goals as goal
 

@@ -1,4 +1,4 @@
-use Rattle.std.proofs.Common.{◌∙◌, rules}
+use Rattle.std.proofs.Common.{◌∙◌}
 use Rattle.telegram.proofs.Steps.{da_plain, da_marked, da_off}
 use Rattle.telegram.proofs.reader.Reader.on_da.Goals as goal
 

@@ -1,4 +1,4 @@
-use Rattle.std.proofs.Common.{◌∙◌, rules}
+use Rattle.std.proofs.Common.{◌∙◌}
 use Rattle.telegram.proofs.Steps.{dsap_good}
 use Rattle.telegram.proofs.reader.Reader.on_dsap.Goals as goal
 

@@ -1,4 +1,4 @@
-use Rattle.std.proofs.Common.{◌∙◌, rules}
+use Rattle.std.proofs.Common.{◌∙◌}
 use Rattle.telegram.proofs.Steps.{end_good, end_off}
 use Rattle.telegram.proofs.reader.Reader.on_end.Goals as goal
 

@@ -1,5 +1,4 @@
 use Rattle.telegram.proofs.Steps.{fc_good}
-use Rattle.std.proofs.Common.{rules}
 use Rattle.telegram.proofs.reader.Reader.on_fc.Goals as goal
 
 pub returns : goal.returns

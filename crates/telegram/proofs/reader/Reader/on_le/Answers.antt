@@ -1,4 +1,4 @@
-use Rattle.std.proofs.Common.{◌∙◌, rules}
+use Rattle.std.proofs.Common.{◌∙◌}
 use Rattle.telegram.proofs.Steps.{le_good, le_high, le_low}
 use Rattle.telegram.proofs.reader.Reader.on_le.Goals as goal
 

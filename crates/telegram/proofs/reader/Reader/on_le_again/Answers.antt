@@ -1,4 +1,4 @@
-use Rattle.std.proofs.Common.{◌∙◌, arith, rules}
+use Rattle.std.proofs.Common.{◌∙◌, arith}
 use Rattle.telegram.proofs.Steps.{again_good, again_off}
 use Rattle.telegram.proofs.reader.Reader.on_le_again.Goals as goal
 

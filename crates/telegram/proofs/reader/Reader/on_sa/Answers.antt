@@ -1,4 +1,4 @@
-use Rattle.std.proofs.Common.{◌∙◌, rules}
+use Rattle.std.proofs.Common.{◌∙◌}
 use Rattle.telegram.proofs.Steps.{sa_plain, sa_plain_off, sa_marked, sa_marked_off}
 use Rattle.telegram.proofs.reader.Reader.on_sa.Goals as goal
 

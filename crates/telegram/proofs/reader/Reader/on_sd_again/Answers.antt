@@ -1,4 +1,4 @@
-use Rattle.std.proofs.Common.{◌∙◌, rules}
+use Rattle.std.proofs.Common.{◌∙◌}
 use Rattle.telegram.proofs.Steps.{sd_good, sd_off}
 use Rattle.telegram.proofs.reader.Reader.on_sd_again.Goals as goal
 

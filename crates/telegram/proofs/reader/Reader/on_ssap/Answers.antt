@@ -1,4 +1,4 @@
-use Rattle.std.proofs.Common.{◌∙◌, rules}
+use Rattle.std.proofs.Common.{◌∙◌}
 use Rattle.telegram.proofs.Steps.{ssap_good}
 use Rattle.telegram.proofs.reader.Reader.on_ssap.Goals as goal
 

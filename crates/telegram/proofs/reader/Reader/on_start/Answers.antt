@@ -1,4 +1,4 @@
-use Rattle.std.proofs.Common.{◌∙◌, rules}
+use Rattle.std.proofs.Common.{◌∙◌}
 use Rattle.telegram.proofs.Steps.{start_sd1, start_sd3, start_sd4, start_sd2, start_off}
 use Rattle.telegram.proofs.reader.Reader.on_start.Goals as goal
 

@@ -1,4 +1,3 @@
-use Rattle.std.proofs.Common.{rules}
 use Rattle.telegram.specs.Reading.{status}
 use Rattle.telegram.proofs.reader.Reader.status.Goals as goal
 

@@ -1,4 +1,4 @@
-use Rattle.std.proofs.Common.{◌∙◌, rules}
+use Rattle.std.proofs.Common.{◌∙◌}
 use Rattle.telegram.proofs.Steps.{at_phase, done_off, off_off}
 use Rattle.telegram.proofs.reader.Reader.step.Goals as goal
 

@@ -1,4 +1,4 @@
-use Rattle.std.proofs.Common.{◌∙◌, arith, rules}
+use Rattle.std.proofs.Common.{◌∙◌, arith}
 use Rattle.telegram.proofs.Steps.{data_room, data_step}
 use Rattle.telegram.proofs.reader.Reader.take_data.Goals as goal
 

@@ -1,4 +1,3 @@
-use Rattle.std.proofs.Common.{rules}
 use Rattle.telegram.specs.Reading.{takes_data}
 use Rattle.telegram.proofs.reader.Reader.takes_data.Goals as goal
 

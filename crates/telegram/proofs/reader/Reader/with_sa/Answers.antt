@@ -1,4 +1,3 @@
-use Rattle.std.proofs.Common.{rules}
 use Rattle.telegram.proofs.reader.Reader.with_sa.Goals as goal
 
 pub returns : goal.returns

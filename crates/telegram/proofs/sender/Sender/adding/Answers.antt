@@ -1,4 +1,3 @@
-use Rattle.std.proofs.Common.{rules}
 use Rattle.telegram.proofs.sender.Sender.adding.Goals as goal
 
 pub returns : goal.returns

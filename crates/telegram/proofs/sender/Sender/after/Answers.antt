@@ -1,4 +1,3 @@
-use Rattle.std.proofs.Common.{rules}
 use Rattle.telegram.proofs.sender.Sender.after.Goals as goal
 
 pub returns-in-Start : goal.returns-in-Start

@@ -1,4 +1,4 @@
-use Rattle.std.proofs.Common.{rules, le-ltb, lt-ltb}
+use Rattle.std.proofs.Common.{le-ltb, lt-ltb}
 use Rattle.telegram.proofs.sender.Sender.after_in_body.Goals as goal
 
 pub returns-then-self : goal.returns-then-self

@@ -1,4 +1,3 @@
-use Rattle.std.proofs.Common.{rules}
 use Rattle.telegram.proofs.sender.Sender.asks.Goals as goal
 
 pub returns-in-Body : goal.returns-in-Body

@@ -1,5 +1,5 @@
 -- `telegram::sender::Sender::give` meets its contract.
-use Rattle.std.proofs.Common.{sym, ap, ◌∙◌, arith, rules}
+use Rattle.std.proofs.Common.{sym, ap, ◌∙◌, arith}
 use Rattle.telegram.specs.declared.sender.Sender.{Sender}
 use Rattle.telegram.proofs.Sends.{asked_below, sent_asked}
 use Rattle.telegram.proofs.sender.Sender.give.Goals as goal

@@ -1,4 +1,3 @@
-use Rattle.std.proofs.Common.{rules}
 use Rattle.telegram.proofs.sender.Sender.octet.Goals as goal
 
 pub returns-in-Le : goal.returns-in-Le

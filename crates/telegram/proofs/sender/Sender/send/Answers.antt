@@ -1,5 +1,4 @@
 use Rattle.telegram.specs.Sending.{sent}
-use Rattle.std.proofs.Common.{rules}
 use Rattle.telegram.proofs.sender.Sender.send.Goals as goal
 
 pub returns : goal.returns

@@ -3,7 +3,6 @@ use mathlib.Core.Path.{refl}
 use mathlib.Core.Logic.{inl, inr}
 use Rattle.window.specs.Table.{table}
 use Rattle.window.proofs.Found.{reads_at, reads_nothing, reads_none}
-use borrow.Author.Rules.{rules}
 use Rattle.window.proofs.command.Command.reading.Goals as goal
 
 pub returns-then-address-gt-LAST : goal.returns-then-address-gt-LAST
@@ -12,16 +11,16 @@ returns-then-address-gt-LAST c = reads_none _ _ c.if-address-gt-LAST.true
 pub returns-in-0 : goal.returns-in-0
 unfolding table
 returns-in-0 c = elim c.in-0.is [
-      | inl e ↦ reads_at _ _ c.cell-cell.ensures 0 e (λ k. refl)
-      | inr e ↦ reads_at _ _ c.cell-cell.ensures 2 e (λ k. refl)
-    ]
+  | inl e ↦ reads_at _ _ c.cell-cell.ensures 0 e (λ k. refl)
+  | inr e ↦ reads_at _ _ c.cell-cell.ensures 2 e (λ k. refl)
+]
 
 pub returns-in-1 : goal.returns-in-1
 unfolding table
 returns-in-1 c = elim c.in-1.is [
-      | inl e ↦ reads_at _ _ c.cell-cell.ensures 1 e (λ k. refl)
-      | inr e ↦ reads_at _ _ c.cell-cell.ensures 3 e (λ k. refl)
-    ]
+  | inl e ↦ reads_at _ _ c.cell-cell.ensures 1 e (λ k. refl)
+  | inr e ↦ reads_at _ _ c.cell-cell.ensures 3 e (λ k. refl)
+]
 
 pub returns-in-9 : goal.returns-in-9
 unfolding table

@@ -5,7 +5,6 @@ use mathlib.Core.Path.{refl, ap}
 use Rattle.rules.specs.Call.{acknowledge}
 use Rattle.window.specs.Table.{whole, calls, table}
 use Rattle.window.proofs.Found.{writes_at, writes_nothing, writes_none}
-use borrow.Author.Rules.{rules}
 use Rattle.window.proofs.command.Command.writing.Goals as goal
 
 pub returns-then-address-gt-LAST : goal.returns-then-address-gt-LAST

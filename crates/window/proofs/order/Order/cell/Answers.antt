@@ -1,7 +1,6 @@
 -- `window::order::Order::cell` meets its contract.
 use mathlib.Core.Path.{sym}
 use Rattle.window.proofs.Orders.{stays, exchanged_bit}
-use borrow.Author.Rules.{rules}
 use Rattle.window.proofs.order.Order.cell.Goals as goal
 
 pub returns-then-address-gt3 : goal.returns-then-address-gt3
