@@ -1,5 +1,4 @@
--- The channels in the state part (document 02, Req 08): a row of sixteen octets for each field, channel n's at the row's place + n; and behind the
--- rows the newest poll that drew a response.
+-- The channels in the state part (document 02, Req 08): a row of sixteen octets for each field, channel n's at the row's place + n.
 use Rattle.std.specs.Prelude.{ℕ, suc, ◌+◌, ◌*◌, List, [], ◌∷◌, get_or, set}
 use Rattle.channels.specs.declared.channel.Channel.{Channel}
 use Rattle.channels.specs.declared.poll.Poll.{Poll}
@@ -55,7 +54,7 @@ wrote m n r (x ∷ xs) = wrote (set m (cell r n) x) n (suc r) xs
 unfoldable pub saved : List ℕ → ℕ → Channel → List ℕ
 saved m n c = wrote m n 0 (image_of c)
 
--- where the poll lies: its channel, and behind that its SSAP; any value is a state
+-- where the newest poll that drew a response is to lie, once a station keeps it (no call does yet): its channel, and behind that its SSAP
 abbrev pub poll_at : ℕ
 poll_at = 192
 
