@@ -1,2 +1,0 @@
-cd /work/hd/try && gcc -std=c99 -O2 -Wall -Wextra -I. lists.c /work/hd/libe/libcard.a -o lists && ./lists names08 2>&1 | tail -3 && ./lists big/names07 2>&1 | tail -1
-cd b && gcc -std=c99 -O2 -I. bench.c workload.c /work/hd/libe/libcard.a -Wl,-z,now -o bench1 && valgrind --tool=callgrind --callgrind-out-file=c1 ./bench1 200 > log1 2>&1; awk -f instructions.awk c1 kind=before c0 2>&1 > now.txt; awk '$(NF-1)!=$NF' now.txt
