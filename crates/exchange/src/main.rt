@@ -1,22 +1,19 @@
 // An exchange on the bench. One memory is carried by the exported calls alone; in the other the state is unpacked, held in
 // a local, lent for every octet and Tick and packed at the end. What the exported calls then answer of each is printed.
 #![tactic(auto)]
-use libc::STDOUT_FILENO;
+
 use state::answer::Answer;
 use station::calls;
+use std::io;
 
 // A telegram after a gap, then Ticks, by the exported calls.
 fn take_turn(memory: &mut [u8], telegram: &[u8], count: usize) {
     calls::gap(memory);
-    let mut i: usize = 0;
-    while i < telegram.len() {
-        calls::octet(memory, telegram[i], false);
-        i = i + 1;
+    for octet in telegram {
+        calls::octet(memory, *octet, false);
     }
-    let mut n: usize = 0;
-    while n < count {
+    for _ in 0..count {
         calls::tick(memory);
-        n = n + 1;
     }
 }
 
@@ -31,48 +28,43 @@ fn set_up(memory: &mut [u8]) {
     calls::judge_configuration(memory, 1);
 }
 
-fn print_answer(answer: Answer) {
+fn print_answer(rt: &impl Print, answer: Answer) -> io::Result<()> {
     match answer {
-        Answer::Value(n) => {
-            io::print_hex(STDOUT_FILENO, n as u64, 3);
-            io::write_all(STDOUT_FILENO, b"\n");
-        }
-        Answer::Refused(why) => {
-            io::write_all(STDOUT_FILENO, b"refused\n");
-        }
+        Answer::Value(n) => println!(rt; "{n:03x}"),
+        Answer::Refused(_) => println!(rt; "refused"),
     }
 }
 
 // The event word, take outputs, the output, and the reply that is left, with the answer that none is.
-fn print_seen(memory: &mut [u8]) {
-    print_answer(calls::events(memory));
-    print_answer(calls::take(memory));
-    print_answer(calls::read(memory, 1, 0));
-    let mut i: usize = 0;
-    while i < 11 {
-        print_answer(calls::send(memory));
-        i = i + 1;
+fn print_seen(rt: &impl Print, memory: &mut [u8]) -> io::Result<()> {
+    print_answer(rt, calls::events(memory))?;
+    print_answer(rt, calls::take(memory))?;
+    print_answer(rt, calls::read(memory, 1, 0))?;
+    for _ in 0..11 {
+        print_answer(rt, calls::send(memory))?;
     }
+    Ok(())
 }
 
 // Two Data_Exchange telegrams with count Ticks after each, on both memories. The frame count bit alternates, so that none is a repeat.
-fn exchange(count: usize) {
+fn exchange(rt: &impl Print, count: usize) -> io::Result<()> {
     let first = b"\x68\x04\x04\x68\x05\x02\x5D\x7A\xDE\x16";
     let second = b"\x68\x04\x04\x68\x05\x02\x7D\x7B\xFF\x16";
     let mut packed = [0u8; 1536];
     set_up(&mut packed);
     take_turn(&mut packed, first, count);
     take_turn(&mut packed, second, count);
-    print_seen(&mut packed);
+    print_seen(rt, &mut packed)?;
     let mut lent = [0u8; 1536];
     set_up(&mut lent);
     if lent::bench::exchange(&mut lent, first, second, count) {
-        print_seen(&mut lent);
+        print_seen(rt, &mut lent)?;
     }
+    Ok(())
 }
 
-fn main() {
-    exchange(3);
+fn main(rt: HostRuntime) -> io::Result<()> {
+    exchange(&rt, 3)?;
     // the watchdog runs out
-    exchange(100);
+    exchange(&rt, 100)
 }
