@@ -11,39 +11,38 @@
 // refuses as damaged.
 // A line that is none of these gets a question mark and its number.
 #![tactic(auto)]
+
 mod begin;
 mod call;
 mod text;
 
 use call::{Call, Said};
-use libc::{STDIN_FILENO, STDOUT_FILENO};
+use std::io;
+use std::io::Read;
 use text::Span;
 
-fn print_number(n: u64) {
-    io::print_decimal(STDOUT_FILENO, n);
-    io::write_all(STDOUT_FILENO, b"\n");
+fn print_number(rt: &impl Print, n: u64) -> io::Result<()> {
+    println!(rt; "{n}")
 }
 
 // A refusal's number is an octet at most; an answer below that would be none.
-fn print_answer(answer: i64) {
+fn print_answer(rt: &impl Print, answer: i64) -> io::Result<()> {
     if 0 <= answer {
-        print_number(answer as u64);
-        return;
+        return print_number(rt, answer as u64);
     }
     if answer < -255 {
-        io::write_all(STDOUT_FILENO, b"? no answer\n");
-        return;
+        return println!(rt; "? no answer");
     }
-    io::write_all(STDOUT_FILENO, b"-");
-    print_number((0 - answer) as u64);
+    print!(rt; "-")?;
+    print_number(rt, (0 - answer) as u64)
 }
 
-fn print_said(said: Said, line: usize) {
+fn print_said(rt: &impl Print, said: Said, line: usize) -> io::Result<()> {
     match said {
-        Said::Answered(answer) => print_answer(answer),
+        Said::Answered(answer) => print_answer(rt, answer),
         Said::Unknown => {
-            io::write_all(STDOUT_FILENO, b"? line ");
-            print_number(line as u64);
+            print!(rt; "? line ")?;
+            print_number(rt, line as u64)
         }
     }
 }
@@ -57,52 +56,62 @@ fn run_on(memory: &mut [u8], len: usize, call: Call) -> Said {
 }
 
 // One line: its call and what it says. The length of the memory from then on.
-fn one_line(memory: &mut [u8], len: usize, source: &[u8], span: Span, line: usize) -> usize {
+fn one_line(
+    rt: &impl Print,
+    memory: &mut [u8],
+    len: usize,
+    source: &[u8],
+    span: Span,
+    line: usize,
+) -> io::Result<usize> {
     let verb = text::word(source, span.from, span.to);
     if text::is_empty(verb) {
-        return len;
+        return Ok(len);
     }
     if text::octet_at(source, verb.from) == b'#' {
-        return len;
+        return Ok(len);
     }
     if text::is_word(source, verb, b"start") {
         let begun = begin::begin(memory, len, source, verb.to, span.to);
         let said = begun.said;
-        print_said(said, line);
-        return begun.len;
+        print_said(rt, said, line)?;
+        return Ok(begun.len);
     }
     print_said(
+        rt,
         run_on(memory, len, call::call_of(source, verb, span.to)),
         line,
-    );
-    len
+    )?;
+    Ok(len)
 }
 
 // Every line of a text.
-fn replay(memory: &mut [u8], source: &[u8]) {
+fn replay(rt: &impl Print, memory: &mut [u8], source: &[u8]) -> io::Result<()> {
     let mut len = 0;
     let mut from = 0;
     let mut lines = 1;
-    let mut at = 0;
-    while at < source.len() {
+    for at in 0..source.len() {
         if source[at] == b'\n' {
-            len = one_line(memory, len, source, Span { from: from, to: at }, lines);
+            len = one_line(rt, memory, len, source, Span { from: from, to: at }, lines)?;
             lines += 1;
             from = at + 1;
         }
-        at += 1;
     }
-    one_line(memory, len, source, Span { from: from, to: at }, lines);
+    let to = source.len();
+    one_line(rt, memory, len, source, Span { from: from, to: to }, lines)?;
+    Ok(())
 }
 
 // What is read at once is all that is replayed, and the text says where there is more.
-fn main() {
-    let mut buffer = io::large_buffer();
-    let n = io::read_full(STDIN_FILENO, &mut buffer);
+fn main(rt: HostRuntime) -> io::Result<()> {
+    let mut reader = rt.reader();
+    let mut source = Vec::new(rt.alloc());
+    reader.by_ref().take(65536).read_to_end(&mut source)?;
     let mut memory = [0u8; 16384];
-    replay(&mut memory, &buffer[..n]);
-    let mut more = [0u8; 1];
-    if 0 < io::read_full(STDIN_FILENO, &mut more) {
-        io::write_all(STDOUT_FILENO, b"? longer than 65536 octets\n");
+    replay(&rt, &mut memory, &source)?;
+    let mut more = Vec::new(rt.alloc());
+    if 0 < reader.take(1).read_to_end(&mut more)? {
+        println!(rt; "? longer than 65536 octets")?;
     }
+    Ok(())
 }

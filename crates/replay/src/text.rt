@@ -32,26 +32,22 @@ pub fn is_empty(word: Span) -> bool {
 
 // The first position that is no space. What ends a line in other systems counts as a space.
 fn skip_spaces(text: &[u8], from: usize, to: usize) -> usize {
-    let mut at = from;
-    while at < to {
+    for at in from..to {
         if 32 < octet_at(text, at) {
             return at;
         }
-        at += 1;
     }
-    at
+    from.max(to)
 }
 
 // The first position that is a space.
 fn skip_word(text: &[u8], from: usize, to: usize) -> usize {
-    let mut at = from;
-    while at < to {
+    for at in from..to {
         if octet_at(text, at) <= 32 {
             return at;
         }
-        at += 1;
     }
-    at
+    from.max(to)
 }
 
 // The first word between two positions, empty where there is none.
@@ -71,12 +67,10 @@ pub fn is_word(text: &[u8], word: Span, name: &[u8]) -> bool {
     if word.to - word.from != name.len() {
         return false;
     }
-    let mut i = 0;
-    while i < name.len() {
+    for i in 0..name.len() {
         if octet_at(text, word.from + i) != name[i] {
             return false;
         }
-        i += 1;
     }
     true
 }
@@ -135,8 +129,7 @@ pub fn number_of(text: &[u8], word: Span) -> Number {
         return no_number();
     }
     let mut value: u64 = 0;
-    let mut at = word.from;
-    while at < word.to {
+    for at in word.from..word.to {
         let digit = decimal_digit(octet_at(text, at));
         if 9 < digit {
             return no_number();
@@ -145,7 +138,6 @@ pub fn number_of(text: &[u8], word: Span) -> Number {
         if 4294967295 < value {
             return no_number();
         }
-        at += 1;
     }
     Number {
         ok: true,
