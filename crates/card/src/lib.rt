@@ -167,7 +167,7 @@ pub fn dp_leave_master(memory: &mut [u8]) -> i64
     answer.code()
 }
 
-// What is behind an access of the window. What is long is made by the exported call itself, so that its code stands once.
+// What is behind an access of the window. What is long is made by the function that C gets for it, so that its code stands once.
 fn command(memory: &mut [u8], command: Command) -> i64
     ensures { Returns (entered_by memory.old (commanded (unpacked memory.old).control command)) result memory.new }
 {

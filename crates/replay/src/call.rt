@@ -1,4 +1,4 @@
-// A line as a call, and the exported call on the memory.
+// A line as a call, and the function that C gets for it on the memory.
 use crate::text;
 use crate::text::{Number, Span};
 

@@ -1,4 +1,4 @@
-// Reads a list of calls, one to a line, makes each by its exported function and writes what it answers: a value, or a refusal's number
+// Reads a list of calls, one to a line, makes each by the function that C gets and writes what it answers: a value, or a refusal's number
 // negated.
 // Numbers are decimal, octets two hexadecimal digits. Empty lines and lines that begin with # are skipped.
 //   start MEMORY ADDRESS IDENT OUTPUTS INPUTS PARAMETERS CONFIGURATION DIAGNOSIS SLICE CHANNELS

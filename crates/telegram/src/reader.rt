@@ -54,6 +54,9 @@ pub struct Reader {
 }
 
 impl Reader {
+    // The greatest LE of a telegram.
+    pub const LAST_LE: u8 = 249;
+
     // After a gap: the next octet may begin a telegram.
     pub fn start() -> Reader
         ensures { result ≡ start }
@@ -180,7 +183,7 @@ impl Reader {
         if b < 4 {
             return Reader::off();
         }
-        if 249 < b {
+        if Self::LAST_LE < b {
             return Reader::off();
         }
         Reader::begun(Phase::LeAgain, Kind::Sd2, b - 3)

@@ -9,6 +9,9 @@ pub enum Order {
 }
 
 impl Order {
+    // The last address of the first two words.
+    pub const LAST_EXCHANGED: u32 = 3;
+
     // By its number: 0 is Intel's, any other Motorola's.
     pub fn of(number: u32) -> Self
         ensures { result ≡ order_of number }
@@ -26,7 +29,7 @@ impl Order {
         match self {
             Self::Intel => address,
             Self::Motorola => {
-                if 3 < address {
+                if Self::LAST_EXCHANGED < address {
                     return address;
                 }
                 address ^ 1

@@ -5,8 +5,8 @@ use Rattle.telegram.proofs.reader.Reader.on_le.Goals as goal
 pub returns-then-b-lt4 : goal.returns-then-b-lt4
 returns-then-b-lt4 c = c.off.ensures ∙ le_low _ _ c.if-b-lt4.true
 
-pub returns-then-b-gt249 : goal.returns-then-b-gt249
-returns-then-b-gt249 c = c.off-then-b-gt249.ensures ∙ le_high _ _ c.if-b-lt4.false c.if-b-gt249.true
+pub returns-then-b-gt-LAST_LE : goal.returns-then-b-gt-LAST_LE
+returns-then-b-gt-LAST_LE c = c.off-then-b-gt-LAST_LE.ensures ∙ le_high _ _ c.if-b-lt4.false c.if-b-gt-LAST_LE.true
 
 pub returns : goal.returns
-returns c = c.begun.ensures ∙ le_good _ _ c.if-b-lt4.false c.if-b-gt249.false
+returns c = c.begun.ensures ∙ le_good _ _ c.if-b-lt4.false c.if-b-gt-LAST_LE.false
