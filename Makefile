@@ -13,6 +13,8 @@
 # has a column with their instructions. LISTS=folder takes the lists of calls from another folder.
 
 PROVED_LIB := target/staticlib/libcard.a
+# A library for every x86-64: rt's default needs the instructions of its second level, and a library does not look for them.
+ANY_CPU := --cpu x86-64
 LIB ?= $(PROVED_LIB)
 LENT ?= target/staticlib/liblent.a
 BEFORE :=
@@ -54,9 +56,15 @@ run: $(OUT)/card
 
 include cross/cross.mk
 
-# A library is proved again when something under crates/ is newer than it; that takes minutes.
-target/staticlib/lib%.a: crates.txt $(shell find crates -type f \( -name '*.rt' -o -name '*.antt' \))
-	rt staticlib $*
+# The sources of crates; beside them rt leaves what it made, in out/.
+sources = $(shell find $(wildcard $(1:%=%/src) $(1:%=%/specs) $(1:%=%/proofs)) -type f)
+
+# A library is proved again when something under crates/ is newer than it; that takes minutes. Its exports stand in a crate
+# of their own, which ends in _c, since a crate is a library for other crates or for C, not both.
+target/staticlib/lib%.a: crates.txt $(call sources,crates/*)
+	cd crates/$*_c && rt lib $(ANY_CPU)
+	mkdir -p $(@D)
+	cp crates/$*_c/out/lib$*_c.a $@
 
 $(OUT):
 	mkdir -p $@
@@ -84,15 +92,12 @@ require_before = [ -f $(1) ] || { echo "BEFORE: $(1) is not there; in $(BEFORE),
 # Another version is counted with the same telegrams, but what it makes of a repeat is its own, and a station that it refuses for a length
 # of 0, or for a memory that its channels need, is left out.
 $(OUT)/before: bench/bench.c $(WORKLOAD) FORCE | $(OUT)
-	@$(call require_before,$(BEFORE)/$(PROVED_LIB),rt staticlib card)
+	@$(call require_before,$(BEFORE)/$(PROVED_LIB),make $(PROVED_LIB))
 	$(CC) $(CPPFLAGS) $(CFLAGS) -DOTHER_VERSION $< bench/workload.c $(BEFORE)/$(PROVED_LIB) -Wl,-z,now -o $@
 
-# What the lookup of each service point says.
-target/bin/lookups: crates.txt $(shell find crates/points crates/lookups -type f \( -name '*.rt' -o -name '*.antt' \))
-	rt check lookups
-
-$(OUT)/points: target/bin/lookups | $(OUT)
-	$< >$@
+# What the lookup of each service point says; what rt says itself goes to standard error.
+$(OUT)/points: crates.txt $(call sources,crates/points crates/lookups) | $(OUT)
+	(cd crates/lookups && rt run) >$@
 
 $(OUT)/lent: bench/lent.c bench/lent.h $(WORKLOAD) $(LIB) $(LENT) $(OUT)/library | $(OUT)
 	$(CC) $(CPPFLAGS) $(CFLAGS) $< bench/workload.c $(LENT) $(LIB) -Wl,-z,now -o $@
@@ -122,7 +127,7 @@ check-header: $(OUT)/header-c99 $(OUT)/header-c++17
 
 # The headers declare what the crates export, argument for argument: nothing else would notice a difference.
 check-prototypes: | $(OUT)
-	awk -f examples/prototypes.awk crates/card/src/lib.rt crates/lent/src/exports.rt >$(OUT)/exported
+	awk -f examples/prototypes.awk crates/card_c/src/lib.rt crates/lent_c/src/lib.rt >$(OUT)/exported
 	awk -f examples/prototypes.awk include/dp.h bench/lent.h >$(OUT)/declared
 	diff $(OUT)/exported $(OUT)/declared
 

@@ -15,11 +15,12 @@ CARDS := $(or $(CARD),$(PROCESSORS))
 $(if $(filter-out $(PROCESSORS),$(CARDS)),$(error CARD is "$(CARD)"; known are $(PROCESSORS)))
 
 # Looked for only where a recipe needs it.
-TOOLCHAIN = $(patsubst %/docs/START-HERE.md,%,$(shell rt doc))/on/$(shell uname -m)/toolchain/bin
+TOOLCHAIN = $(patsubst %/START-HERE.md,%,$(shell rt doc))/toolchain/bin
 
 # What the toolchain itself compiles the module with, beside the processor's own words.
 IR_FLAGS := -ffunction-sections -fdata-sections -mllvm -trap-unreachable -mllvm -no-trap-after-noreturn \
-    --no-default-config -Werror
+    -mllvm -disable-machine-licm -mllvm -disable-postra-machine-licm -mllvm -sink-common-insts=false \
+    --no-default-config -no-canonical-prefixes -fintegrated-cc1 -fno-crash-diagnostics -Werror
 
 # A program that hangs has failed.
 LIMIT := timeout 600
@@ -70,15 +71,18 @@ $(PROCESSORS:%=$(X)/%/asked): $(X)/%/asked: FORCE
 
 # The module's text, and the object for x86-64.
 $(X)/x86-64/card.ll: $(PROVED_LIB) $(X)/toolchain cross/toolchain cross/keep-module cross/widths.awk cross/cross.mk
-	cross/keep-module $< $(@D)
+	cross/keep-module $< $(@D) $(ANY_CPU)
 
 # The text names x86-64 in four places. In two of them the processor's own empty module tells what belongs there; the
-# processor's name and the probing of the stack, by x86-64's instructions, are left out.
+# processor's name and the probing of the stack, by x86-64's instructions, are left out. Where a number of 64 bits lies at
+# multiples of eight octets, two numbers lie together as on x86-64 (widths.awk).
 $(PROCESSORS:%=$(X)/%/card.o): $(X)/%/card.o: $(X)/x86-64/card.ll $(X)/%/asked cross/processors.mk
 	$(TOOLCHAIN)/clang $($*_FLAGS) $(CARD_FLAGS) -S -emit-llvm -x c /dev/null -o $(@D)/empty.ll
+	@grep -q '^target datalayout.*-i64:64[-"]' $(@D)/empty.ll || { \
+	    echo "make: $* lays numbers of 64 bits out in another way than x86-64" >&2; exit 1; }
 	sed -e "s|^target datalayout.*|$$(grep '^target datalayout' $(@D)/empty.ll)|" \
 	    -e "s|^target triple.*|$$(grep '^target triple' $(@D)/empty.ll)|" \
-	    -e 's/ "probe-stack"="inline-asm"//' -e 's/ "target-cpu"="x86-64"//' \
+	    -e 's/ "probe-stack"="inline-asm" "stack-probe-size"="[0-9]*"//' -e 's/ "target-cpu"="x86-64"//' \
 	    -e '$(if $($*_TEXT),$$a $($*_TEXT))' $< >$(@D)/card.ll
 	@! grep -in 'x86' $(@D)/card.ll || { echo "make: $(@D)/card.ll still names x86-64, as told above" >&2; exit 1; }
 	$(TOOLCHAIN)/clang $($*_FLAGS) $(CARD_FLAGS) $(IR_FLAGS) -fstack-usage -c -x ir $(@D)/card.ll -o $@

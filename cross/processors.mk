@@ -10,7 +10,8 @@
 PROCESSORS := cortex-m4 cortex-m0plus aarch64 armv7 riscv64
 
 # Which of these an object needs depends on the flags, so the lists have what every C library has.
-BARE_NEEDS := __aeabi_memclr __aeabi_memcpy __aeabi_memcpy4 __aeabi_memmove
+BARE_NEEDS := __aeabi_memclr __aeabi_memclr4 __aeabi_memclr8 __aeabi_memcpy __aeabi_memcpy4 __aeabi_memcpy8 __aeabi_memmove \
+    __aeabi_memmove4 __aeabi_memmove8
 LINUX_NEEDS := memset memcpy memmove
 
 BARE := --specs=rdimon.specs -T cross/bare/board.ld cross/bare/start.c -Wl,--no-warn-execstack
@@ -37,7 +38,8 @@ cortex-m0plus_CC := arm-none-eabi-gcc -mcpu=cortex-m0plus -mthumb $(BARE)
 cortex-m0plus_RUN := cross/board cortex-m0
 cortex-m0plus_TOOLS := $(BARE_TOOLS)
 
-aarch64_FLAGS := -O3 --target=aarch64-linux-gnu -mgeneral-regs-only
+# The last words are the toolchain's own on this processor.
+aarch64_FLAGS := -O3 --target=aarch64-linux-gnu -mgeneral-regs-only -mllvm -aarch64-load-store-renaming=false
 aarch64_NEEDS := $(LINUX_NEEDS)
 aarch64_CC := aarch64-linux-gnu-gcc -static
 aarch64_RUN := qemu-aarch64

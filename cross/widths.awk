@@ -1,16 +1,21 @@
 # Says whether the module's text means the same with pointers of 32 bits as with pointers of 64.
 #
 # Every line has to be of a form that is named at the end; any other one is told, and the module is refused. So no pointer
-# is made a number or compared, no number is made a pointer, every step in memory counts octets, there is no global and
-# no assembly text, and what is called are functions of the module, by their names and with the arguments that they are
-# defined for, and two of LLVM's own.
+# is made a number, or compared with anything but null, no number is made a pointer, every step in memory counts octets,
+# there is no global and no assembly text, and what is called are functions of the module, by their names and with the
+# arguments that they are defined for, and three of LLVM's own.
 #
 # How wide a pointer is could then still be seen where one lies in memory. It may lie in two kinds of places only:
 #   a slot     alloca ptr, stored to and loaded from as a pointer, and its address goes nowhere;
-#   a slice    16 octets, a pointer and from octet 8 on a length: copied whole, handed over by its address, and never
-#              taken for anything else. The place of its length is stored to and loaded from as a number of 64 bits.
+#   a slice    16 octets, a pointer and from octet 8 on a length: copied whole, cleared whole, handed over by its address,
+#              and never taken for anything else. The place of its length is stored to and loaded from as a number of 64
+#              bits.
 # With a pointer of 32 bits, octets 4 to 7 of a slice are copied and never looked at. That a step stays inside what was
-# lent, so that 32 bits hold it, is proved of the program. How accesses are aligned is not looked at here.
+# lent, so that 32 bits hold it, is proved of the program; where C lends nothing, by a null pointer, an exported function
+# steps 4096 octets from it, and no octet is accessed there. How accesses are aligned is not looked at here.
+#
+# Two numbers that a function gives together lie in memory as the processor lays them out, the second at the multiple of
+# its size; cross.mk sees to it that every processor does so for numbers of 64 bits.
 #
 # Beside that, no function calls itself, also not by way of others: stack.awk relies on it.
 
@@ -44,7 +49,8 @@ function relate_arguments(text,    callee, argument, count, types, i) {
     types = substr(text, 1, RSTART - 2)
     count = split(substr(text, RSTART + RLENGTH), argument, ", ")
     if (text ~ /^define/) within = callee
-    sub(/.* /, "", types)
+    match(types, /([{] [^{}]* [}]|[^ ]+)$/)
+    types = substr(types, RSTART)
     for (i = 1; i <= count; i++) {
         types = types " " (match(argument[i], /^(ptr|i[0-9]+)/) ? substr(argument[i], 1, RLENGTH) : "")
         if (argument[i] ~ /^ptr / && variables_of(argument[i])) related(variable[1], callee i)
@@ -110,8 +116,8 @@ function check(n, text,    count) {
         refuse_special(n, 1, 1, "has its address kept")
     } else if (text ~ / = load ptr, /) {
         refuse_special(n, 1, 1, "is not a variable of its function")
-    } else if (text ~ / = load i64, /) {
-        if (!(variable[2] in length_of)) refuse_special(n, 2, 2, "is loaded as a number")
+    } else if (text ~ / = load (i64|[{] .*[}]), /) {
+        if (text ~ /[{]/ || !(variable[2] in length_of)) refuse_special(n, 2, 2, "is loaded as a number")
     } else if (text ~ /^  store i64 /) {
         if (!(variable[count] in length_of)) refuse_special(n, 1, count, "is a number or is stored to as one")
     } else if (text ~ / = getelementptr / && variable[2] in slice) {
@@ -119,6 +125,8 @@ function check(n, text,    count) {
         if (variable[1] in slice) tell(n, "a slice lies in a slice")
     } else if (text ~ /@llvm[.]memmove/ && text !~ /, i64 16, i1 false/) {
         refuse_special(n, 1, count, "is copied, but not as a whole")
+    } else if (text ~ /@llvm[.]memset/ && text !~ /, i64 16, i1 false/) {
+        refuse_special(n, 1, count, "is cleared, but not as a whole")
     } else if (text ~ /call [^@]*@/) {
         for (; count > 0; count--)
             if (!(variable[count] in slice)) refuse_special(n, count, count, "is handed over")
@@ -138,6 +146,7 @@ function is_one_of(forms, count,    i) {
 BEGIN {
     type = "i(1|8|16|32|64)"
     var = "%[A-Za-z0-9._]+"
+    pair = "[{] " type ", " type " [}]"
     value = "(" var "|-?[0-9]+|true|false)"
     name = "@(\"[a-z0-9_]+(::[A-Za-z0-9_]+)+\"|dp_[a-z_]+|llvm[.]memmove[.]p0[.]p0[.]i64|llvm[.]cttz[.]" type ")"
     given = "(ptr " var "|" type " " value ")"
@@ -146,23 +155,26 @@ BEGIN {
     plain = "([^@{}\"]|\"[^\"]*\")*"
 
     inner[++inners] = "^  " var " = alloca (ptr|" type "|\\[[0-9]?[0-9]?[0-9]?[0-9] x i8\\]), align [0-9]+$"
-    inner[++inners] = "^  " var " = load (ptr|" type ")" aligned "(, !range ![0-9]+)?(, !noundef ![0-9]+)?$"
+    inner[++inners] = "^  " var " = load (ptr|" type "|" pair ")" aligned "(, !range ![0-9]+)?(, !noundef ![0-9]+)?$"
     inner[++inners] = "^  store (ptr " var "|" type " " value ")" aligned "$"
     inner[++inners] = "^  " var " = getelementptr (inbounds )?(nuw )?i8, ptr " var ", i64 " value "$"
     inner[++inners] = "^  " var " = (add|sub|mul|shl)( nuw)?( nsw)? " type " " value ", " value "$"
     inner[++inners] = "^  " var " = (udiv|urem|lshr|and|or|xor) " type " " value ", " value "$"
     inner[++inners] = "^  " var " = icmp (eq|ne|ult|ule|ugt|uge) " type " " value ", " value "$"
+    inner[++inners] = "^  " var " = icmp eq ptr " var ", null$"
+    inner[++inners] = "^  " var " = extractvalue " pair " " var ", [01]$"
     inner[++inners] = "^  " var " = (zext|trunc|trunc nuw) " type " " value " to " type "$"
-    inner[++inners] = "^  (" var " = call " type "|call void) " name "\\((" given "(, " given ")*)?\\)$"
+    inner[++inners] = "^  call void @llvm[.]memset[.]p0[.]i64\\(ptr " var ", i8 0, i64 [0-9]+, i1 false\\)$"
+    inner[++inners] = "^  (" var " = call (" type "|" pair ")|call void) " name "\\((" given "(, " given ")*)?\\)$"
     inner[++inners] = "^  br (label " var "|i1 " value ", label " var ", label " var ")$"
     inner[++inners] = "^  switch " type " " value ", label " var " \\[$"
     inner[++inners] = "^    " type " -?[0-9]+, label " var "$"
-    inner[++inners] = "^  (\\]|unreachable|ret void|ret " type " " value ")$"
+    inner[++inners] = "^  (\\]|unreachable|ret void|ret " type " " value "|ret " pair " " var ")$"
 
     outer[++outers] = "^(}|;.*)?$"
     outer[++outers] = "^[A-Za-z0-9._]+:( +; preds = .*)?$"
     outer[++outers] = "^(source_filename|target datalayout|target triple) = \"[^\"]*\"$"
-    outer[++outers] = "^define (internal )?(noundef |zeroext )*(void|" type ") " name \
+    outer[++outers] = "^define (internal )?(noundef |zeroext )*(void|" type "|" pair ") " name \
         "\\((" wanted "(, " wanted ")*)?\\) #[0-9]+ {$"
     outer[++outers] = "^declare (void|" type ") @llvm[.][a-z0-9.]+\\([a-z0-9 ,()]*\\) #[0-9]+$"
     outer[++outers] = "^attributes #[0-9]+ = { " plain " }$"
