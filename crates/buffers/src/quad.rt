@@ -120,6 +120,7 @@ impl Quad {
 }
 
 // The places of fill, next, held and back that have that number; past the last number those of the first.
+#[tactic(auto, unfolding(crate::specs::Number::places_of4))]
 fn places(n: u8) -> [u8; 4]
     ensures { result ≡ places_of4 n }
 {

@@ -119,6 +119,7 @@ impl Triple {
 }
 
 // The places of fill, next and held that have that number; past the last number those of the first.
+#[tactic(auto, unfolding(crate::specs::Number::places_of))]
 fn places(n: u8) -> [u8; 3]
     ensures { result ≡ places_of n }
 {

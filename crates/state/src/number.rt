@@ -29,6 +29,7 @@ pub fn reading_number(case: reader::Phase) -> u8
 }
 
 // The case of a number; past the last number the last case.
+#[tactic(auto, unfolding(crate::specs::Number::reading_numbered))]
 pub fn reading_numbered(n: u8) -> reader::Phase
     ensures { result ≡ reading_numbered n }
 {
@@ -62,6 +63,7 @@ pub fn kind_number(case: Kind) -> u8
 }
 
 // The case of a number; past the last number the last case.
+#[tactic(auto, unfolding(crate::specs::Number::kind_numbered))]
 pub fn kind_numbered(n: u8) -> Kind
     ensures { result ≡ kind_numbered n }
 {
@@ -93,6 +95,7 @@ pub fn stage_number(case: Stage) -> u8
 }
 
 // The case of a number; past the last number the last case.
+#[tactic(auto, unfolding(crate::specs::Number::stage_numbered))]
 pub fn stage_numbered(n: u8) -> Stage
     ensures { result ≡ stage_numbered n }
 {
@@ -123,6 +126,7 @@ pub fn phase_number(case: control::Phase) -> u8
 }
 
 // The case of a number; past the last number the last case.
+#[tactic(auto, unfolding(crate::specs::Number::phase_numbered))]
 pub fn phase_numbered(n: u8) -> control::Phase
     ensures { result ≡ phase_numbered n }
 {
@@ -151,6 +155,7 @@ pub fn drawn_number(case: Drawn) -> u8
 }
 
 // The case of a number; past the last number the last case.
+#[tactic(auto, unfolding(crate::specs::Number::drawn_numbered))]
 pub fn drawn_numbered(n: u8) -> Drawn
     ensures { result ≡ drawn_numbered n }
 {

@@ -23,9 +23,6 @@ loop-n-preserved c = let n = c.loop-n.n in
       ap length c.save.ensures ∙ saved_length _ n (free xs n) ∙ c.loop-n.invariant.2,
     )
 
-pub shape_of-mem : goal.shape_of-mem
-shape_of-mem c = c.loop-n.invariant.2
-
 pub returns : goal.returns
 returns c = let e : c.loop-n.n ≡ channels = omega arith in
     c.loop-n.invariant.1 ∙ ap (set_up c.args.mem.now c.args.lengths.now) e

@@ -1,9 +1,6 @@
-use Rattle.points.proofs.Promises.{found_number, none_found}
+use Rattle.points.proofs.Promises.{none_found}
 use Rattle.rules.proofs.Points.{asked_nowhere}
 use Rattle.rules.proofs.requests.point_of.Goals as goal
-
-pub asked_at-requires : goal.asked_at-requires
-asked_at-requires c = found_number c.look_up-lookup.ensures c.in-Hit.is
 
 pub returns-in-None : goal.returns-in-None
 returns-in-None c = asked_nowhere c.args.r (none_found c.look_up-lookup.ensures c.in-None.is)

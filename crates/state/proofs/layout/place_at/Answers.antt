@@ -9,11 +9,5 @@ use Rattle.state.proofs.layout.place_at.Goals as goal
 below : (c : goal.After-rounded_up) → c.rounded_up.result * c.args.k ≤ 256 * 255
 below c = mul-le-mul {m₂ = 255} c.rounded_up.ensures.1 (omega arith)
 
-pub overflow_mul-result : goal.overflow_mul-result
-overflow_mul-result c = let u = below c in omega arith
-
-pub overflow_add-result : goal.overflow_add-result
-overflow_add-result c = let u = below c in omega arith
-
 pub returns : goal.returns
 returns c = ap (λ (n : ℕ). c.args.base + n * c.args.k) c.rounded_up.ensures.0

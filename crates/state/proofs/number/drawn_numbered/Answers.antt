@@ -1,40 +1,7 @@
 -- `state::number::drawn_numbered` meets its contract.
-use mathlib.Core.Path.{sym, ap}
 use Rattle.state.proofs.Count.{past, passed}
 use Rattle.state.specs.Number.{drawn_cases, drawn_numbered}
 use Rattle.state.proofs.number.drawn_numbered.Goals as goal
-
-pub returns-in-0 : goal.returns-in-0
-unfolding drawn_numbered
-returns-in-0 c = ap drawn_numbered (sym c.in-0.is)
-
-pub returns-in-1 : goal.returns-in-1
-unfolding drawn_numbered
-returns-in-1 c = ap drawn_numbered (sym c.in-1.is)
-
-pub returns-in-2 : goal.returns-in-2
-unfolding drawn_numbered
-returns-in-2 c = ap drawn_numbered (sym c.in-2.is)
-
-pub returns-in-3 : goal.returns-in-3
-unfolding drawn_numbered
-returns-in-3 c = ap drawn_numbered (sym c.in-3.is)
-
-pub returns-in-4 : goal.returns-in-4
-unfolding drawn_numbered
-returns-in-4 c = ap drawn_numbered (sym c.in-4.is)
-
-pub returns-in-5 : goal.returns-in-5
-unfolding drawn_numbered
-returns-in-5 c = ap drawn_numbered (sym c.in-5.is)
-
-pub returns-in-6 : goal.returns-in-6
-unfolding drawn_numbered
-returns-in-6 c = ap drawn_numbered (sym c.in-6.is)
-
-pub returns-in-7 : goal.returns-in-7
-unfolding drawn_numbered
-returns-in-7 c = ap drawn_numbered (sym c.in-7.is)
 
 pub returns-in_default : goal.returns-in_default
 unfolding drawn_numbered

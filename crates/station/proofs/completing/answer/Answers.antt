@@ -1,29 +1,7 @@
 -- `station::completing::answer` meets its contract.
-use Rattle.std.proofs.Common.{arith}
 use Rattle.state.specs.Unpack.{unpacked}
 use Rattle.station.proofs.CompletedOverMemory.{answered_over}
 use Rattle.station.proofs.completing.answer.Goals as goal
-
-pub carry_over-requires : goal.carry_over-requires
-carry_over-requires c = c.requires.0
-
-pub save_incoming-requires : goal.save_incoming-requires
-save_incoming-requires c = let k1 = c.carry_over.auto.mem in
-    let long = c.requires.0.long in
-    omega arith
-
-pub save_reply-requires : goal.save_reply-requires
-save_reply-requires c = let k1 = c.carry_over.auto.mem in
-    let k2 = c.save_incoming.auto.mem in
-    let long = c.requires.0.long in
-    omega arith
-
-pub keep_request-requires : goal.keep_request-requires
-keep_request-requires c = let k1 = c.carry_over.auto.mem in
-    let k2 = c.save_incoming.auto.mem in
-    let k3 = c.save_reply.auto.mem in
-    let long = c.requires.0.long in
-    omega arith
 
 pub returns : goal.returns
 returns c = let m = c.args.mem.now in

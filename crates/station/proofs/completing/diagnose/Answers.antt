@@ -1,30 +1,9 @@
 -- `station::completing::diagnose` meets its contract.
-use Rattle.std.proofs.Common.{refl, arith}
+use Rattle.std.proofs.Common.{refl}
 use Rattle.state.specs.Unpack.{unpacked}
 use Rattle.state.proofs.Damage.{fronted_same}
 use Rattle.station.proofs.CompletedOverMemory.{diagnosed_over}
 use Rattle.station.proofs.completing.diagnose.Goals as goal
-
-pub save_incoming-requires : goal.save_incoming-requires
-save_incoming-requires c = c.requires.0.long
-
-pub save_control-requires : goal.save_control-requires
-save_control-requires c = let read = c.save_incoming.auto.mem in
-    let long = c.requires.0.long in
-    omega arith
-
-pub save_chain-requires : goal.save_chain-requires
-save_chain-requires c = let read = c.save_incoming.auto.mem in
-    let changed = c.save_control.auto.mem in
-    let long = c.requires.0.long in
-    omega arith
-
-pub save_reply-requires : goal.save_reply-requires
-save_reply-requires c = let read = c.save_incoming.auto.mem in
-    let changed = c.save_control.auto.mem in
-    let linked = c.save_chain.auto.mem in
-    let long = c.requires.0.long in
-    omega arith
 
 pub returns : goal.returns
 returns c = let m = c.args.mem.now in

@@ -1,50 +1,9 @@
 -- `station::completing::exchange` meets its contract.
-use Rattle.std.proofs.Common.{refl, arith}
+use Rattle.std.proofs.Common.{refl}
 use Rattle.state.specs.Unpack.{unpacked}
 use Rattle.state.proofs.Damage.{fronted_same}
 use Rattle.station.proofs.CompletedOverMemory.{exchanged_over}
 use Rattle.station.proofs.completing.exchange.Goals as goal
-
-pub inputs-requires : goal.inputs-requires
-inputs-requires c = c.requires.0.long
-
-pub save_incoming-requires : goal.save_incoming-requires
-save_incoming-requires c = c.requires.0.long
-
-pub save_events-requires : goal.save_events-requires
-save_events-requires c = let k1 = c.save_incoming.auto.mem in
-    let long = c.requires.0.long in
-    omega arith
-
-pub save_ticks-requires : goal.save_ticks-requires
-save_ticks-requires c = let k1 = c.save_incoming.auto.mem in
-    let k2 = c.save_events.auto.mem in
-    let long = c.requires.0.long in
-    omega arith
-
-pub save_outputs-requires : goal.save_outputs-requires
-save_outputs-requires c = let k1 = c.save_incoming.auto.mem in
-    let k2 = c.save_events.auto.mem in
-    let k3 = c.save_ticks.auto.mem in
-    let long = c.requires.0.long in
-    omega arith
-
-pub save_inputs-requires : goal.save_inputs-requires
-save_inputs-requires c = let k1 = c.save_incoming.auto.mem in
-    let k2 = c.save_events.auto.mem in
-    let k3 = c.save_ticks.auto.mem in
-    let k4 = c.save_outputs.auto.mem in
-    let long = c.requires.0.long in
-    omega arith
-
-pub reply_exchange-requires : goal.reply_exchange-requires
-reply_exchange-requires c = let k1 = c.save_incoming.auto.mem in
-    let k2 = c.save_events.auto.mem in
-    let k3 = c.save_ticks.auto.mem in
-    let k4 = c.save_outputs.auto.mem in
-    let k5 = c.save_inputs.auto.mem in
-    let long = c.requires.0.long in
-    omega arith
 
 pub returns : goal.returns
 returns c = let m = c.args.mem.now in

@@ -1,23 +1,9 @@
 -- `station::completing::repeat` meets its contract.
-use Rattle.std.proofs.Common.{refl, arith}
+use Rattle.std.proofs.Common.{refl}
 use Rattle.state.specs.Unpack.{unpacked}
 use Rattle.state.proofs.Damage.{fronted_same}
 use Rattle.station.proofs.CompletedOverMemory.{repeated_over}
 use Rattle.station.proofs.completing.repeat.Goals as goal
-
-pub save_incoming-requires : goal.save_incoming-requires
-save_incoming-requires c = c.requires.0.long
-
-pub save_ticks-requires : goal.save_ticks-requires
-save_ticks-requires c = let read = c.save_incoming.auto.mem in
-    let long = c.requires.0.long in
-    omega arith
-
-pub save_reply-requires : goal.save_reply-requires
-save_reply-requires c = let read = c.save_incoming.auto.mem in
-    let refilled = c.save_ticks.auto.mem in
-    let long = c.requires.0.long in
-    omega arith
 
 pub returns : goal.returns
 returns c = let m = c.args.mem.now in

@@ -1,15 +1,6 @@
 -- `station::completing::reply_exchange` meets its contract.
-use Rattle.std.proofs.Common.{arith}
 use Rattle.station.proofs.ExchangeReplied.{drew_inputs, sends_inputs, drew_flag, sends_flag, drew_e5, sends_e5, replied_over}
 use Rattle.station.proofs.completing.reply_exchange.Goals as goal
-
-pub save_chain-requires : goal.save_chain-requires
-save_chain-requires c = c.requires
-
-pub save_reply-requires : goal.save_reply-requires
-save_reply-requires c = let kept = c.save_chain.auto.mem in
-    let long = c.requires in
-    omega arith
 
 pub returns-then-setup-ne0 : goal.returns-then-setup-ne0
 returns-then-setup-ne0 c = let z = c.if-setup-ne0.true in
@@ -22,14 +13,6 @@ returns-then-setup-ne0 c = let z = c.if-setup-ne0.true in
     c.save_chain.ensures
     c.save_reply.ensures
 
-pub save_chain-requires-then-control : goal.save_chain-requires-then-control
-save_chain-requires-then-control c = c.requires
-
-pub save_reply-requires-then-control : goal.save_reply-requires-then-control
-save_reply-requires-then-control c = let kept = c.save_chain-then-control.auto.mem in
-    let long = c.requires in
-    omega arith
-
 pub returns-then-control : goal.returns-then-control
 returns-then-control c = let z = c.if-setup-ne0.false in
     let f = c.if-control.true in
@@ -41,14 +24,6 @@ returns-then-control c = let z = c.if-setup-ne0.false in
     c.exchange_reply-then-control.ensures
     c.save_chain-then-control.ensures
     c.save_reply-then-control.ensures
-
-pub save_chain-requires-2 : goal.save_chain-requires-2
-save_chain-requires-2 c = c.requires
-
-pub save_reply-requires-2 : goal.save_reply-requires-2
-save_reply-requires-2 c = let kept = c.save_chain-2.auto.mem in
-    let long = c.requires in
-    omega arith
 
 pub returns : goal.returns
 returns c = let z = c.if-setup-ne0.false in

@@ -5,8 +5,5 @@ use Rattle.buffers.specs.declared.events.Events.{Events}
 use Rattle.station.proofs.Stepping.{answered}
 use Rattle.station.proofs.over_memory.events.Goals as goal
 
-pub events-events-requires : goal.events-events-requires
-events-events-requires c = c.requires.long
-
 pub returns : goal.returns
 returns c = answered _ _ _ c.requires _ (record { answers = ap (λ (x : Events). Value x.word) c.events-events.ensures; states = refl; leaves = refl })

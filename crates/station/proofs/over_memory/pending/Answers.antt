@@ -6,8 +6,5 @@ use Rattle.buffers.specs.Events.{pending_of}
 use Rattle.station.proofs.Stepping.{answered}
 use Rattle.station.proofs.over_memory.pending.Goals as goal
 
-pub events-events-requires : goal.events-events-requires
-events-events-requires c = c.requires.long
-
 pub returns : goal.returns
 returns c = answered _ _ _ c.requires _ (record { answers = ap Value c.pending-number.ensures ∙ ap (λ (x : Events). Value (pending_of x)) c.events-events.ensures; states = refl; leaves = refl })

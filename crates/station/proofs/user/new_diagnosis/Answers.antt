@@ -1,5 +1,5 @@
 -- `station::user::new_diagnosis` meets its contract.
-use Rattle.std.proofs.Common.{not, ap, ℕ, ◌≡◌, true, ◌≤◌, leb, [], ◌∷◌, refl, arith, leb-true}
+use Rattle.std.proofs.Common.{not, ap, ℕ, ◌≡◌, true, ◌≤◌, leb, [], ◌∷◌, refl, leb-true}
 use Rattle.state.specs.Well.{all}
 use Rattle.state.proofs.Tests.{all_at}
 use Rattle.state.proofs.Damage.{fronted_same}
@@ -28,15 +28,6 @@ returns-then-is_delayed c = rw (
 )
     (record { answers = refl; leaves = refl })
 
-pub overflow_cast-n : goal.overflow_cast-n
-overflow_cast-n c = let h = ranged c.args.count c.setup-setup.result.diagnosis_len c.args.flags c.if-not-count-setup.false in omega (arith, c.struct_known-1.given)
-
-pub overflow_cast-f : goal.overflow_cast-f
-overflow_cast-f c = let h = ranged c.args.count c.setup-setup.result.diagnosis_len c.args.flags c.if-not-count-setup.false in omega arith
-
-pub save_control-requires : goal.save_control-requires
-save_control-requires c = c.requires.long
-
 pub returns-then-diagnosis_leaves_in : goal.returns-then-diagnosis_leaves_in
 returns-then-diagnosis_leaves_in c = delays_diagnosis _ _ c.control-control.ensures c.setup-setup.ensures _ _ (ap not c.if-not-count-setup.false)
     c.is_delayed.ensures
@@ -45,9 +36,6 @@ returns-then-diagnosis_leaves_in c = delays_diagnosis _ _ c.control-control.ensu
     c.if-diagnosis_leaves_in.true
     c.delaying.ensures
     (c.save_control.ensures _ (fronted_same _ _ c.requires))
-
-pub change_diagnosis-requires : goal.change_diagnosis-requires
-change_diagnosis-requires c = c.requires.long
 
 pub returns : goal.returns
 returns c = changes_diagnosis _ _ c.control-control.ensures c.setup-setup.ensures _ _ (ap not c.if-not-count-setup.false)

@@ -18,11 +18,6 @@ negated_fits (suc n) h = record { sfits = omega arith }
 negated : (n : ℕ) → n < 2 ^ 63 → pos 0 -ℤ to_z w64 n ≡ neg_ℤ (pos n)
 negated n h = rw (to_z_pos w64 h) (+ℤ_idl (neg_ℤ (pos n)))
 
-pub overflow_sub-result : goal.overflow_sub-result
-overflow_sub-result c = let n = c.number.result in
-    let h : n < 2 ^ 63 = omega arith in
-    rw (negated n h) (negated_fits n h)
-
 pub returns-in-Value : goal.returns-in-Value
 returns-in-Value c = let n = c.in-Value.n in
     let h : n < 2 ^ 63 = omega arith in

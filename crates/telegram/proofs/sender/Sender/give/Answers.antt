@@ -1,12 +1,8 @@
 -- `telegram::sender::Sender::give` meets its contract.
-use Rattle.std.proofs.Common.{sym, ap, ◌∙◌, arith}
+use Rattle.std.proofs.Common.{sym, ap, ◌∙◌}
 use Rattle.telegram.specs.declared.sender.Sender.{Sender}
-use Rattle.telegram.proofs.Sends.{asked_below, sent_asked}
+use Rattle.telegram.proofs.Sends.{sent_asked}
 use Rattle.telegram.proofs.sender.Sender.give.Goals as goal
-
-pub overflow_add-self : goal.overflow_add-self
-overflow_add-self c = let l = asked_below c.args.self c.args.self.at c.requires in
-    omega arith
 
 pub returns : goal.returns
 returns c = sent_asked c.args.self c.args.datum c.args.self.at c.requires
