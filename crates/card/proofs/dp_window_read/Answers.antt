@@ -6,6 +6,7 @@ use Rattle.card.proofs.Exporting.{handed_on, by_access}
 use Rattle.card.proofs.dp_window_read.Goals as goal
 
 pub returns : goal.returns
-returns c = let g = c.args in
+returns c =
+    let g = c.args in
     handed_on (to_z-of_z {w = w64} (record { sfits = c.command.type_inv }))
     (by_access _ (λ o. window_read o g.address) c.reading.result c.reading.ensures c.of.ensures c.command.ensures)

@@ -7,5 +7,6 @@ use lib.ListN.{length, drop_of_length-le}
 use Rattle.octets.proofs.clear.Goals as goal
 
 pub returns : goal.returns
-returns c = let e : c.loop-i.i ≡ length c.args.dst.now = omega arith in
+returns c =
+    let e : c.loop-i.i ≡ length c.args.dst.now = omega arith in
     c.loop-i.invariant.0 ∙ rw e (simp (drop_of_length-le c.args.dst.now (le_refl _), append-nil))

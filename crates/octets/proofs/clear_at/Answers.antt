@@ -10,7 +10,8 @@ use Rattle.octets.proofs.Parts.{lent_clear}
 use Rattle.octets.proofs.clear_at.Goals as goal
 
 pub returns : goal.returns
-returns c = let m = c.args.mem.now in
+returns c =
+    let m = c.args.mem.now in
     let a = c.args.from in
     let n = c.args.len in
     ap (put_mid a (a + n - a) m) c.clear.ensures

@@ -6,5 +6,6 @@ use lib.Seq.{take-length}
 use Rattle.octets.proofs.copy.Goals as goal
 
 pub returns : goal.returns
-returns c = let e : c.loop-i.i ≡ length c.args.src.now = omega arith in
+returns c =
+    let e : c.loop-i.i ≡ length c.args.src.now = omega arith in
     c.loop-i.invariant.0 ∙ rw e (simp take-length)

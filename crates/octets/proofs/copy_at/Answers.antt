@@ -8,7 +8,8 @@ use Rattle.octets.proofs.Parts.{lent_copy}
 use Rattle.octets.proofs.copy_at.Goals as goal
 
 pub returns : goal.returns
-returns c = let m = c.args.mem.now in
+returns c =
+    let m = c.args.mem.now in
     let a = c.args.from in
     let xs = c.args.src.now in
     ap (put_mid a (a + length xs - a) m) c.copy.ensures

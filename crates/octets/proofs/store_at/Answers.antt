@@ -9,7 +9,8 @@ use Rattle.octets.proofs.Parts.{lent_store}
 use Rattle.octets.proofs.store_at.Goals as goal
 
 pub returns : goal.returns
-returns c = let m = c.args.mem.now in
+returns c =
+    let m = c.args.mem.now in
     let a = c.args.from in
     let n = c.args.len in
     let i = c.args.at in

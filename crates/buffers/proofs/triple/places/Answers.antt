@@ -17,5 +17,6 @@ otherwise (suc (suc (suc (suc (suc zero))))) a b c d e = absurd (e refl)
 otherwise (suc (suc (suc (suc (suc (suc n)))))) a b c d e = refl
 
 pub returns-in_default : goal.returns-in_default
-returns-in_default c = let r = c.in_default.in_default-own.rest in
+returns-in_default c =
+    let r = c.in_default.in_default-own.rest in
     sym (otherwise c.args.n r.0.0.0.0.1 r.0.0.0.1 r.0.0.1 r.0.1 r.1)

@@ -7,7 +7,8 @@ use Rattle.channels.proofs.deeds.free.Goals as goal
 
 pub returns-then-n-lt16 : goal.returns-then-n-lt16
 unfolding freed_in
-returns-then-n-lt16 c = let s = c.args in
+returns-then-n-lt16 c =
+    let s = c.args in
     saved_by (λ (x : Channel). freed x) s.mem.now _ s.n _ _ c.if-n-lt16.true c.load-c.ensures c.freed.ensures c.save.ensures
 
 pub returns-else-n-lt16 : goal.returns-else-n-lt16

@@ -8,7 +8,8 @@ use Rattle.channels.proofs.deeds.respond.Goals as goal
 
 pub returns : goal.returns
 unfolding responded_in
-returns c = let s = c.args in
+returns c =
+    let s = c.args in
     let k = length s.response.now in
     c.save.ensures
     ∙ (λ i. saved (c.copy_at.ensures i) s.n (c.responded.ensures i))

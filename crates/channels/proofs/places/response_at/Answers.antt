@@ -8,5 +8,6 @@ use Rattle.channels.proofs.places.response_at.Goals as goal
 
 pub returns : goal.returns
 unfolding loaded
-returns c = let e = c.rounded_up.ensures.0 ∙ ap (λ (x : Channel). rounded_up x.indication_len) c.load-c.ensures in
+returns c =
+    let e = c.rounded_up.ensures.0 ∙ ap (λ (x : Channel). rounded_up x.indication_len) c.load-c.ensures in
     λ i. c.indication_at.ensures.0 i + e i

@@ -14,7 +14,8 @@ loop-k-init c = (omega arith, refl, omega arith)
 
 pub loop-k-preserved : goal.loop-k-preserved
 unfolding loaded
-loop-k-preserved c = let m = c.args.mem.now in
+loop-k-preserved c =
+    let m = c.args.mem.now in
     let e = c.load-c.ensures in
     let u = c.rounded_up.ensures in
     let v = c.rounded_up-in-loop-k.ensures in (
@@ -26,6 +27,7 @@ loop-k-preserved c = let m = c.args.mem.now in
     )
 
 pub returns : goal.returns
-returns c = let s = c.args in
+returns c =
+    let s = c.args in
     let e : c.loop-k.k ≡ s.n = omega arith in
     (c.loop-k.invariant.1 ∙ ap (room_from (lengths_in s.mem.now) 0) e, omega arith)

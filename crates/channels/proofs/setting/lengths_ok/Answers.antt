@@ -12,7 +12,8 @@ use Rattle.channels.proofs.setting.lengths_ok.Goals as goal
 
 pub returns-then-lengths-ne32 : goal.returns-then-lengths-ne32
 unfolding lengths_ok
-returns-then-lengths-ne32 c = let xs = c.args.lengths.now in
+returns-then-lengths-ne32 c =
+    let xs = c.args.lengths.now in
     sym (ap (λ t. t && each_from (pair_test xs) 0 channels) (ne_eqb (length xs) length_octets c.if-lengths-ne32.true))
 
 pub loop-n-init : goal.loop-n-init
@@ -21,17 +22,20 @@ loop-n-init c = (omega arith, refl)
 
 pub returns-then-not-lengths_ok : goal.returns-then-not-lengths_ok
 unfolding lengths_ok
-returns-then-not-lengths_ok c = let xs = c.args.lengths.now in
+returns-then-not-lengths_ok c =
+    let xs = c.args.lengths.now in
     let n = c.loop-n.n in
     let e = c.if-lengths-ne32.false in
     sym (λ i. eq-eqb (length xs) length_octets e i && each_false (pair_test xs) n channels (omega arith) (sym c.lengths_ok.ensures ∙ c.if-not-lengths_ok.true) i)
 
 pub loop-n-preserved : goal.loop-n-preserved
-loop-n-preserved c = let xs = c.args.lengths.now in
+loop-n-preserved c =
+    let xs = c.args.lengths.now in
     (omega arith, each_next (pair_test xs) c.loop-n.n c.loop-n.invariant.1 (sym c.lengths_ok.ensures ∙ c.if-not-lengths_ok.false))
 
 pub returns : goal.returns
 unfolding lengths_ok
-returns c = let xs = c.args.lengths.now in
+returns c =
+    let xs = c.args.lengths.now in
     let n : c.loop-n.n ≡ channels = omega arith in
     sym (λ i. eq-eqb (length xs) length_octets c.if-lengths-ne32.false i && (ap (each_from (pair_test xs) 0) (sym n) ∙ c.loop-n.invariant.1) i)

@@ -16,7 +16,8 @@ loop-n-init c = (omega arith, refl, refl)
 
 pub loop-n-preserved : goal.loop-n-preserved
 unfolding set_up
-loop-n-preserved c = let n = c.loop-n.n in
+loop-n-preserved c =
+    let n = c.loop-n.n in
     let xs = c.args.lengths.now in (
       omega arith,
       rw (add-one n) (c.save.ensures ∙ ap (λ (l : List ℕ). saved l n (free xs n)) c.loop-n.invariant.1),
@@ -24,5 +25,6 @@ loop-n-preserved c = let n = c.loop-n.n in
     )
 
 pub returns : goal.returns
-returns c = let e : c.loop-n.n ≡ channels = omega arith in
+returns c =
+    let e : c.loop-n.n ≡ channels = omega arith in
     c.loop-n.invariant.1 ∙ ap (set_up c.args.mem.now c.args.lengths.now) e

@@ -4,7 +4,8 @@ use Rattle.channels.proofs.Fours.{groups_keep}
 use Rattle.channels.proofs.survey.all_broken.Goals as goal
 
 pub returns : goal.returns
-returns c = let x = c.broken_at in
+returns c =
+    let x = c.broken_at in
     let x2 = c.broken_at-2 in
     let x3 = c.broken_at-3 in
     let x4 = c.broken_at-4 in

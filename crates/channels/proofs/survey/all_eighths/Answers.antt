@@ -18,7 +18,8 @@ pub eighths_at-requires-4 : goal.eighths_at-requires-4
 eighths_at-requires-4 c = (omega arith, c.requires.0, (group_keeps (well_at c.args.mem.now) c.requires.1).3)
 
 pub returns : goal.returns
-returns c = let e = c.eighths_at.ensures in
+returns c =
+    let e = c.eighths_at.ensures in
     let f = c.eighths_at-2.ensures in
     let g = c.eighths_at-3.ensures in
     let h = c.eighths_at-4.ensures in

@@ -7,7 +7,8 @@ use Rattle.channels.proofs.survey.broken.Goals as goal
 
 pub returns : goal.returns
 unfolding octets
-returns c = let v = c.exceeds in
+returns c =
+    let v = c.exceeds in
     let w = c.exceeds-2 in
     let x = c.unpaired in
     let y = c.exceeds-3 in

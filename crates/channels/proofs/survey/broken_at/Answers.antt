@@ -11,7 +11,8 @@ use Rattle.channels.proofs.Fours.{rows_keep}
 use Rattle.channels.proofs.survey.broken_at.Goals as goal
 
 pub returns : goal.returns
-returns c = let m = c.args.mem.now in
+returns c =
+    let m = c.args.mem.now in
     let k = c.args.k in
     let near : k + 4 ≤ channels = c.requires.0 in
     let long : rows_end ≤ length m = c.requires.1 in

@@ -10,7 +10,8 @@ use Rattle.channels.proofs.Fours.{rows_short, eighths_room}
 use Rattle.channels.proofs.survey.eighths_at.Goals as goal
 
 pub eighths-indications-requires : goal.eighths-indications-requires
-eighths-indications-requires c = let m = c.args.mem.now in
+eighths-indications-requires c =
+    let m = c.args.mem.now in
     let k = c.args.k in
     let near : k + 4 ≤ channels = c.requires.0 in
     let long : rows_end ≤ length m = c.requires.1 in
@@ -19,7 +20,8 @@ eighths-indications-requires c = let m = c.args.mem.now in
     ∙ rows_short m long 0 k 4 (omega arith) near c.requires.2
 
 pub eighths-responses-requires : goal.eighths-responses-requires
-eighths-responses-requires c = let m = c.args.mem.now in
+eighths-responses-requires c =
+    let m = c.args.mem.now in
     let k = c.args.k in
     let near : k + 4 ≤ channels = c.requires.0 in
     let long : rows_end ≤ length m = c.requires.1 in

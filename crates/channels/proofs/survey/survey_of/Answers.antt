@@ -6,7 +6,8 @@ use Rattle.channels.proofs.Fours.{first_found}
 use Rattle.channels.proofs.survey.survey_of.Goals as goal
 
 pub returns : goal.returns
-returns c = let m = c.args.mem.now in
+returns c =
+    let m = c.args.mem.now in
     let x = c.nothing_across in
     let y = c.nothing_across-2 in
     let z = c.nothing_across-3 in

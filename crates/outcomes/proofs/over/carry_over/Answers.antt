@@ -7,7 +7,8 @@ pub carry_buffers-requires : goal.carry_buffers-requires
 carry_buffers-requires c = safe_then c.args.mem.now (unpacked c.args.mem.now) c.args.o c.args.count c.requires _ c.save_control.ensures
 
 pub returns : goal.returns
-returns c = let m = c.args.mem.now in
+returns c =
+    let m = c.args.mem.now in
     carried_over m (unpacked m) c.args.o c.args.count c.requires _ c.save_control.ensures
     c.carry_buffers.new.mem
     c.put_outputs.new.mem

@@ -14,7 +14,8 @@ pub outputs-outputs-requires : goal.outputs-outputs-requires
 outputs-outputs-requires c = safe_long _ _ c.requires
 
 pub clear_at-requires : goal.clear_at-requires
-clear_at-requires c = let m = c.args.mem.now in
+clear_at-requires c =
+    let m = c.args.mem.now in
     let safe = c.requires in
     rw (c.outputs_at-from.ensures, c.next.ensures, c.outputs-outputs.ensures, c.setup-setup.ensures)
     (buffer_room (unpacked m) m output_row _ safe (safe.outputs.within role.next (omega arith)))

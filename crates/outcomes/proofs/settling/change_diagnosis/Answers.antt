@@ -7,7 +7,8 @@ use Rattle.state.proofs.Written.{then}
 use Rattle.outcomes.proofs.settling.change_diagnosis.Goals as goal
 
 pub returns : goal.returns
-returns c = let m = c.args.mem.now in
+returns c =
+    let m = c.args.mem.now in
     let control = c.args.control in
     λ s e front.
     then _ _ _ _ _ c.save_control.ensures c.save_swapped.ensures s front

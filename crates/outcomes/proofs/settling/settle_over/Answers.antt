@@ -5,5 +5,6 @@ use Rattle.outcomes.proofs.Settled.{settles_none}
 use Rattle.outcomes.proofs.settling.settle_over.Goals as goal
 
 pub returns-else-waits : goal.returns-else-waits
-returns-else-waits c = let m = c.args.mem.now in
+returns-else-waits c =
+    let m = c.args.mem.now in
     settles_none (unpacked m) m c.waits.ensures c.if-waits.false (fronted_same m (unpacked m) c.requires)

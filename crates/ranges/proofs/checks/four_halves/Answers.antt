@@ -4,7 +4,8 @@ use Rattle.ranges.proofs.Words.{half_none, four_none}
 use Rattle.ranges.proofs.checks.four_halves.Goals as goal
 
 pub returns : goal.returns
-returns c = let m = c.args.mem.now in
+returns c =
+    let m = c.args.mem.now in
     let at = c.args.at in
     let fits : at + 16 ≤ length m = c.requires in
     let h = c.half in

@@ -6,7 +6,8 @@ use Rattle.ranges.proofs.checks.nothing_across.Goals as goal
 
 pub returns : goal.returns
 unfolding nothing_at
-returns c = let m = c.args.mem.now in
+returns c =
+    let m = c.args.mem.now in
     let at = c.args.at in
     let step = c.args.step in
     let fits : at + 3 * step + 4 ≤ length m = c.requires.0 in

@@ -4,7 +4,8 @@ use Rattle.ranges.proofs.Words.{four_none}
 use Rattle.ranges.proofs.checks.nothing_in.Goals as goal
 
 pub returns : goal.returns
-returns c = let m = c.args.mem.now in
+returns c =
+    let m = c.args.mem.now in
     let at = c.args.at in
     let fits : at + 64 ≤ length m = c.requires in
     let h = c.four_halves in

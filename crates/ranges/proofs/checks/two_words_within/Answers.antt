@@ -5,7 +5,8 @@ use Rattle.ranges.proofs.Words.{or_zero, octets_part, two_words}
 use Rattle.ranges.proofs.checks.two_words_within.Goals as goal
 
 pub returns : goal.returns
-returns c = let m = c.args.mem.now in
+returns c =
+    let m = c.args.mem.now in
     let at = c.args.at in
     let first = lows (octets 8 c.args.first) in
     let second = lows (octets 8 c.args.second) in

@@ -5,7 +5,8 @@ use Rattle.ranges.proofs.Words.{octets_part}
 use Rattle.ranges.proofs.checks.word_between.Goals as goal
 
 pub returns : goal.returns
-returns c = let same =
+returns c =
+    let same =
     ap (octets 8) c.word.ensures
     ∙ octets_part c.args.mem.now (λ i. (c.type_inv.mem i).fits) 8 c.args.at c.requires in
     c.outside.ensures

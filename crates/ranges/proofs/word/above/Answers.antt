@@ -6,7 +6,8 @@ use Rattle.ranges.proofs.word.above.Goals as goal
 
 pub returns : goal.returns
 unfolding rep
-returns c = let x = c.args.x in
+returns c =
+    let x = c.args.x in
     let limits = c.args.limits in
     ap (λ z. eqb (bit_and (bit_or x z) (rep 8 128)) 0) c.wrapping_add_u64-sum.ensures.value
     ∙ ap (λ z. eqb z 0) (cut 64 x (x + bit_and (rep 8 255 - limits) (rep 8 127)) (rep 8 128) c.ranges.x.fits (lit< tt))

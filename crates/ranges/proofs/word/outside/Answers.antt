@@ -11,7 +11,8 @@ overflow_add-least c = omega (arith, and_le_r c.args.least (rep 8 127))
 
 pub returns : goal.returns
 unfolding rep
-returns c = let args = c.args in
+returns c =
+    let args = c.args in
     let below = c.wrapping_sub_u64-below.result in
     or_zero c.above.result (bit_and below (rep 8 128))
     ∙ ap (λ t. t && eqb (bit_and below (rep 8 128)) 0) c.above.ensures

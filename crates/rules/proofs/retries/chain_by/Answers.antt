@@ -11,5 +11,6 @@ pub returns-then-r-eq1 : goal.returns-then-r-eq1
 returns-then-r-eq1 c = rw (c.if-r-eq1.true, c.new.ensures, c.master_of.ensures)
 
 pub returns : goal.returns
-returns c = let x = c.args in
+returns c =
+    let x = c.args in
     c.none.ensures ∙ sym (ap (λ (t : Bool). cond t (chain_of (master_of x.r) (fcb_of x.r) x.drawn) no_chain) (ne_eqb _ _ c.if-r-eq1.false))

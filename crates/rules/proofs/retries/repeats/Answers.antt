@@ -26,19 +26,22 @@ both_hold : (x m s : Bool) → m ≡ true → s ≡ true → x ≡ (x && m && s)
 both_hold x m s e f = sym ((λ i. x && e i && f i) ∙ and-true (x && true) ∙ and-true x)
 
 pub returns-then-not-same : goal.returns-then-not-same
-returns-then-not-same c = let x = c.args in
+returns-then-not-same c =
+    let x = c.args in
     last_fails (request x.r) (eqb (master_of x.r) x.chain.master) (same (fcb_of x.r) (fcb_in x.chain))
     (sym (c.same.ensures ∙ ap (same (fcb_of x.r)) c.fcb.ensures) ∙ c.if-not-same.true)
 
 pub returns-then-master-chain : goal.returns-then-master-chain
-returns-then-master-chain c = let x = c.args in
+returns-then-master-chain c =
+    let x = c.args in
     let found = c.if-master-chain.true in
     let other : c.master_of-master.result ≡ x.chain.master → ⊥ = λ e. omega arith in
     middle_fails (request x.r) (eqb (master_of x.r) x.chain.master) (same (fcb_of x.r) (fcb_in x.chain))
     (ap (λ (n : ℕ). eqb n x.chain.master) (sym c.master_of-master.ensures) ∙ ne_eqb _ _ other)
 
 pub returns : goal.returns
-returns c = let x = c.args in
+returns c =
+    let x = c.args in
     let found = c.if-master-chain.false in
     let equal : c.master_of-master.result ≡ x.chain.master = omega arith in
     (λ i. c.asks.ensures i && fcv_of x.r)

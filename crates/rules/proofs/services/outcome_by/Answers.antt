@@ -10,7 +10,8 @@ pub returns-then-acts-repeats : goal.returns-then-acts-repeats
 returns-then-acts-repeats c = rw (← c.acts.ensures, ← c.repeats.ensures, c.if-acts-repeats.true, c.repeated.ensures)
 
 pub returns : goal.returns
-returns c = let x = c.args in
+returns c =
+    let x = c.args in
     let g = x.setup in
     let r = x.r in
     let once : is_repeat g x.control r ≡ false =

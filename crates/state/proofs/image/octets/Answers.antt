@@ -7,7 +7,8 @@ use Rattle.state.proofs.image.octets.Goals as goal
 
 pub returns : goal.returns
 unfolding image
-returns c = let same = part (image c.args.s) in
+returns c =
+    let same = part (image c.args.s) in
     λ i.
     same 0 3
     ++ c.flags.ensures i

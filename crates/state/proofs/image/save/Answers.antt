@@ -8,5 +8,6 @@ use Rattle.state.proofs.image.save.Goals as goal
 
 pub returns : goal.returns
 unfolding image
-returns c = let m = c.args.mem.now in
+returns c =
+    let m = c.args.mem.now in
     c.copy.ensures ∙ ap (λ (l : List ℕ). l ++ drop (length l) m) c.octets-a.ensures

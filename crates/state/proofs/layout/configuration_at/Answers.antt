@@ -7,7 +7,8 @@ use Rattle.state.proofs.layout.configuration_at.Goals as goal
 
 pub place_at-requires : goal.place_at-requires
 unfolding row_base start_of
-place_at-requires c = let u = base_small c.args.s configuration_row (search rules) (omega arith) in
+place_at-requires c =
+    let u = base_small c.args.s configuration_row (search rules) (omega arith) in
     omega arith
 
 pub returns : goal.returns

@@ -5,7 +5,8 @@ use Rattle.state.proofs.load.control.Goals as goal
 
 pub returns : goal.returns
 unfolding unpacked
-returns c = let m = c.args.mem.now in
+returns c =
+    let m = c.args.mem.now in
     λ i.
     record {
       phase = c.phase_numbered.ensures i;

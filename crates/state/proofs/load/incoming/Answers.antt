@@ -6,6 +6,7 @@ use Rattle.state.proofs.load.incoming.Goals as goal
 
 pub returns : goal.returns
 unfolding unpacked
-returns c = let m = c.args.mem.now in
+returns c =
+    let m = c.args.mem.now in
     let e = c.reader_in.ensures ∙ (λ j. reader_in m (c.reading_numbered.ensures j) (c.kind_numbered.ensures j)) in
     λ i. record { reader = e i; first = get_or m 40 0; second = get_or m 41 0 }

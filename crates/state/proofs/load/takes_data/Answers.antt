@@ -10,6 +10,7 @@ use Rattle.state.proofs.load.takes_data.Goals as goal
 
 pub returns : goal.returns
 unfolding unpacked takes_data
-returns c = let m = c.args.mem.now in
+returns c =
+    let m = c.args.mem.now in
     ap (λ (t : Bool). t && ltb (get_or m 33 0) (get_or m 32 0))
     (ap (eqb (get_or m 31 0)) c.reading_number.ensures ∙ body_numbered (get_or m 31 0))

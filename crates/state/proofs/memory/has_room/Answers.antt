@@ -39,7 +39,8 @@ passed : (m : List ℕ) (nothing well : Bool) → nothing ≡ exchanges_nothing 
 passed m nothing well e f n w = (ap (λ (t : Bool). not (not t)) (sym e ∙ n), (ap not (sym f) ∙ w, tt))
 
 pub returns-then-short_lengths-mem : goal.returns-then-short_lengths-mem
-returns-then-short_lengths-mem c = let m = c.args.mem.now in
+returns-then-short_lengths-mem c =
+    let m = c.args.mem.now in
     let short = c.short_lengths in
     let fits = leb short_end (length m) in
     short_room m
@@ -47,7 +48,8 @@ returns-then-short_lengths-mem c = let m = c.args.mem.now in
     (leb-true short_end (length m) (and_right short.result fits c.if-short_lengths-mem.true))
 
 pub returns-then-short_inputs-mem : goal.returns-then-short_inputs-mem
-returns-then-short_inputs-mem c = let m = c.args.mem.now in
+returns-then-short_inputs-mem c =
+    let m = c.args.mem.now in
     let short = c.short_inputs in
     let fits = leb short_end (length m) in
     short_room m
@@ -55,20 +57,24 @@ returns-then-short_inputs-mem c = let m = c.args.mem.now in
     (leb-true short_end (length m) (and_right short.result fits c.if-short_inputs-mem.true))
 
 pub returns-then-exchanges_nothing : goal.returns-then-exchanges_nothing
-returns-then-exchanges_nothing c = let m = c.args.mem.now in
+returns-then-exchanges_nothing c =
+    let m = c.args.mem.now in
     all_fails (tests m) 0 (ap not (sym c.exchanges_nothing.ensures ∙ c.if-exchanges_nothing.true)) ∙ tests_are m
 
 pub returns-then-not-well_lengths : goal.returns-then-not-well_lengths
-returns-then-not-well_lengths c = let m = c.args.mem.now in
+returns-then-not-well_lengths c =
+    let m = c.args.mem.now in
     all_fails (tests m) 1 (sym c.well_lengths.ensures ∙ c.if-not-well_lengths.true) ∙ tests_are m
 
 pub returns-then-mem-ge-LONG_END : goal.returns-then-mem-ge-LONG_END
-returns-then-mem-ge-LONG_END c = let m = c.args.mem.now in
+returns-then-mem-ge-LONG_END c =
+    let m = c.args.mem.now in
     let p = passed m _ _ c.exchanges_nothing.ensures c.well_lengths.ensures c.if-exchanges_nothing.false (ap not c.if-not-well_lengths.false) in
     long_room m (lengths_pass m p) c.if-mem-ge-LONG_END.true
 
 pub returns : goal.returns
-returns c = let m = c.args.mem.now in
+returns c =
+    let m = c.args.mem.now in
     let p = passed m _ _ c.exchanges_nothing.ensures c.well_lengths.ensures c.if-exchanges_nothing.false (ap not c.if-not-well_lengths.false) in
     ap (λ (n : ℕ). leb n (length m)) (c.end_of.ensures.0 ∙ ap end_of c.setup.ensures)
     ∙ others_decide 2 (tests m) p ∙ tests_are m

@@ -30,21 +30,25 @@ pass : (m : List ℕ) (nothing well : Bool) → nothing ≡ exchanges_nothing (s
 pass m nothing well e f some good = sym (lengths_by m nothing well e f) ∙ (λ i. not (some i) && good i)
 
 pub channels_fit-requires : goal.channels_fit-requires
-channels_fit-requires c = let m = c.args.mem.now in
+channels_fit-requires c =
+    let m = c.args.mem.now in
     (c.requires, (short_lengths_are m (sym c.short_lengths.ensures ∙ c.if-short_lengths.true)).ends, omega arith)
 
 pub returns-then-short_lengths : goal.returns-then-short_lengths
-returns-then-short_lengths c = let m = c.args.mem.now in
+returns-then-short_lengths c =
+    let m = c.args.mem.now in
     let pass = (short_lengths_are m (sym c.short_lengths.ensures ∙ c.if-short_lengths.true)).pass in
     c.channels_fit.ensures ∙ (λ i. sym pass i && rest m)
 
 pub returns-then-exchanges_nothing : goal.returns-then-exchanges_nothing
-returns-then-exchanges_nothing c = let m = c.args.mem.now in
+returns-then-exchanges_nothing c =
+    let m = c.args.mem.now in
     let fails = sym (λ i. not ((sym c.exchanges_nothing.ensures ∙ c.if-exchanges_nothing.true) i) && all (chain_tests m ++ range_tests (setup_in m 0))) ∙ test_first (not (exchanges_nothing (setup_in m 0))) (chain_tests m) (range_tests (setup_in m 0)) in
     λ i. fails i && rest m
 
 pub returns-then-not-well_lengths : goal.returns-then-not-well_lengths
-returns-then-not-well_lengths c = let m = c.args.mem.now in
+returns-then-not-well_lengths c =
+    let m = c.args.mem.now in
     let some = c.if-exchanges_nothing.false in
     let bad = c.if-not-well_lengths.true in
     let fails = sym (λ i. not (some i) && bad i) ∙ lengths_by m _ _ c.exchanges_nothing.ensures c.well_lengths.ensures in
@@ -54,5 +58,6 @@ pub channels_fit-requires-2 : goal.channels_fit-requires-2
 channels_fit-requires-2 c = (c.requires, long_end_lem c.args.mem.now (pass c.args.mem.now _ _ c.exchanges_nothing.ensures c.well_lengths.ensures c.if-exchanges_nothing.false c.if-not-well_lengths.false), omega arith)
 
 pub returns : goal.returns
-returns c = let m = c.args.mem.now in
+returns c =
+    let m = c.args.mem.now in
     c.channels_fit-2.ensures ∙ (λ i. sym (pass c.args.mem.now _ _ c.exchanges_nothing.ensures c.well_lengths.ensures c.if-exchanges_nothing.false c.if-not-well_lengths.false) i && rest m)

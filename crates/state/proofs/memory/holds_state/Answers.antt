@@ -51,7 +51,8 @@ returns-then-not-well_codes c = fails _ 2 (sym c.well_codes.ensures ∙ c.if-not
 
 pub returns-then-nothing_in : goal.returns-then-nothing_in
 unfolding holds_state well_image well_channels last_end
-returns-then-nothing_in c = let m = c.args.mem.now in
+returns-then-nothing_in c =
+    let m = c.args.mem.now in
     let counts = ap not (sym c.well_counts.ensures ∙ c.if-not-well_counts.false) in
     let line = ap not (sym c.well_line.ensures ∙ c.if-not-well_line.false) in
     let codes = ap not (sym c.well_codes.ensures ∙ c.if-not-well_codes.false) in
@@ -65,7 +66,8 @@ returns-then-nothing_in c = let m = c.args.mem.now in
 
 pub returns : goal.returns
 unfolding holds_state well_image
-returns c = let m = c.args.mem.now in
+returns c =
+    let m = c.args.mem.now in
     let counts = ap not (sym c.well_counts.ensures ∙ c.if-not-well_counts.false) in
     let line = ap not (sym c.well_line.ensures ∙ c.if-not-well_line.false) in
     let codes = ap not (sym c.well_codes.ensures ∙ c.if-not-well_codes.false) in

@@ -4,7 +4,8 @@ use Rattle.state.proofs.Written.{then}
 use Rattle.state.proofs.saving.save_control.Goals as goal
 
 pub returns : goal.returns
-returns c = let control = c.args.control in
+returns c =
+    let control = c.args.control in
     let m = c.args.mem.now in
     let n = c.save_standing.new.mem in
     let l = c.save_events.new.mem in

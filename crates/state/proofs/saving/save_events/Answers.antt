@@ -5,4 +5,5 @@ use Rattle.state.proofs.Written.{wrote, events_saved}
 use Rattle.state.proofs.saving.save_events.Goals as goal
 
 pub returns : goal.returns
-returns c = let m = c.args.mem.now in λ s e. (λ j. wrote m 4 (c.low.ensures j ∷ c.high.ensures j ∷ [])) ∙ events_saved m s e _
+returns c =
+    let m = c.args.mem.now in λ s e. (λ j. wrote m 4 (c.low.ensures j ∷ c.high.ensures j ∷ [])) ∙ events_saved m s e _

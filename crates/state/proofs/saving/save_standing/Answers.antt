@@ -5,7 +5,8 @@ use Rattle.state.proofs.Written.{wrote, four, standing_saved}
 use Rattle.state.proofs.saving.save_standing.Goals as goal
 
 pub returns : goal.returns
-returns c = let m = c.args.mem.now in
+returns c =
+    let m = c.args.mem.now in
     let x = c.args.control in
     λ s e.
     (λ j.

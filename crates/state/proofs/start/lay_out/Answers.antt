@@ -10,12 +10,14 @@ use Rattle.state.proofs.Places.{end_behind, last_behind}
 use Rattle.state.proofs.start.lay_out.Goals as goal
 
 pub wipe-requires : goal.wipe-requires
-wipe-requires c = let u = last_behind (lengths_given c.args.channels.now) c.args.setup in
+wipe-requires c =
+    let u = last_behind (lengths_given c.args.channels.now) c.args.setup in
     let e = c.requires.0 in
     (omega arith, c.requires.1, c.requires.3)
 
 pub set_up-requires : goal.set_up-requires
-set_up-requires c = let u = last_behind (lengths_given c.args.channels.now) c.args.setup in
+set_up-requires c =
+    let u = last_behind (lengths_given c.args.channels.now) c.args.setup in
     let v = end_behind c.args.setup in
     let e = c.requires.0 in
     let h = c.requires.1 in
@@ -23,7 +25,8 @@ set_up-requires c = let u = last_behind (lengths_given c.args.channels.now) c.ar
     (c.requires.2, omega arith)
 
 pub save-requires : goal.save-requires
-save-requires c = let u = last_behind (lengths_given c.args.channels.now) c.args.setup in
+save-requires c =
+    let u = last_behind (lengths_given c.args.channels.now) c.args.setup in
     let v = end_behind c.args.setup in
     let e = c.requires.0 in
     let h = c.requires.1 in
@@ -33,7 +36,8 @@ save-requires c = let u = last_behind (lengths_given c.args.channels.now) c.args
 
 pub returns : goal.returns
 unfolding laid_out
-returns c = let m = c.args.mem.now in
+returns c =
+    let m = c.args.mem.now in
     let slice = c.args.get_cfg.now in
     let lengths = c.args.channels.now in
     let w = c.wipe.ensures in

@@ -17,12 +17,14 @@ returns-then-address-gt126 c = simp (lt-ltb _ _ c.if-address-gt126.true)
 
 pub returns-then-not-lengths_ok : goal.returns-then-not-lengths_ok
 unfolding asked lengths_ok
-returns-then-not-lengths_ok c = let bad = sym c.lengths_ok.ensures ∙ c.if-not-lengths_ok.true in
+returns-then-not-lengths_ok c =
+    let bad = sym c.lengths_ok.ensures ∙ c.if-not-lengths_ok.true in
     simp (le-ltb _ _ c.if-address-gt126.false, bad)
 
 pub returns-then-not-lengths_ok-2 : goal.returns-then-not-lengths_ok-2
 unfolding asked lengths_ok
-returns-then-not-lengths_ok-2 c = let good = sym c.lengths_ok.ensures ∙ c.if-not-lengths_ok.false in
+returns-then-not-lengths_ok-2 c =
+    let good = sym c.lengths_ok.ensures ∙ c.if-not-lengths_ok.false in
     let bad = sym c.lengths_ok-2.ensures ∙ c.if-not-lengths_ok-2.true in
     simp (le-ltb _ _ c.if-address-gt126.false, good, bad)
 
@@ -46,5 +48,6 @@ overflow_cast-result-7 c = let h = lengths_ranged _ (omega arith) (ok c) in omeg
 
 pub returns : goal.returns
 unfolding asked lengths_ok
-returns c = let also = sym c.lengths_ok-2.ensures ∙ c.if-not-lengths_ok-2.false in
+returns c =
+    let also = sym c.lengths_ok-2.ensures ∙ c.if-not-lengths_ok-2.false in
     simp (le-ltb _ _ c.if-address-gt126.false, ok c, also)

@@ -34,7 +34,8 @@ pub returns-then-not-within-3 : goal.returns-then-not-within-3
 returns-then-not-within-3 c = all_fails (tests c.args.mem.now) 5 (sym c.within-3.ensures ∙ c.if-not-within-3.true)
 
 pub returns : goal.returns
-returns c = let p₄ = ap not (sym c.within.ensures ∙ c.if-not-within.false) in
+returns c =
+    let p₄ = ap not (sym c.within.ensures ∙ c.if-not-within.false) in
     let p₅ = ap not (sym c.within-2.ensures ∙ c.if-not-within-2.false) in
     let p₆ = ap not (sym c.within-3.ensures ∙ c.if-not-within-3.false) in
     c.within-4.ensures

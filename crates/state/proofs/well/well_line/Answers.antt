@@ -16,6 +16,7 @@ pub returns-then-not-mem-2 : goal.returns-then-not-mem-2
 returns-then-not-mem-2 c = all_fails (line_tests c.args.mem.now) 2 (lt-leb _ _ c.if-not-mem-2.true)
 
 pub returns : goal.returns
-returns c = let p₂ = ap not (sym c.part_done.ensures ∙ c.if-not-part_done.false) in
+returns c =
+    let p₂ = ap not (sym c.part_done.ensures ∙ c.if-not-part_done.false) in
     c.part_done-2.ensures
     ∙ others_decide 3 (line_tests c.args.mem.now) (ap not (le-leb _ _ c.if-not-mem.false), (p₂, (ap not (le-leb _ _ c.if-not-mem-2.false), tt)))

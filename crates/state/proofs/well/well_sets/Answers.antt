@@ -15,7 +15,8 @@ pub returns-then-not-set_counts-2 : goal.returns-then-not-set_counts-2
 returns-then-not-set_counts-2 c = all_fails (set_tests c.args.mem.now) 2 (sym c.set_counts-2.ensures ∙ c.if-not-set_counts-2.true)
 
 pub returns : goal.returns
-returns c = let p₁ = ap not (sym c.none_or.ensures ∙ c.if-not-none_or.false) in
+returns c =
+    let p₁ = ap not (sym c.none_or.ensures ∙ c.if-not-none_or.false) in
     let p₂ = ap not (sym c.set_counts.ensures ∙ c.if-not-set_counts.false) in
     let p₃ = ap not (sym c.set_counts-2.ensures ∙ c.if-not-set_counts-2.false) in
     others_decide 3 (set_tests c.args.mem.now) (p₁, (p₂, (p₃, tt)))

@@ -9,12 +9,14 @@ pub returns-then-control : goal.returns-then-control
 returns-then-control c = c.tick_whole.ensures
 
 pub returns-then-not-counts : goal.returns-then-not-counts
-returns-then-not-counts c = let m = c.args.mem.now in
+returns-then-not-counts c =
+    let m = c.args.mem.now in
     rw (tick_rests (unpacked m) m _ c.control-control.ensures c.if-control.false _ c.counts.ensures (ap not c.if-not-counts.true))
     (fronted_same _ _ c.requires)
 
 pub returns-then-remaining-gt1 : goal.returns-then-remaining-gt1
-returns-then-remaining-gt1 c = let m = c.args.mem.now in
+returns-then-remaining-gt1 c =
+    let m = c.args.mem.now in
     rw (tick_counts (unpacked m) m _ c.control-control.ensures c.if-control.false _ c.counts.ensures (ap not c.if-not-counts.false)
     c.if-remaining-gt1.true)
     (c.save_ticks.ensures _ (fronted_same _ _ c.requires))

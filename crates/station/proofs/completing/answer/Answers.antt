@@ -4,7 +4,8 @@ use Rattle.station.proofs.CompletedOverMemory.{answered_over}
 use Rattle.station.proofs.completing.answer.Goals as goal
 
 pub returns : goal.returns
-returns c = let m = c.args.mem.now in
+returns c =
+    let m = c.args.mem.now in
     answered_over m (unpacked m) c.args.i c.args.r _ _ _ _ _
     c.setup-setup.ensures
     c.outputs.ensures

@@ -22,7 +22,8 @@ pub answer-requires : goal.answer-requires
 answer-requires c = (c.requires.0, c.requires.2)
 
 pub returns : goal.returns
-returns c = let m = c.args.mem.now in
+returns c =
+    let m = c.args.mem.now in
     let i = c.args.i in
     let r = c.args.r in
     c.answer.ensures

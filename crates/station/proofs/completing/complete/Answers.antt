@@ -23,7 +23,8 @@ pub returns-then-not-acts : goal.returns-then-not-acts
 returns-then-not-acts c = rw c.request_by-r.ensures at c.pass_by.ensures
 
 pub repeat-requires : goal.repeat-requires
-repeat-requires c = let acting = looked_at c.request_by-r.result c.setup.ensures c.acts.ensures ∙ c.if-not-acts.false in
+repeat-requires c =
+    let acting = looked_at c.request_by-r.result c.setup.ensures c.acts.ensures ∙ c.if-not-acts.false in
     let again = compared c.request_by-r.result c.chain.ensures c.repeats.ensures ∙ c.if-repeats.true in
     (c.requires, λ j. acting j && again j)
 
@@ -31,7 +32,8 @@ pub returns-then-repeats : goal.returns-then-repeats
 returns-then-repeats c = rw c.request_by-r.ensures at c.repeat.ensures
 
 pub apply-requires : goal.apply-requires
-apply-requires c = let acting = looked_at c.request_by-r.result c.setup.ensures c.acts.ensures ∙ c.if-not-acts.false in
+apply-requires c =
+    let acting = looked_at c.request_by-r.result c.setup.ensures c.acts.ensures ∙ c.if-not-acts.false in
     let once = compared c.request_by-r.result c.chain.ensures c.repeats.ensures ∙ c.if-repeats.false in
     (c.requires, c.function_service.ensures ∙ acting_service _ _ acting, acting, λ j. acting j && once j)
 

@@ -6,7 +6,8 @@ use Rattle.station.proofs.CompletedOverMemory.{diagnosed_over}
 use Rattle.station.proofs.completing.diagnose.Goals as goal
 
 pub returns : goal.returns
-returns c = let m = c.args.mem.now in
+returns c =
+    let m = c.args.mem.now in
     diagnosed_over m (unpacked m) c.args.i c.args.r _ _ _ _ _
     c.setup-setup.ensures
     c.outputs-outputs.ensures

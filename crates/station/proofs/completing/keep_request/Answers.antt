@@ -7,7 +7,8 @@ use Rattle.rules.specs.Retries.{chain_by}
 use Rattle.station.proofs.completing.keep_request.Goals as goal
 
 pub returns-then-asks : goal.returns-then-asks
-returns-then-asks c = let x = c.args in
+returns-then-asks c =
+    let x = c.args in
     let asked = sym c.asks.ensures ∙ c.if-asks.true in
     λ s e.
     c.save_chain.ensures s e
@@ -15,6 +16,7 @@ returns-then-asks c = let x = c.args in
     (c.chain_by.ensures ∙ sym (ap (λ (t : Bool). cond t (chain_by x.r x.drawn) s.control.chain) asked))
 
 pub returns-else-asks : goal.returns-else-asks
-returns-else-asks c = let x = c.args in
+returns-else-asks c =
+    let x = c.args in
     let asked = sym c.asks.ensures ∙ c.if-asks.false in
     λ s e. e ∙ ap (λ (t : Bool). kept (with_chain s (cond t (chain_by x.r x.drawn) s.control.chain)) x.mem.now) (sym asked)

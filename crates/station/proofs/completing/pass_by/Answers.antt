@@ -9,7 +9,8 @@ use Rattle.station.proofs.PassedBy.{passed_by}
 use Rattle.station.proofs.completing.pass_by.Goals as goal
 
 pub returns : goal.returns
-returns c = let m = c.args.mem.now in
+returns c =
+    let m = c.args.mem.now in
     let s = unpacked m in
     let outputs = c.outputs-outputs.ensures in
     passed_by s m c.args.r c.requires.1 c.requires.0 _ _ c.save_incoming.new.mem c.save_reply.new.mem

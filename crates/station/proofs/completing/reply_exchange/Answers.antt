@@ -3,7 +3,8 @@ use Rattle.station.proofs.ExchangeReplied.{drew_inputs, sends_inputs, drew_flag,
 use Rattle.station.proofs.completing.reply_exchange.Goals as goal
 
 pub returns-then-setup-ne0 : goal.returns-then-setup-ne0
-returns-then-setup-ne0 c = let z = c.if-setup-ne0.true in
+returns-then-setup-ne0 c =
+    let z = c.if-setup-ne0.true in
     replied_over c.args.r c.args.setup c.args.control c.args.held _ c.args.header _ _ _ _ _ _ _
     c.master_of-master.ensures
     c.chain_by.ensures
@@ -14,7 +15,8 @@ returns-then-setup-ne0 c = let z = c.if-setup-ne0.true in
     c.save_reply.ensures
 
 pub returns-then-control : goal.returns-then-control
-returns-then-control c = let z = c.if-setup-ne0.false in
+returns-then-control c =
+    let z = c.if-setup-ne0.false in
     let f = c.if-control.true in
     replied_over c.args.r c.args.setup c.args.control c.args.held _ c.args.header _ _ _ _ _ _ _
     c.master_of-master.ensures
@@ -26,7 +28,8 @@ returns-then-control c = let z = c.if-setup-ne0.false in
     c.save_reply-then-control.ensures
 
 pub returns : goal.returns
-returns c = let z = c.if-setup-ne0.false in
+returns c =
+    let z = c.if-setup-ne0.false in
     let f = c.if-control.false in
     replied_over c.args.r c.args.setup c.args.control c.args.held _ c.args.header _ _ _ _ _ _ _
     c.master_of-master.ensures

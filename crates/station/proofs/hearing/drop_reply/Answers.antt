@@ -6,7 +6,8 @@ use Rattle.state.proofs.Written.{then}
 use Rattle.station.proofs.hearing.drop_reply.Goals as goal
 
 pub returns : goal.returns
-returns c = let start = c.args in
+returns c =
+    let start = c.args in
     λ s e.
     then start.mem.now c.save_incoming.new.mem c.save_reply.new.mem _ _
     c.save_incoming.ensures c.save_reply.ensures s e

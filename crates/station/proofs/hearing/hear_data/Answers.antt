@@ -10,6 +10,7 @@ pub take_data-next-requires : goal.take_data-next-requires
 take_data-next-requires c = ap (λ (i : Incoming). takes_data i.reader) c.incoming-old.ensures ∙ c.requires.1
 
 pub returns : goal.returns
-returns c = let m = c.args.mem.now in
+returns c =
+    let m = c.args.mem.now in
     leaves_data m (unpacked m) c.requires.0 c.args.b c.incoming-old.result c.incoming-old.ensures c.requires.1 _ _ _ _
     c.store_received.ensures c.take_data-next.ensures c.save_read.ensures c.keep_octet.ensures

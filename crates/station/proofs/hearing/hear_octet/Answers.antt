@@ -12,7 +12,8 @@ pub hear_data-requires : goal.hear_data-requires
 hear_data-requires c = (c.requires, sym c.takes_data-data.ensures ∙ and_left c.takes_data-data.result _ c.if-data-bad.true)
 
 pub returns-then-data-bad : goal.returns-then-data-bad
-returns-then-data-bad c = let m = c.args.mem.now in
+returns-then-data-bad c =
+    let m = c.args.mem.now in
     c.hear_data.ensures
     ∙ ap (λ (t : Bool). packed_after (heard (unpacked m) m c.args.b t)) (sym (not-true c.args.bad (and_right c.takes_data-data.result _ c.if-data-bad.true)))
 

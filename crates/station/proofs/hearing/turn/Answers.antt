@@ -19,7 +19,8 @@ pub returns-in-Fresh : goal.returns-in-Fresh
 returns-in-Fresh c = λ b. rw c.in-Fresh.is (leaves_fresh _ _ _ _ c.requires b)
 
 pub returns-in-Inside : goal.returns-in-Inside
-returns-in-Inside c = let told = c.in-Inside.is in
+returns-in-Inside c =
+    let told = c.in-Inside.is in
     λ b. rw told
     (leaves_begun _ _ _ _ c.requires told
     (settled_front

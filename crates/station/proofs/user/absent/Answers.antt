@@ -4,7 +4,8 @@ use Rattle.rules.specs.Diagnosis.{is_delayed}
 use Rattle.station.proofs.user.absent.Goals as goal
 
 pub returns : goal.returns
-returns c = let kind = c.args.kind in
+returns c =
+    let kind = c.args.kind in
     let index = c.args.index in
     λ i.
     (eqb kind 2 && (c.past.ensures ∙ (λ j. leb (c.parameters-parameters.ensures j).shown index)) i)

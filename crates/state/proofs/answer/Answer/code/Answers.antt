@@ -19,12 +19,14 @@ negated : (n : ℕ) → n < 2 ^ 63 → pos 0 -ℤ to_z w64 n ≡ neg_ℤ (pos n)
 negated n h = rw (to_z_pos w64 h) (+ℤ_idl (neg_ℤ (pos n)))
 
 pub returns-in-Value : goal.returns-in-Value
-returns-in-Value c = let n = c.in-Value.n in
+returns-in-Value c =
+    let n = c.in-Value.n in
     let h : n < 2 ^ 63 = omega arith in
     to_z_pos w64 h ∙ sym (ap answer_number c.in-Value.is)
 
 pub returns-in-Refused : goal.returns-in-Refused
-returns-in-Refused c = let n = c.number.result in
+returns-in-Refused c =
+    let n = c.number.result in
     let h : n < 2 ^ 63 = omega arith in
     rw (negated n h) (to_z-of_z (negated_fits n h))
     ∙ ap (λ (k : ℕ). neg_ℤ (pos k)) c.number.ensures
