@@ -1,10 +1,10 @@
 -- Demand 3: for every list of calls from a freshly started station the answers over the memory are the ledger's.
+use Rattle.std.specs.Prelude.{Ok}
 use Prim.Native.Nat.{ℕ}
 use mathlib.Core.Path.{◌≡◌, refl, sym, ap, subst, ◌∙◌}
 use mathlib.Core.Bool.{true}
 use mathlib.Core.List.{List, [], ◌∷◌, ◌++◌}
 use lib.ListN.{length, get_or}
-use Rattle.state.specs.declared.answer.Answer.TheVariants.{Value}
 use Rattle.state.specs.declared.setup.Setup.{Setup}
 use Rattle.state.specs.declared.state.State.{State}
 use Rattle.state.specs.Answer.{Called}
@@ -85,7 +85,7 @@ agrees_on = lists_agree called ledger.step call_alike
 pub ready_after : (cs : List Call) (m : List ℕ) (l : Ledger) → Ready m l → Ready (memory_after m cs) (ledger.after l cs)
 ready_after = lists_ready called ledger.step call_alike
 
-module _ (m : List ℕ) (s : Setup) (slice lengths : List ℕ) (long : s.get_cfg_len ≡ length slice) (zero : (started m s slice lengths).answer ≡ Value 0) where
+module _ (m : List ℕ) (s : Setup) (slice lengths : List ℕ) (long : s.get_cfg_len ≡ length slice) (zero : (started m s slice lengths).answer ≡ Ok 0) where
   begins : Begins m s lengths
   begins = started_begins m s slice lengths zero
 
@@ -124,7 +124,7 @@ module _ (m : List ℕ) (s : Setup) (slice lengths : List ℕ) (long : s.get_cfg
     octet_then_call = λ pre post b bad c u i. places_alike agree ((exchange (fresh s slice) pre post b bad c).inner_first u i);
     call_then_octet = λ pre post b bad c u i. places_alike agree ((exchange (fresh s slice) pre post b bad c).inner_second u i);
     outputs = λ cs index rest h.
-        let x = Value (get_or (readable s.output_len (history (fresh s slice) cs)) index 0) in
+        let x = Ok (get_or (readable s.output_len (history (fresh s slice) cs)) index 0) in
         agree (cs ++ read 1 index ∷ rest)
         ∙ (outputs_read s slice cs index rest).answers_are h
         ∙ (λ i. sym (agree cs) i ++ x ∷ sym (later cs rest) i);

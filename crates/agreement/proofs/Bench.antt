@@ -1,11 +1,11 @@
 -- The bench list over the memory (specs/Bench.antt): what the ledger answers, by demand 3.
+use Rattle.std.specs.Prelude.{Ok}
 use Prim.Native.Nat.{ℕ, ◌+◌, ◌*◌, ◌<◌}
 use native.Mathlib.Omega.{arith}
 use mathlib.Core.Path.{◌≡◌, refl, ap, ◌∙◌}
 use mathlib.Core.Logic.{inl}
 use mathlib.Core.List.{List}
 use lib.ListN.{length, get_or-replicate}
-use Rattle.state.specs.declared.answer.Answer.TheVariants.{Value}
 use Rattle.state.specs.Answer.{Called}
 use Rattle.octets.specs.Part.{rounded_up}
 use Rattle.channels.specs.Image.{channels}
@@ -40,7 +40,7 @@ bench_begins m n = record {
   room = let e = bench_end in let l = n.within.0 in omega arith;
 }
 
-bench_starts : (m : List ℕ) → LengthIn (length m) → (started m bench_setup bench_slice no_channels).answer ≡ Value 0
+bench_starts : (m : List ℕ) → LengthIn (length m) → (started m bench_setup bench_slice no_channels).answer ≡ Ok 0
 bench_starts m n = ap (λ (c : Called). c.answer) (begins_started m bench_setup bench_slice no_channels (bench_begins m n))
 
 pub bench_over_memory : BenchOnEveryMemory

@@ -1,8 +1,8 @@
 -- Every call: station and ledger tell alike and stay related.
+use Rattle.std.specs.Prelude.{Ok}
 use Prim.Native.Nat.{ℕ}
 use mathlib.Core.Path.{refl, ap}
 use mathlib.Core.List.{List}
-use Rattle.state.specs.declared.answer.Answer.TheVariants.{Value}
 use Rattle.state.specs.declared.state.State.{State}
 use Rattle.rules.specs.Call.{Call, octet, gap, send, tick, take, read, write, hand_over_call, new_diagnosis_call, judge_parameters_call, judge_configuration_call, events, acknowledge, pending, leave}
 use Rattle.ledger.specs.Ledger.{Ledger}
@@ -28,7 +28,7 @@ module _ {s : State} {m : List ℕ} {l : Ledger} (r : Related s m l) (w : Ranged
   step_matches : (c : Call) → Matches (step s m c) (ledger.step l c)
   step_matches (octet b bad) = record { answers = refl; agrees = heard_agrees s m l b r.steady w r.agrees bad }
   step_matches gap = gap_matches r.agrees
-  step_matches send = record { answers = ap Value (send_told_lem s m l r.steady r.agrees); agrees = send_agrees s m l r.steady r.agrees }
+  step_matches send = record { answers = ap Ok (send_told_lem s m l r.steady r.agrees); agrees = send_agrees s m l r.steady r.agrees }
   step_matches tick = tick_matches r.agrees
   step_matches take = take_matches r.agrees
   step_matches (read kind index) = read_matches r.agrees kind index

@@ -1,4 +1,5 @@
 -- The calls read and write: told alike, and what is left agrees.
+use Rattle.std.specs.Prelude.{Ok}
 use Prim.Native.Nat.{ℕ, ◌+◌, ◌≤◌, ◌<◌}
 use native.Mathlib.Omega.{arith}
 use mathlib.Core.Path.{◌≡◌, refl, sym, ap, ◌∙◌, subst}
@@ -13,7 +14,6 @@ use Rattle.octets.specs.Part.{part}
 use Rattle.octets.proofs.Parts.{part_at, part_set_inside}
 use Rattle.telegram.proofs.Run.{no_true}
 use Rattle.state.specs.declared.setup.Setup.{Setup}
-use Rattle.state.specs.declared.answer.Answer.TheVariants.{Value}
 use Rattle.state.specs.declared.answer.Refusal.TheVariants.{Range, Absent}
 use Rattle.state.specs.declared.state.Sets as station-sets
 use Rattle.state.specs.declared.state.State.{State}
@@ -96,7 +96,7 @@ module _ {s : State} {m : List ℕ} {l : Ledger} (a : Agrees s m l) where
       (λ e. both Matches (absent s kind index) (ledger-user.absent l kind index) (refusing Absent s m) _ (ledger-user.refusing Absent l) _
       (absent_agrees kind index)
       (λ _. refuses a Absent)
-      (λ f. record { answers = ap Value (kind_octet kind index (not-false _ e) f); agrees = a }))
+      (λ f. record { answers = ap Ok (kind_octet kind index (not-false _ e) f); agrees = a }))
 
 -- ---- writing
 

@@ -3,7 +3,7 @@ use Prim.Native.Nat.{ℕ, ◌≤◌}
 use mathlib.Core.Path.{◌≡◌, ap, subst, ◌∙◌}
 use mathlib.Core.List.{List}
 use lib.ListN.{length}
-use Rattle.state.specs.declared.answer.Answer.{Answer}
+use Rattle.state.specs.Answer.{Answer}
 use Rattle.state.specs.declared.state.State.{State}
 use Rattle.state.specs.Memory.{Holds, kept}
 use Rattle.state.specs.Layout.{image_length}

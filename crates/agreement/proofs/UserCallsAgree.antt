@@ -1,4 +1,5 @@
 -- The calls of the vat program but read and write: told alike, and what is left agrees.
+use Rattle.std.specs.Prelude.{Ok}
 use Prim.Native.Nat.{ℕ}
 use mathlib.Core.Path.{◌≡◌, refl, sym, ap, ◌∙◌}
 use mathlib.Core.Bool.{Bool, true, cond, not, ◌&&◌}
@@ -11,7 +12,6 @@ use Rattle.buffers.specs.Quad as quad
 use Rattle.buffers.proofs.Triples.{handed_over_permutes}
 use Rattle.buffers.proofs.Quads.{taken_permutes}
 use Rattle.telegram.proofs.Run.{no_true}
-use Rattle.state.specs.declared.answer.Answer.TheVariants.{Value}
 use Rattle.state.specs.declared.answer.Refusal.{Refusal}
 use Rattle.state.specs.declared.answer.Refusal.TheVariants.{Judging, Range, Delayed}
 use Rattle.state.specs.declared.control.Control.{Control}
@@ -62,10 +62,10 @@ module _ {s : State} {m : List ℕ} {l : Ledger} (a : Agrees s m l) where
   }
 
   pub events_matches : Matches (step s m events) (ledger-calls.step l events)
-  events_matches = record { answers = ap (λ (c : Control). Value c.events.word) a.control; agrees = a }
+  events_matches = record { answers = ap (λ (c : Control). Ok c.events.word) a.control; agrees = a }
 
   pub pending_matches : Matches (step s m pending) (ledger-calls.step l pending)
-  pending_matches = record { answers = ap (λ (c : Control). Value (pending_of c.events)) a.control; agrees = a }
+  pending_matches = record { answers = ap (λ (c : Control). Ok (pending_of c.events)) a.control; agrees = a }
 
   pub acknowledge_matches : (mask : ℕ) → Matches (step s m (acknowledge mask)) (ledger-calls.step l (acknowledge mask))
   unfolding acknowledge_events ledger-user.acknowledge_events
@@ -89,7 +89,7 @@ module _ {s : State} {m : List ℕ} {l : Ledger} (a : Agrees s m l) where
       (ap not a.outputs.fresh)
       (λ _. record { answers = refl; agrees = a })
       (λ _. record {
-        answers = ap (λ (z : Bool). Value (cond z 2 1)) a.outputs.zeros;
+        answers = ap (λ (z : Bool). Ok (cond z 2 1)) a.outputs.zeros;
         agrees =
             roles_changed a (record { set = quad.taken s.outputs.set; zeros = s.outputs.zeros }) s.inputs (lists.taken_outputs l.buffers.outputs) l.buffers.inputs refl refl
             (taken_permutes s.outputs.set a.safe.outputs) a.safe.inputs
@@ -167,7 +167,7 @@ module _ {s : State} {m : List ℕ} {l : Ledger} (r : Related s m l) where
       (λ e. both Matches (not (leb j 1)) (not (leb j 1)) (refusing Range s m) _ (ledger-user.refusing Range l) _ refl
       (λ _. refuses a Range)
       (λ _. record {
-        answers = ap (λ (t : Bool). Value (cond t 1 0)) fresh;
+        answers = ap (λ (t : Bool). Ok (cond t 1 0)) fresh;
         agrees =
             quiet_agrees a
             (parameters_quiet s.setup s.control s.parameters.set.fresh (eqb j 1) (parameters_spared (not-false _ e)))
@@ -186,7 +186,7 @@ module _ {s : State} {m : List ℕ} {l : Ledger} (r : Related s m l) where
       (λ e. both Matches (not (leb j 1)) (not (leb j 1)) (refusing Range s m) _ (ledger-user.refusing Range l) _ refl
       (λ _. refuses a Range)
       (λ _. record {
-        answers = ap (λ (t : Bool). Value (cond t 1 0)) fresh;
+        answers = ap (λ (t : Bool). Ok (cond t 1 0)) fresh;
         agrees =
             quiet_agrees a
             (configuration_quiet s.setup s.control s.configuration.set.fresh (eqb j 1) (configuration_spared (not-false _ e)))

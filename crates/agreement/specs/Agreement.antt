@@ -1,6 +1,5 @@
 -- Demand 3, over the memory: what is claimed of every list of calls from a freshly started station, refused ones included.
-use Rattle.std.specs.Prelude.{ℕ, ◌<◌, ◌≡◌, Bool, true, List, [], ◌∷◌, ◌++◌, length, get_or}
-use Rattle.state.specs.declared.answer.Answer.TheVariants.{Value}
+use Rattle.std.specs.Prelude.{ℕ, ◌<◌, ◌≡◌, Bool, true, List, [], ◌∷◌, ◌++◌, length, get_or, Ok}
 use Rattle.state.specs.declared.setup.Setup.{Setup}
 use Rattle.steps.specs.Calls.{started, answers, memory_after}
 use Rattle.ledger.specs.Ledger.{fresh}
@@ -27,18 +26,18 @@ pub record Agreement (m : List ℕ) (s : Setup) (slice lengths : List ℕ) : Typ
   pub outputs : (cs : List Call) (index : ℕ) (rest : List Call) → index < s.output_len
       → answers (memory_of m s slice lengths) (cs ++ read 1 index ∷ rest)
       ≡ answers (memory_of m s slice lengths) cs
-      ++ Value (get_or (readable s.output_len (history (fresh s slice) cs)) index 0) ∷ answers (memory_after (memory_of m s slice lengths) cs) rest
+      ++ Ok (get_or (readable s.output_len (history (fresh s slice) cs)) index 0) ∷ answers (memory_after (memory_of m s slice lengths) cs) rest
   -- a take tells of them, also where they have no octet that could be read: 0 if nothing was published since the latest take, 2 if zeros were
   -- published last, else 1
   pub takes : (cs rest : List Call)
       → answers (memory_of m s slice lengths) (cs ++ take ∷ rest)
       ≡ answers (memory_of m s slice lengths) cs
-      ++ Value (news_of (history (fresh s slice) cs)) ∷ answers (memory_after (memory_of m s slice lengths) (cs ++ take ∷ [])) rest
+      ++ Ok (news_of (history (fresh s slice) cs)) ∷ answers (memory_after (memory_of m s slice lengths) (cs ++ take ∷ [])) rest
 
 -- for every memory, setup, slice of the setup's Get_Cfg length and lengths of channels for which Start answers 0
 abbrev pub FromStart : (List ℕ → Setup → List ℕ → List ℕ → Type 0) → Type 0
 FromStart P =
-    (m : List ℕ) (s : Setup) (slice lengths : List ℕ) → s.get_cfg_len ≡ length slice → (started m s slice lengths).answer ≡ Value 0
+    (m : List ℕ) (s : Setup) (slice lengths : List ℕ) → s.get_cfg_len ≡ length slice → (started m s slice lengths).answer ≡ Ok 0
     → P m s slice lengths
 
 -- demand 3 whole

@@ -3,9 +3,8 @@ use Prim.Native.Nat.{ℕ}
 use mathlib.Core.Path.{◌≡◌, sym, ap, subst, ◌∙◌}
 use mathlib.Core.List.{List}
 use lib.IntN.{ℤ}
-use Rattle.state.specs.declared.answer.Answer.{Answer}
 use Rattle.state.specs.declared.control.Control.{Control}
-use Rattle.state.specs.Answer.{Called, Meets, answer_number}
+use Rattle.state.specs.Answer.{Answer, Called, Meets, answer_number}
 use Rattle.state.specs.Unpack.{unpacked}
 use Rattle.rules.specs.Call.{Call}
 use Rattle.steps.specs.Calls.{called}

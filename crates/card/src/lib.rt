@@ -13,6 +13,7 @@ ghost use Rattle.window.specs.Command.{commanded};
 ghost use Rattle.window.specs.Calls.{entered_by, entered};
 ghost use Rattle.card.specs.Exports.{Returns};
 
+use state::answer::code;
 use station::calls;
 use window::command::Command;
 use window::order::Order;
@@ -32,7 +33,7 @@ pub fn dp_start(
 ) -> i64
     ensures { Returns (started memory.old (given address ident output_len input_len parameter_len configuration_len diagnosis_len (length get_cfg.now)) get_cfg.now channels.now) result memory.new }
 {
-    let answer = station::start::start(
+    code(station::start::start(
         memory,
         address,
         ident,
@@ -43,128 +44,112 @@ pub fn dp_start(
         diagnosis_len,
         get_cfg,
         channels,
-    );
-    answer.code()
+    ))
 }
 
 // The bus's octet. bad: 0 for one that was well received, any other value flags it.
 pub fn dp_octet(memory: &mut [u8], octet: u8, bad: u8) -> i64
     ensures { Returns (called memory.old (call.octet octet (not (eqb bad 0)))) result memory.new }
 {
-    let answer = calls::octet(memory, octet, !(bad == 0));
-    answer.code()
+    code(calls::octet(memory, octet, !(bad == 0)))
 }
 
 // A gap on the line.
 pub fn dp_gap(memory: &mut [u8]) -> i64
     ensures { Returns (called memory.old gap) result memory.new }
 {
-    let answer = calls::gap(memory);
-    answer.code()
+    code(calls::gap(memory))
 }
 
 // The next octet of the reply, 256 when none is left.
 pub fn dp_send(memory: &mut [u8]) -> i64
     ensures { Returns (called memory.old send) result memory.new }
 {
-    let answer = calls::send(memory);
-    answer.code()
+    code(calls::send(memory))
 }
 
 // A Tick, every 1 ms.
 pub fn dp_tick(memory: &mut [u8]) -> i64
     ensures { Returns (called memory.old tick) result memory.new }
 {
-    let answer = calls::tick(memory);
-    answer.code()
+    code(calls::tick(memory))
 }
 
 // Take outputs: 0 nothing new, 1 new, 2 new zeros published by the station.
 pub fn dp_take_outputs(memory: &mut [u8]) -> i64
     ensures { Returns (called memory.old take) result memory.new }
 {
-    let answer = calls::take(memory);
-    answer.code()
+    code(calls::take(memory))
 }
 
 // An octet of kind 1 outputs, 2 parameters shown, 3 configuration shown, 4 held inputs, 5 the user's diagnosis.
 pub fn dp_read(memory: &mut [u8], kind: u32, index: u32) -> i64
     ensures { Returns (called memory.old (read kind index)) result memory.new }
 {
-    let answer = calls::read(memory, kind, index);
-    answer.code()
+    code(calls::read(memory, kind, index))
 }
 
 // An octet of kind 4 or 5 written.
 pub fn dp_write(memory: &mut [u8], kind: u32, index: u32, octet: u8) -> i64
     ensures { Returns (called memory.old (write kind index octet)) result memory.new }
 {
-    let answer = calls::write(memory, kind, index, octet);
-    answer.code()
+    code(calls::write(memory, kind, index, octet))
 }
 
 // Hand over inputs.
 pub fn dp_hand_over_inputs(memory: &mut [u8]) -> i64
     ensures { Returns (called memory.old hand_over_call) result memory.new }
 {
-    let answer = calls::hand_over(memory);
-    answer.code()
+    code(calls::hand_over(memory))
 }
 
 // New diagnosis of `count` octets, flags in bits 0 to 2: Ext_Diag, Stat_Diag, overflow.
 pub fn dp_new_diagnosis(memory: &mut [u8], count: u32, flags: u32) -> i64
     ensures { Returns (called memory.old (new_diagnosis_call count flags)) result memory.new }
 {
-    let answer = calls::new_diagnosis(memory, count, flags);
-    answer.code()
+    code(calls::new_diagnosis(memory, count, flags))
 }
 
 // Judge parameters, 1 good, 0 bad: 1 if a newer set waited, which is now shown, else 0.
 pub fn dp_judge_parameters(memory: &mut [u8], judgement: u32) -> i64
     ensures { Returns (called memory.old (judge_parameters_call judgement)) result memory.new }
 {
-    let answer = calls::judge_parameters(memory, judgement);
-    answer.code()
+    code(calls::judge_parameters(memory, judgement))
 }
 
 // Judge configuration, likewise.
 pub fn dp_judge_configuration(memory: &mut [u8], judgement: u32) -> i64
     ensures { Returns (called memory.old (judge_configuration_call judgement)) result memory.new }
 {
-    let answer = calls::judge_configuration(memory, judgement);
-    answer.code()
+    code(calls::judge_configuration(memory, judgement))
 }
 
 // The event word.
 pub fn dp_events(memory: &mut [u8]) -> i64
     ensures { Returns (called memory.old events) result memory.new }
 {
-    let answer = calls::events(memory);
-    answer.code()
+    code(calls::events(memory))
 }
 
 // Clears the events of the mask, never 10 or 11.
 pub fn dp_acknowledge(memory: &mut [u8], mask: u16) -> i64
     ensures { Returns (called memory.old (acknowledge mask)) result memory.new }
 {
-    let answer = calls::acknowledge(memory, mask);
-    answer.code()
+    code(calls::acknowledge(memory, mask))
 }
 
 // The smallest number of a set event, 16 for none.
 pub fn dp_pending(memory: &mut [u8]) -> i64
     ensures { Returns (called memory.old pending) result memory.new }
 {
-    let answer = calls::pending(memory);
-    answer.code()
+    code(calls::pending(memory))
 }
 
 // Leave the master: a clear.
 pub fn dp_leave_master(memory: &mut [u8]) -> i64
     ensures { Returns (called memory.old leave) result memory.new }
 {
-    let answer = calls::leave(memory);
-    answer.code()
+    code(calls::leave(memory))
 }
 
 // What is behind an access of the window. What is long is made by the function that C gets for it, so that its code stands once.
@@ -172,16 +157,16 @@ fn command(memory: &mut [u8], command: Command) -> i64
     ensures { Returns (entered_by memory.old (commanded (unpacked memory.old).control command)) result memory.new }
 {
     match command {
-        Command::LowEvents => window::calls::event_bits(memory, 0).code(),
-        Command::HighEvents => window::calls::event_bits(memory, 8).code(),
-        Command::HandOver => calls::hand_over(memory).code(),
+        Command::LowEvents => code(window::calls::event_bits(memory, 0)),
+        Command::HighEvents => code(window::calls::event_bits(memory, 8)),
+        Command::HandOver => code(calls::hand_over(memory)),
         Command::Take => dp_take_outputs(memory),
-        Command::NewDiagnosis => window::calls::renew_diagnosis(memory).code(),
+        Command::NewDiagnosis => code(window::calls::renew_diagnosis(memory)),
         Command::JudgeParameters(judgement) => dp_judge_parameters(memory, judgement),
         Command::JudgeConfiguration(judgement) => dp_judge_configuration(memory, judgement),
-        Command::Acknowledge(mask) => calls::acknowledge(memory, mask).code(),
-        Command::Nothing => window::calls::nothing(&memory[..]).code(),
-        Command::NoCell => window::calls::no_cell(&memory[..]).code(),
+        Command::Acknowledge(mask) => code(calls::acknowledge(memory, mask)),
+        Command::Nothing => code(window::calls::nothing(&memory[..])),
+        Command::NoCell => code(window::calls::no_cell(&memory[..])),
     }
 }
 

@@ -30,8 +30,8 @@ fn set_up(memory: &mut [u8]) {
 
 fn print_answer(rt: &impl Print, answer: Answer) -> io::Result<()> {
     match answer {
-        Answer::Value(n) => println!(rt; "{n:03x}"),
-        Answer::Refused(_) => println!(rt; "refused"),
+        Ok(n) => println!(rt; "{n:03x}"),
+        Err(_) => println!(rt; "refused"),
     }
 }
 

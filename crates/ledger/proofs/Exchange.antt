@@ -1,4 +1,5 @@
 -- A user call and a neighbouring inner octet change places (specs/Exchange.antt), for every list of calls.
+use Rattle.std.specs.Prelude.{Ok}
 use Prim.Native.Nat.{ℕ}
 use native.Mathlib.Omega.{arith}
 use mathlib.Core.Path.{◌≡◌, refl, sym, ap, ◌∙◌}
@@ -6,8 +7,7 @@ use mathlib.Core.Bool.{Bool, true, false, cond, not, ◌&&◌}
 use mathlib.Core.List.{List, [], ◌∷◌, ◌++◌}
 use lib.Dec.{leb, eqb}
 use lib.ListN.{get_or}
-use Rattle.state.specs.declared.answer.Answer.{Answer}
-use Rattle.state.specs.declared.answer.Answer.TheVariants.{Value}
+use Rattle.state.specs.Answer.{Answer}
 use Rattle.telegram.specs.declared.reader.Status.{Status}
 use Rattle.telegram.specs.declared.reader.Status.TheVariants.{Fresh, Inside, Complete, Broken}
 use Rattle.telegram.specs.Reading.{run, reader_after, status}
@@ -171,7 +171,7 @@ module _ {S E : Type 0} (answer : S → E → Answer) (next : S → E → S) (s 
   abbrev between : S
   between = left_by next s pre
 
-  pub neighbours_change : answer between o ≡ Value 0 → answer (next between c) o ≡ Value 0
+  pub neighbours_change : answer between o ≡ Ok 0 → answer (next between c) o ≡ Ok 0
       → answer (next between o) c ≡ answer between c → next (next between o) c ≡ next (next between c) o
       → PlacesChanged (answers_to answer next s) pre post o c
   neighbours_change first then same left = record {

@@ -1,11 +1,11 @@
 -- A whole telegram heard (specs/Hearing.antt): inner octets only lengthen, and the last one completes.
+use Rattle.std.specs.Prelude.{Ok}
 use Prim.Native.Nat.{ℕ}
 use mathlib.Core.Path.{◌≡◌, refl, sym, ap, ◌∙◌}
 use mathlib.Core.Bool.{Bool, false}
 use mathlib.Core.List.{List, [], ◌∷◌, ◌++◌, append-nil, append_assoc}
 use lib.ListN.{length, replicate}
-use Rattle.state.specs.declared.answer.Answer.{Answer}
-use Rattle.state.specs.declared.answer.Answer.TheVariants.{Value}
+use Rattle.state.specs.Answer.{Answer}
 use Rattle.telegram.specs.declared.reader.Status.{Status}
 use Rattle.telegram.specs.declared.reader.Status.TheVariants.{Fresh, Inside, Complete, Broken}
 use Rattle.telegram.specs.Telegram.{Telegram, sd1, sd2, sd3, sd4, kind_of, octets_of, Valid, IsTelegram}
@@ -23,9 +23,9 @@ use Rattle.ledger.proofs.Runs.{answers_append}
 use Rattle.ledger.proofs.Settling.{settle_line}
 use Rattle.ledger.proofs.Exchange.{lengthens_heard}
 
-pub hear_answers : (l : Ledger) (xs : List ℕ) → answers l (hear xs) ≡ replicate (length xs) (Value 0)
+pub hear_answers : (l : Ledger) (xs : List ℕ) → answers l (hear xs) ≡ replicate (length xs) (Ok 0)
 hear_answers l [] = refl
-hear_answers l (x ∷ xs) = ap (λ (a : List Answer). Value 0 ∷ a) (hear_answers (heard l x false) xs)
+hear_answers l (x ∷ xs) = ap (λ (a : List Answer). Ok 0 ∷ a) (hear_answers (heard l x false) xs)
 
 -- a telegram that lacks octets is inside
 pub unfinished : (x : ℕ) (xs : List ℕ) (y : ℕ) (ys : List ℕ) → IsTelegram ((x ∷ xs) ++ y ∷ ys) → status (run (x ∷ xs)) ≡ Inside
@@ -115,7 +115,7 @@ pub sends_all : (l : Ledger) (xs ys : List ℕ) → l.line.reply ≡ xs ++ ys
 sends_all l [] ys e = (refl, e)
 sends_all l (x ∷ xs) ys e =
     let w = sends_all (after_send l) xs ys (sent_reply l x (xs ++ ys) e) in
-    (λ i. Value (send_told (e i)) ∷ w.0 i, w.1)
+    (λ i. Ok (send_told (e i)) ∷ w.0 i, w.1)
 
 pub dialogue : (l : Ledger) (t : Telegram) → Dialogue l t
 dialogue l t = record {
@@ -125,6 +125,6 @@ dialogue l t = record {
       let w = sends_all (settle m) r [] (ap (λ (n : Line). n.reply) (settle_line m) ∙ sym (append-nil r)) in
       answers_append l (hear (octets_of t)) (sends_of r ++ send ∷ [])
       ∙ (λ k. (hears l t).answers_are k ++ answers ((hears l t).ledger_is i e v k) (sends_of r ++ send ∷ []))
-      ∙ ap (λ (a : List Answer). replicate (length (octets_of t)) (Value 0) ++ a)
-      (answers_append (settle m) (sends_of r) (send ∷ []) ∙ (λ k. w.0 k ++ Value (send_told (w.1 k)) ∷ []));
+      ∙ ap (λ (a : List Answer). replicate (length (octets_of t)) (Ok 0) ++ a)
+      (answers_append (settle m) (sends_of r) (send ∷ []) ∙ (λ k. w.0 k ++ Ok (send_told (w.1 k)) ∷ []));
 }

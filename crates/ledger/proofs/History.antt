@@ -1,4 +1,5 @@
 -- The outputs read are those of the newest telegram accepted before the latest take, or zeros (specs/History.antt).
+use Rattle.std.specs.Prelude.{Ok}
 use Prim.Native.Nat.{ℕ, ◌<◌}
 use native.Mathlib.Omega.{arith}
 use mathlib.Core.Path.{◌≡◌, refl, sym, ap, ◌∙◌}
@@ -8,7 +9,6 @@ use lib.ListN.{get_or}
 use lib.Dec.{eqb, ltb}
 use borrow.Author.Tests.{le-leb, lt-ltb}
 use Rattle.state.specs.declared.setup.Setup.{Setup}
-use Rattle.state.specs.declared.answer.Answer.TheVariants.{Value}
 use Rattle.rules.specs.Control.{bit}
 use Rattle.rules.specs.Modes.{commands_sync}
 use Rattle.rules.specs.declared.outcome.OutputsDeed.{OutputsDeed}
@@ -253,7 +253,7 @@ clear_last m first o n ds = go (bit first 1) (commands_sync m first && o.withhel
     go false t = refl
 
 -- the answer of one call or another
-either_told : (t : Bool) (a b : ℕ) (l m : Ledger) → (cond t (told a l) (told b m)).answer ≡ Value (cond t a b)
+either_told : (t : Bool) (a b : ℕ) (l m : Ledger) → (cond t (told a l) (told b m)).answer ≡ Ok (cond t a b)
 either_told true a b l m = refl
 either_told false a b l m = refl
 
@@ -264,5 +264,5 @@ takes_told s slice cs =
     let l = fresh s slice in
     let o = (after l cs).buffers.outputs in
     either_told (not o.fresh) 0 (cond o.zeros 2 1) _ _
-    ∙ ap (λ (q : Outputs). Value (cond (not q.fresh) 0 (cond q.zeros 2 1))) (after_made l cs)
-    ∙ ap Value (made_shows s.output_len (history l cs) l.buffers.outputs (record { holds = refl; brings = refl; keeps = refl; tells = refl })).tells
+    ∙ ap (λ (q : Outputs). Ok (cond (not q.fresh) 0 (cond q.zeros 2 1))) (after_made l cs)
+    ∙ ap Ok (made_shows s.output_len (history l cs) l.buffers.outputs (record { holds = refl; brings = refl; keeps = refl; tells = refl })).tells

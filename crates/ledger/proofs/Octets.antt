@@ -1,4 +1,5 @@
 -- Replies are octets (specs/Octets.antt): every list of a ledger that is fed octets has octets alone.
+use Rattle.std.specs.Prelude.{Ok}
 use Prim.Native.Nat.{ℕ, ◌<◌}
 use native.Mathlib.Omega.{arith}
 use mathlib.Core.Path.{◌≡◌, refl, sym, ap, subst, ◌∙◌}
@@ -14,7 +15,6 @@ use Rattle.telegram.proofs.Run.{broken_complete, run_snoc}
 use Rattle.telegram.proofs.Framing.{framing}
 use Rattle.telegram.proofs.OctetLists.{both_octets, zero_octets, octet_at_lem, payload_octets}
 use Rattle.state.specs.declared.setup.Setup.{Setup}
-use Rattle.state.specs.declared.answer.Answer.TheVariants.{Value}
 use Rattle.state.proofs.Choice.{either}
 use Rattle.rules.specs.Requests.{master_of}
 use Rattle.rules.specs.Diagnosis.{delaying}
@@ -161,10 +161,10 @@ octal_answers l f = record {
   left_are = f.reply;
   answers_none = (
     λ e. told_none l.line.reply f.reply (let m : send_told l.line.reply ≡ 256 = cc in m),
-    λ e. ap (λ (xs : List ℕ). Value (send_told xs)) e,
+    λ e. ap (λ (xs : List ℕ). Ok (send_told xs)) e,
   );
   reads_octet = λ kind index n.
-      read_cases (λ t. t.answer ≡ Value n → n < 256) l kind index (λ r e. let z : ◌≡◌ {A = ℕ} 0 1 = cc in absurd (omega arith))
+      read_cases (λ t. t.answer ≡ Ok n → n < 256) l kind index (λ r e. let z : ◌≡◌ {A = ℕ} 0 1 = cc in absurd (omega arith))
       (λ e. let m : get_or (octets_of_kind l.buffers kind) index 0 ≡ n = cc in rw (← m) (octet_at_lem (octets_of_kind l.buffers kind) (kind_octets l.buffers kind f.lists) index));
 }
 

@@ -1,12 +1,12 @@
 -- Lists written down with their answers, computed by whole telegrams: the octets of one that comes after a gap are not computed one by one.
+use Rattle.std.specs.Prelude.{Ok}
 use Prim.Native.Nat.{ℕ}
 use mathlib.Core.Path.{◌≡◌, refl, sym, ap, ◌∙◌}
 use mathlib.Core.Bool.{Bool, true, false, not, ◌&&◌}
 use mathlib.Core.List.{List, [], ◌∷◌, ◌++◌}
 use lib.ListN.{length, replicate}
 use borrow.Author.Tests.{not-true}
-use Rattle.state.specs.declared.answer.Answer.{Answer}
-use Rattle.state.specs.declared.answer.Answer.TheVariants.{Value}
+use Rattle.state.specs.Answer.{Answer}
 use Rattle.telegram.specs.declared.reader.Status.{Status}
 use Rattle.telegram.specs.declared.reader.Status.TheVariants.{Fresh, Inside, Complete, Broken}
 use Rattle.telegram.specs.Telegram.{Telegram, kind_of, IsTelegram}
@@ -46,7 +46,7 @@ heard_by false l xs = after l (hear xs)
 -- the answers, by whole telegrams
 abbrev pub quick : Ledger → List Part → List Answer
 quick l [] = []
-quick l (hears xs ∷ ps) = replicate (length xs) (Value 0) ++ quick (heard_by (at_once l xs) l xs) ps
+quick l (hears xs ∷ ps) = replicate (length xs) (Ok 0) ++ quick (heard_by (at_once l xs) l xs) ps
 quick l (sends xs ∷ ps) = answers l (sends_of xs) ++ quick (after l (sends_of xs)) ps
 quick l (does c n ∷ ps) = (step l c).answer ∷ quick (step l c).ledger ps
 quick l (refuses c r ∷ ps) = (step l c).answer ∷ quick (step l c).ledger ps
@@ -84,7 +84,7 @@ quick_is l [] = refl
 quick_is l (hears xs ∷ ps) =
     answers_append l (hear xs) (calls_of ps)
     ∙ (λ i. hear_answers l xs i ++ answers (heard_is l xs i) (calls_of ps))
-    ∙ ap (λ (a : List Answer). replicate (length xs) (Value 0) ++ a) (quick_is (heard_by (at_once l xs) l xs) ps)
+    ∙ ap (λ (a : List Answer). replicate (length xs) (Ok 0) ++ a) (quick_is (heard_by (at_once l xs) l xs) ps)
 quick_is l (sends xs ∷ ps) =
     answers_append l (sends_of xs) (calls_of ps)
     ∙ ap (λ (a : List Answer). answers l (sends_of xs) ++ a) (quick_is (after l (sends_of xs)) ps)

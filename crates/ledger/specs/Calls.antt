@@ -1,6 +1,6 @@
 -- The answers to a list of calls.
 use Rattle.std.specs.Prelude.{List}
-use Rattle.state.specs.declared.answer.Answer.{Answer}
+use Rattle.state.specs.Answer.{Answer}
 use Rattle.rules.specs.Call.{Call, octet, gap, send, tick, take, read, write, hand_over_call, new_diagnosis_call, judge_parameters_call, judge_configuration_call, events, acknowledge, pending, leave}
 use Rattle.rules.specs.Runs.{answers_to, left_by}
 use Rattle.ledger.specs.Ledger.{Ledger}

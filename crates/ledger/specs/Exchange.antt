@@ -1,7 +1,6 @@
 -- A user call and a neighbouring inner octet change places: what demand 3 promises of every answer.
-use Rattle.std.specs.Prelude.{ℕ, ◌≡◌, Bool, true, false, List, [], ◌∷◌, ◌++◌, length}
-use Rattle.state.specs.declared.answer.Answer.{Answer}
-use Rattle.state.specs.declared.answer.Answer.TheVariants.{Value}
+use Rattle.std.specs.Prelude.{ℕ, ◌≡◌, Bool, true, false, List, [], ◌∷◌, ◌++◌, length, Ok}
+use Rattle.state.specs.Answer.{Answer}
 use Rattle.telegram.specs.Framing.{Continues}
 use Rattle.ledger.specs.Ledger.{Ledger, begun}
 use Rattle.ledger.specs.Bus.{heard}
@@ -45,8 +44,8 @@ pub record PlacesChanged {E : Type 0} (answered : List E → List Answer) (pre p
   pub later : List Answer
   pub earlier_are : length earlier ≡ length pre
   pub later_are : length later ≡ length post
-  pub octet_first : answered (pre ++ octet ∷ c ∷ post) ≡ earlier ++ Value 0 ∷ own ∷ later
-  pub call_first : answered (pre ++ c ∷ octet ∷ post) ≡ earlier ++ own ∷ Value 0 ∷ later
+  pub octet_first : answered (pre ++ octet ∷ c ∷ post) ≡ earlier ++ Ok 0 ∷ own ∷ later
+  pub call_first : answered (pre ++ c ∷ octet ∷ post) ≡ earlier ++ own ∷ Ok 0 ∷ later
 
 -- and that for a user call, where the octet is inner before the call or is inner after it
 pub record Exchange (l : Ledger) (pre post : List Call) (b : ℕ) (bad : Bool) (c : Call) : Type 0 where

@@ -1,7 +1,6 @@
 -- What became of the outputs, told by the telegrams and takes alone, and what a read of them answers (demand 3).
-use Rattle.std.specs.Prelude.{ℕ, ◌<◌, ◌≡◌, Bool, true, false, cond, ◌&&◌, List, [], ◌∷◌, ◌++◌, eqb, leb, replicate, get_or}
+use Rattle.std.specs.Prelude.{ℕ, ◌<◌, ◌≡◌, Bool, true, false, cond, ◌&&◌, List, [], ◌∷◌, ◌++◌, eqb, leb, replicate, get_or, Ok}
 use Rattle.state.specs.declared.setup.Setup.{Setup}
-use Rattle.state.specs.declared.answer.Answer.TheVariants.{Value}
 use Rattle.telegram.specs.declared.reader.Status.{Status}
 use Rattle.telegram.specs.declared.reader.Status.TheVariants.{Fresh, Inside, Complete, Broken}
 use Rattle.telegram.specs.Telegram.{Telegram, payload_of}
@@ -133,7 +132,7 @@ pub record OutputsRead (s : Setup) (slice : List ℕ) (cs : List Call) (index : 
   pub answers_are : index < s.output_len
       → answers (fresh s slice) (cs ++ read 1 index ∷ rest)
       ≡ answers (fresh s slice) cs
-      ++ Value (get_or (readable s.output_len (history (fresh s slice) cs)) index 0) ∷ answers (after (fresh s slice) cs) rest
+      ++ Ok (get_or (readable s.output_len (history (fresh s slice) cs)) index 0) ∷ answers (after (fresh s slice) cs) rest
 
 -- so it is of every list of calls, with any calls behind the read
 abbrev pub OutputsReadable : Type 0
@@ -179,4 +178,4 @@ news_of (outputs_taken ∷ earlier) = 0
 abbrev pub TakesTold : Type 0
 TakesTold =
     (s : Setup) (slice : List ℕ) (cs : List Call)
-    → (step (after (fresh s slice) cs) take).answer ≡ Value (news_of (history (fresh s slice) cs))
+    → (step (after (fresh s slice) cs) take).answer ≡ Ok (news_of (history (fresh s slice) cs))

@@ -1,8 +1,7 @@
 -- Replies are octets: Send answers an octet, and 256 only when no octet is left (document 01, Numbers by who causes them).
-use Rattle.std.specs.Prelude.{ℕ, ◌<◌, ◌≡◌, List, [], ◌∷◌, ◌↔◌}
+use Rattle.std.specs.Prelude.{ℕ, ◌<◌, ◌≡◌, List, [], ◌∷◌, ◌↔◌, Ok}
 use Rattle.telegram.specs.Telegram.{Octets}
 use Rattle.state.specs.declared.setup.Setup.{Setup}
-use Rattle.state.specs.declared.answer.Answer.TheVariants.{Value}
 use Rattle.rules.specs.Call.{Call, octet, gap, send, tick, take, read, write, hand_over_call, new_diagnosis_call, judge_parameters_call, judge_configuration_call, events, acknowledge, pending, leave}
 use Rattle.ledger.specs.Ledger.{Ledger, fresh}
 use Rattle.ledger.specs.Calls.{step, after}
@@ -36,9 +35,9 @@ pub record AnswersOctets (l : Ledger) : Type 0 where
   -- what is left of the reply are octets
   pub left_are : Octets l.line.reply
   -- so that 256 from Send says that none is left
-  pub answers_none : ((step l send).answer ≡ Value 256) ↔ (l.line.reply ≡ [])
+  pub answers_none : ((step l send).answer ≡ Ok 256) ↔ (l.line.reply ≡ [])
   -- what a read answers is an octet
-  pub reads_octet : (kind index n : ℕ) → (step l (read kind index)).answer ≡ Value n → n < 256
+  pub reads_octet : (kind index n : ℕ) → (step l (read kind index)).answer ≡ Ok n → n < 256
 
 -- after every list of calls that brings octets, from a Start with a slice of octets and an ident number of 16 bits
 abbrev pub SentOctets : Type 0

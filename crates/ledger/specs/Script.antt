@@ -1,8 +1,7 @@
 -- Lists of calls written down beside their answers.
-use Rattle.std.specs.Prelude.{ℕ, ◌≡◌, List, [], ◌∷◌, ◌++◌, length, replicate}
+use Rattle.std.specs.Prelude.{ℕ, ◌≡◌, List, [], ◌∷◌, ◌++◌, length, replicate, Ok, Err}
 use Rattle.state.specs.declared.setup.Setup.{Setup}
-use Rattle.state.specs.declared.answer.Answer.{Answer}
-use Rattle.state.specs.declared.answer.Answer.TheVariants.{Value, Refused}
+use Rattle.state.specs.Answer.{Answer}
 use Rattle.state.specs.declared.answer.Refusal.{Refusal}
 use Rattle.ledger.specs.Ledger.{Ledger}
 use Rattle.rules.specs.Call.{Call}
@@ -27,10 +26,10 @@ calls_of (refuses c r ∷ ps) = c ∷ calls_of ps
 -- and their answers
 abbrev pub answers_of : List Part → List Answer
 answers_of [] = []
-answers_of (hears xs ∷ ps) = replicate (length xs) (Value 0) ++ answers_of ps
+answers_of (hears xs ∷ ps) = replicate (length xs) (Ok 0) ++ answers_of ps
 answers_of (sends xs ∷ ps) = values xs ++ answers_of ps
-answers_of (does c n ∷ ps) = Value n ∷ answers_of ps
-answers_of (refuses c r ∷ ps) = Refused r ∷ answers_of ps
+answers_of (does c n ∷ ps) = Ok n ∷ answers_of ps
+answers_of (refuses c r ∷ ps) = Err r ∷ answers_of ps
 
 -- the ledger answers so
 pub record Answers (l : Ledger) (ps : List Part) : Type 0 where

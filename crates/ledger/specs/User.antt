@@ -1,8 +1,7 @@
 -- The calls of the vat program (document 01, User calls, and Numbers by who causes them).
-use Rattle.std.specs.Prelude.{ℕ, Bool, cond, not, ◌&&◌, ◌||◌, List, [], eqb, leb, length, get_or}
+use Rattle.std.specs.Prelude.{ℕ, Bool, cond, not, ◌&&◌, ◌||◌, List, [], eqb, leb, length, get_or, Ok, Err}
 use Rattle.buffers.specs.Events.{acknowledged, pending_of}
-use Rattle.state.specs.declared.answer.Answer.{Answer}
-use Rattle.state.specs.declared.answer.Answer.TheVariants.{Value, Refused}
+use Rattle.state.specs.Answer.{Answer}
 use Rattle.state.specs.declared.answer.Refusal.{Refusal}
 use Rattle.state.specs.declared.answer.Refusal.TheVariants.{Judging, Range, Absent, Delayed}
 use Rattle.state.specs.Well.{within}
@@ -22,11 +21,11 @@ pub record Told : Type 0 where
 
 -- a call that answers a value
 abbrev pub told : ℕ → Ledger → Told
-told n l = record { answer = Value n; ledger = l }
+told n l = record { answer = Ok n; ledger = l }
 
 -- a refused call answers its number and changes nothing
 abbrev pub refusing : Refusal → Ledger → Told
-refusing r l = record { answer = Refused r; ledger = l }
+refusing r l = record { answer = Err r; ledger = l }
 
 -- take outputs: 0 nothing new; 1 new; 2 new, zeros published by the station
 unfoldable pub take_outputs : Ledger → Told

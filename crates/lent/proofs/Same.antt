@@ -1,15 +1,14 @@
 -- The unpacked run and the exported calls over the same octets, gaps and Ticks leave the same memory.
+use Rattle.std.specs.Prelude.{Ok}
 use Prim.Native.Nat.{ℕ}
 use native.Mathlib.Omega.{arith}
 use mathlib.Core.Path.{◌≡◌, refl, sym, ap, subst, ◌∙◌}
 use mathlib.Core.Bool.{true}
 use mathlib.Core.List.{List, [], ◌∷◌, ◌++◌}
 use lib.ListN.{length, replicate}
-use Rattle.state.specs.declared.answer.Answer.{Answer}
-use Rattle.state.specs.declared.answer.Answer.TheVariants.{Value}
 use Rattle.state.specs.declared.setup.Setup.{Setup}
 use Rattle.state.specs.declared.state.State.{State}
-use Rattle.state.specs.Answer.{Called}
+use Rattle.state.specs.Answer.{Answer, Called}
 use Rattle.state.specs.Image.{image}
 use Rattle.state.specs.Layout.{image_length}
 use Rattle.state.specs.Memory.{kept, Holds}
@@ -60,10 +59,10 @@ beat_length s m h tick = (step_keeps s m h call.tick).length_is
 
 -- a call over a memory that holds s
 calls_beat : (p : List ℕ) (s : State) → LengthIn (length p) → Holds p s → (x : Beat)
-    → called p (call_of x) ≡ record { answer = Value 0; memory = kept (beat s p x).state (beat s p x).memory }
+    → called p (call_of x) ≡ record { answer = Ok 0; memory = kept (beat s p x).state (beat s p x).memory }
 calls_beat p s n h x = called_steps p (call_of x) (holds_well p s n h) ∙ steps x
   where
-    steps : (x : Beat) → step_over p (call_of x) ≡ record { answer = Value 0; memory = kept (beat s p x).state (beat s p x).memory }
+    steps : (x : Beat) → step_over p (call_of x) ≡ record { answer = Ok 0; memory = kept (beat s p x).state (beat s p x).memory }
     steps (octet b bad) = step_whole p s (call.octet b bad) h
     steps gap = step_whole p s call.gap h
     steps tick = step_whole p s call.tick h
@@ -108,7 +107,7 @@ packs p s m b = ap (λ (l : List ℕ). image s ++ l) (sym b.bodies) ∙ sym (fro
 
 record Ends (p : List ℕ) (s : State) (m : List ℕ) (bs : List Beat) : Type 0 where
   image_is : kept (run_beats s m bs).state (run_beats s m bs).memory ≡ memory_after p (calls bs)
-  answers_are : answers p (calls bs) ≡ replicate (length bs) (Value 0)
+  answers_are : answers p (calls bs) ≡ replicate (length bs) (Ok 0)
   well_still : well_memory (kept (run_beats s m bs).state (run_beats s m bs).memory) ≡ true
   holds_still : Holds (kept (run_beats s m bs).state (run_beats s m bs).memory) (run_beats s m bs).state
 
@@ -126,7 +125,7 @@ ends (x ∷ bs) p s m b =
       image_is = r.image_is ∙ ap (λ (c : Called). memory_after c.memory (calls bs)) (sym e);
       answers_are =
           ap (λ (c : Called). c.answer ∷ answers c.memory (calls bs)) e
-          ∙ ap (λ (more : List Answer). Value 0 ∷ more) r.answers_are;
+          ∙ ap (λ (more : List Answer). Ok 0 ∷ more) r.answers_are;
       well_still = r.well_still;
       holds_still = r.holds_still;
     }
@@ -144,7 +143,7 @@ lent_image m s n h bs = (ends bs m s m (record { length_in = n; holds = h; safe 
 
 -- ---- from a freshly started station
 
-module _ (m : List ℕ) (s : Setup) (slice lengths : List ℕ) (long : s.get_cfg_len ≡ length slice) (zero : (started m s slice lengths).answer ≡ Value 0) where
+module _ (m : List ℕ) (s : Setup) (slice lengths : List ℕ) (long : s.get_cfg_len ≡ length slice) (zero : (started m s slice lengths).answer ≡ Ok 0) where
   same : (pre : List Call) (bs : List Beat) → Same (memory_after (memory_of m s slice lengths) pre) bs
   same pre bs =
       let r = ready_after pre (memory_of m s slice lengths) (fresh s slice) (begins_ready m s slice lengths long zero) in

@@ -1,6 +1,5 @@
 -- Octets, gaps and Ticks: run on the unpacked state, and by the exported calls on the packed memory.
-use Rattle.std.specs.Prelude.{ℕ, zero, suc, ◌≡◌, Bool, true, false, List, [], ◌∷◌, ◌++◌, map, length, replicate}
-use Rattle.state.specs.declared.answer.Answer.TheVariants.{Value}
+use Rattle.std.specs.Prelude.{ℕ, zero, suc, ◌≡◌, Bool, true, false, List, [], ◌∷◌, ◌++◌, map, length, replicate, Ok}
 use Rattle.state.specs.declared.setup.Setup.{Setup}
 use Rattle.state.specs.declared.state.State.{State}
 use Rattle.state.specs.Memory.{kept, Holds}
@@ -65,7 +64,7 @@ packed_run m bs = kept (run_beats (unpacked m) m bs).state (run_beats (unpacked 
 -- it leaves the memory that the exported calls leave, and each of these answers 0
 pub record Same (m : List ℕ) (bs : List Beat) : Type 0 where
   pub image_is : packed_run m bs ≡ memory_after m (calls bs)
-  pub answers_are : answers m (calls bs) ≡ replicate (length bs) (Value 0)
+  pub answers_are : answers m (calls bs) ≡ replicate (length bs) (Ok 0)
   pub well_still : well_memory (packed_run m bs) ≡ true
   pub holds_still : Holds (packed_run m bs) (run_beats (unpacked m) m bs).state
 

@@ -3,7 +3,7 @@ use Prim.Native.Nat.{suc}
 use mathlib.Core.Path.{◌≡◌, refl, ap}
 use mathlib.Core.List.{List, [], ◌∷◌, ◌++◌}
 use lib.ListN.{length}
-use Rattle.state.specs.declared.answer.Answer.{Answer}
+use Rattle.state.specs.Answer.{Answer}
 use Rattle.rules.specs.Runs.{answers_to, left_by}
 
 module _ {S E : Type 0} (next : S → E → S) where

@@ -1,6 +1,6 @@
 -- Calls made one after the other, whatever a call is and whatever it is made on.
 use Rattle.std.specs.Prelude.{List, [], ◌∷◌}
-use Rattle.state.specs.declared.answer.Answer.{Answer}
+use Rattle.state.specs.Answer.{Answer}
 
 -- what a list of calls leaves; next: what the call e leaves of s
 module _ {S E : Type 0} (next : S → E → S) where

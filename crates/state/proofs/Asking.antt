@@ -1,4 +1,5 @@
 -- The ranges of a setup as tests and as facts, and that Start accepts a setup exactly if it is in them.
+use Rattle.std.specs.Prelude.{Ok, Err}
 use Prim.Native.Nat.{ℕ, ◌≤◌}
 use native.Mathlib.Omega.{arith}
 use mathlib.Core.Path.{◌≡◌, refl}
@@ -9,7 +10,6 @@ use borrow.Author.Tests.{leb-true, le-leb, ltb-false, le-ltb}
 use Rattle.channels.specs.Setting as channel
 use Rattle.state.specs.declared.answer.Refusal.TheVariants.{Address, Length}
 use Rattle.state.specs.declared.setup.Setup.{Setup}
-use Rattle.state.specs.declared.start.Asked.TheVariants.{Accepted, Declined}
 use Rattle.state.specs.Sound.{Ranged}
 use Rattle.state.specs.Start.{lengths_ok, asked}
 use Rattle.state.specs.Well.{all, length_tests}
@@ -53,12 +53,12 @@ pub record Accepts (s t : Setup) (lengths : List ℕ) : Type 0 where
   pub ranged : Ranged s
   pub channels : channel.lengths_ok lengths ≡ true
 
-pub accepts : (s t : Setup) (lengths : List ℕ) → asked s lengths ≡ Accepted t → Accepts s t lengths
+pub accepts : (s t : Setup) (lengths : List ℕ) → asked s lengths ≡ Ok t → Accepts s t lengths
 unfolding asked
 accepts s t lengths h = go (ltb 126 s.address) refl (lengths_ok s && channel.lengths_ok lengths) refl h
   where
     go : (p : Bool) → ltb 126 s.address ≡ p → (q : Bool) → (lengths_ok s && channel.lengths_ok lengths) ≡ q
-        → cond p (Declined Address) (cond (not q) (Declined Length) (Accepted s)) ≡ Accepted t → Accepts s t lengths
+        → cond p (Err Address) (cond (not q) (Err Length) (Ok s)) ≡ Ok t → Accepts s t lengths
     go true e q f g = absurd (let z : ◌≡◌ {A = ℕ} 0 1 = cc in omega arith)
     go false e false f g = absurd (let z : ◌≡◌ {A = ℕ} 0 1 = cc in omega arith)
     go false e true f g = record {
@@ -68,6 +68,6 @@ accepts s t lengths h = go (ltb 126 s.address) refl (lengths_ok s && channel.len
     }
 
 -- and what is in its ranges is accepted
-pub ranged_asked : (s : Setup) (lengths : List ℕ) → Ranged s → channel.lengths_ok lengths ≡ true → asked s lengths ≡ Accepted s
+pub ranged_asked : (s : Setup) (lengths : List ℕ) → Ranged s → channel.lengths_ok lengths ≡ true → asked s lengths ≡ Ok s
 unfolding asked lengths_ok
 ranged_asked s lengths r c = simp (le-ltb 126 s.address r.address, lengths_hold s r, c)

@@ -1,7 +1,5 @@
 -- What a call answers and leaves, and the numbers of the answers.
-use Rattle.std.specs.Prelude.{ℕ, ◌≡◌, List, ℤ, pos, neg_ℤ}
-use Rattle.state.specs.declared.answer.Answer.{Answer}
-use Rattle.state.specs.declared.answer.Answer.TheVariants.{Value, Refused}
+use Rattle.std.specs.Prelude.{ℕ, ◌≡◌, List, ℤ, pos, neg_ℤ, Result, Ok, Err}
 use Rattle.state.specs.declared.answer.Refusal.{Refusal}
 use Rattle.state.specs.declared.answer.Refusal.TheVariants.{MemoryLength, Address, Length, Room, Damaged, Judging, Range, Absent, Delayed, Cell}
 
@@ -18,10 +16,14 @@ refusal_number Absent = 8
 refusal_number Delayed = 9
 refusal_number Cell = 10
 
+-- a value, or why the call is refused
+abbrev pub Answer : Type 0
+Answer = Result ℕ Refusal
+
 -- "a refusal reaches it negated"
 abbrev pub answer_number : Answer → ℤ
-answer_number (Value n) = pos n
-answer_number (Refused why) = neg_ℤ (pos (refusal_number why))
+answer_number (Ok n) = pos n
+answer_number (Err why) = neg_ℤ (pos (refusal_number why))
 
 -- what a call answers, and the whole memory after it
 pub record Called : Type 0 where
@@ -35,4 +37,4 @@ pub record Meets (c : Called) (a : Answer) (m : List ℕ) : Type 0 where
 
 -- "each leaves memory unchanged and returns its number alone"
 abbrev pub refused : List ℕ → Refusal → Called
-refused m why = record { answer = Refused why; memory = m }
+refused m why = record { answer = Err why; memory = m }

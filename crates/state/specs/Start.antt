@@ -1,5 +1,5 @@
 -- Start: what it asks of a setup, the first state, and what it leaves. Its conditions on the whole memory are in the crate steps.
-use Rattle.std.specs.Prelude.{ℕ, ◌-◌, Bool, false, not, cond, ◌&&◌, List, replicate, ltb}
+use Rattle.std.specs.Prelude.{ℕ, ◌-◌, Bool, false, not, cond, ◌&&◌, List, replicate, ltb, Result, Ok, Err}
 use Rattle.buffers.specs.Events.{no_events}
 use Rattle.buffers.specs.Triple.{initial}
 use Rattle.buffers.specs.Quad as quad
@@ -16,9 +16,8 @@ use Rattle.state.specs.declared.state.State.{State}
 use Rattle.state.specs.declared.state.Sets.{Sets}
 use Rattle.state.specs.declared.state.Reply.{Reply}
 use Rattle.state.specs.declared.state.Drawn.TheVariants.{Nothing}
+use Rattle.state.specs.declared.answer.Refusal.{Refusal}
 use Rattle.state.specs.declared.answer.Refusal.TheVariants.{Address, Length}
-use Rattle.state.specs.declared.start.Asked.{Asked}
-use Rattle.state.specs.declared.start.Asked.TheVariants.{Accepted, Declined}
 use Rattle.state.specs.Chain.{no_chain}
 use Rattle.state.specs.Layout.{image_length, get_cfg_at, last_end}
 use Rattle.state.specs.Memory.{kept}
@@ -43,11 +42,11 @@ unfoldable pub lengths_ok : Setup → Bool
 lengths_ok s = all (length_tests s)
 
 -- "2 address; 3 a length or slice outside its range", "both zero is 3 too" (document 02, Req 05), and so for the lengths of the channels
-unfoldable pub asked : Setup → List ℕ → Asked
+unfoldable pub asked : Setup → List ℕ → Result Setup Refusal
 asked s lengths =
-    cond (ltb 126 s.address) (Declined Address)
-    (cond (not (lengths_ok s && channel.lengths_ok lengths)) (Declined Length)
-    (Accepted s))
+    cond (ltb 126 s.address) (Err Address)
+    (cond (not (lengths_ok s && channel.lengths_ok lengths)) (Err Length)
+    (Ok s))
 
 -- what diagnosis shows for no owner
 abbrev pub no_owner : ℕ

@@ -2,11 +2,11 @@
 ghost use Rattle.std.specs.Prelude.{◌≡◌};
 ghost use Rattle.state.specs.Answer.{refusal_number, answer_number};
 
-// The refusals, by who causes them.
-#[derive(Clone, Copy)]
+// The refusals with their numbers, by who causes them.
+#[derive(Clone, Copy, PartialEq, Eq, Debug)]
 pub enum Refusal {
     // the starter
-    MemoryLength,
+    MemoryLength = 1,
     Address,
     Length,
     Room,
@@ -20,40 +20,23 @@ pub enum Refusal {
     Cell,
 }
 
-#[derive(Clone, Copy)]
-pub enum Answer {
-    Value(u32),
-    Refused(Refusal),
-}
-
 impl Refusal {
     // Its number, 1 to 10.
     pub fn number(self) -> u8
         ensures { result ≡ refusal_number self }
     {
-        match self {
-            Refusal::MemoryLength => 1,
-            Refusal::Address => 2,
-            Refusal::Length => 3,
-            Refusal::Room => 4,
-            Refusal::Damaged => 5,
-            Refusal::Judging => 6,
-            Refusal::Range => 7,
-            Refusal::Absent => 8,
-            Refusal::Delayed => 9,
-            Refusal::Cell => 10,
-        }
+        self as u8
     }
 }
 
-impl Answer {
-    // As the firmware gets it: a value as itself, a refusal's number negated.
-    pub fn code(self) -> i64
-        ensures { result ≡ answer_number self }
-    {
-        match self {
-            Answer::Value(n) => n as i64,
-            Answer::Refused(why) => 0 - (why.number() as i64),
-        }
+pub type Answer = Result<u32, Refusal>;
+
+// As the firmware gets it: a value as itself, a refusal's number negated.
+pub fn code(answer: Answer) -> i64
+    ensures { result ≡ answer_number answer }
+{
+    match answer {
+        Ok(n) => i64::from(n),
+        Err(why) => -i64::from(why.number()),
     }
 }

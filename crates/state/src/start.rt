@@ -17,13 +17,6 @@ use channels::setting;
 use telegram::reader::Reader;
 use telegram::sender::Sender;
 
-// What Start is asked for: a setup, or why there is none.
-#[derive(Clone, Copy)]
-pub enum Asked {
-    Accepted(Setup),
-    Declined(Refusal),
-}
-
 // The ranges of the lengths and of the slice's, and that not both of outputs and inputs are 0.
 fn lengths_ok(
     outputs: u32,
@@ -55,11 +48,11 @@ pub fn setup_of(
     diagnosis: u32,
     get_cfg: usize,
     channels: &[u8],
-) -> Asked
+) -> Result<Setup, Refusal>
     ensures { result ≡ asked (given address ident outputs inputs parameters configuration diagnosis get_cfg) channels.now }
 {
     if 126 < address {
-        return Asked::Declined(Refusal::Address);
+        return Err(Refusal::Address);
     }
     if !lengths_ok(
         outputs,
@@ -69,14 +62,14 @@ pub fn setup_of(
         diagnosis,
         get_cfg,
     ) {
-        return Asked::Declined(Refusal::Length);
+        return Err(Refusal::Length);
     }
     if !setting::lengths_ok(channels) {
-        return Asked::Declined(Refusal::Length);
+        return Err(Refusal::Length);
     }
-    Asked::Accepted(Setup {
+    Ok(Setup {
         address: address as u8,
-        ident: ident,
+        ident,
         output_len: outputs as u8,
         input_len: inputs as u8,
         parameter_len: parameters as u8,
@@ -158,7 +151,7 @@ pub fn initial(setup: Setup) -> State
     ensures { result ≡ initial_state setup }
 {
     State {
-        setup: setup,
+        setup,
         control: first_control(),
         outputs: Outputs {
             set: Quad::new(),

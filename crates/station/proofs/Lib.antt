@@ -1,6 +1,5 @@
 pub mod KindsInMemory
 pub mod Stepping
-pub mod Guarding
 mod HeardOverMemory
 mod TurnedOverMemory
 mod StoredOverMemory

@@ -1,9 +1,8 @@
 -- A call's step as the code makes it: over the memory, or only answered.
+use Rattle.std.specs.Prelude.{Ok}
 use Rattle.std.proofs.Common.{◌≡◌, ℕ, List, take, sym, ap, ◌∙◌, subst}
-use Rattle.state.specs.declared.answer.Answer.{Answer}
-use Rattle.state.specs.declared.answer.Answer.TheVariants.{Value}
 use Rattle.state.specs.declared.state.State.{State}
-use Rattle.state.specs.Answer.{Meets}
+use Rattle.state.specs.Answer.{Answer, Meets}
 use Rattle.state.specs.Layout.{image_length}
 use Rattle.state.specs.Memory.{kept, Holds}
 use Rattle.state.specs.Unpack.{unpacked}
@@ -27,8 +26,8 @@ module _ (m : List ℕ) (s : State) (c : Call) (h : Holds m s) where
       rw (step_whole m s c h) (record { answers = r.answers; leaves = k ∙ (λ i. kept (r.states i) (r.leaves i)) })
 
   -- as it is made over the memory
-  pub on_memory_lem : (r : Stepped) (j k : ℕ) (x : List ℕ) → step s m c ≡ told_of j r → k ≡ j → x ≡ packed_after r → Meets (step_over m c) (Value k) x
-  on_memory_lem r j k x e f g = rw (step_whole m s c h, e) (record { answers = ap Value f; leaves = g })
+  pub on_memory_lem : (r : Stepped) (j k : ℕ) (x : List ℕ) → step s m c ≡ told_of j r → k ≡ j → x ≡ packed_after r → Meets (step_over m c) (Ok k) x
+  on_memory_lem r j k x e f g = rw (step_whole m s c h, e) (record { answers = ap Ok f; leaves = g })
 
   -- and as it only answers
   pub answered : (a : Answer) → Tells (step s m c) a s m → Meets (step_over m c) a m

@@ -1,8 +1,8 @@
 -- The calls of the vat program over the memory, with the parts of the state as the code read them and wrote them again.
+use Rattle.std.specs.Prelude.{Ok}
 use Rattle.std.proofs.Common.{◌≡◌, ℕ, Bool, true, false, cond, not, ◌&&◌, eqb, leb, List, sym, refl, ap, ◌∙◌}
 use Rattle.buffers.specs.declared.quad.Quad.{Quad}
 use Rattle.buffers.specs.Quad.{taken}
-use Rattle.state.specs.declared.answer.Answer.TheVariants.{Value}
 use Rattle.state.specs.declared.control.Control.{Control}
 use Rattle.state.specs.declared.setup.Setup.{Setup}
 use Rattle.state.specs.declared.state.Outputs.{Outputs}
@@ -34,19 +34,19 @@ module _ (s : State) (m : List ℕ) where
     seen e = (λ i. not (sym same i).set.fresh) ∙ e
 
     -- they are not new
-    pub takes_none : not outputs.set.fresh ≡ true → m ≡ kept s m → Meets (packed m (take_outputs s m)) (Value 0) m
+    pub takes_none : not outputs.set.fresh ≡ true → m ≡ kept s m → Meets (packed m (take_outputs s m)) (Ok 0) m
     unfolding take_outputs
     takes_none e front = rw (seen e) (record { answers = refl; leaves = front })
 
     -- they are
     pub takes_new : not outputs.set.fresh ≡ false → {set : Quad} {k : ℕ} {n : List ℕ} → set ≡ taken outputs.set
         → k ≡ cond outputs.zeros 2 1 → n ≡ kept (with_outputs s (record { set = set; zeros = outputs.zeros })) m
-        → Meets (packed m (take_outputs s m)) (Value k) n
+        → Meets (packed m (take_outputs s m)) (Ok k) n
     unfolding take_outputs
     takes_new e f g h =
         rw (seen e)
         (record {
-          answers = ap Value (g ∙ (λ i. cond (same i).zeros 2 1));
+          answers = ap Ok (g ∙ (λ i. cond (same i).zeros 2 1));
           leaves = h ∙ (λ i. kept (with_outputs s (record { set = (f ∙ (λ j. taken (same j).set)) i; zeros = (same i).zeros })) m);
         })
 
@@ -72,7 +72,7 @@ module _ (s : State) (m : List ℕ) where
 
       -- it waits while a Slave_Diag reply is unfinished
       pub delays_diagnosis : leaves ≡ true → {new : Control} {n : List ℕ} → new ≡ delaying control count flags → n ≡ kept (with_control_but_chain s new) m
-          → Meets (packed m (new_diagnosis s m count flags)) (Value 0) n
+          → Meets (packed m (new_diagnosis s m count flags)) (Ok 0) n
       unfolding delaying
       delays_diagnosis e f g =
           rw (given e)
@@ -80,7 +80,7 @@ module _ (s : State) (m : List ℕ) where
 
       -- else it takes effect
       pub changes_diagnosis : leaves ≡ false → {new : Control} {n : List ℕ} → new ≡ diagnosed control count flags → n ≡ kept (diagnosis_changed s (with_chain new s.control.chain)) m
-          → Meets (packed m (new_diagnosis s m count flags)) (Value 0) n
+          → Meets (packed m (new_diagnosis s m count flags)) (Ok 0) n
       unfolding diagnosed
       changes_diagnosis e f g =
           rw (given e)
@@ -94,15 +94,15 @@ module _ (s : State) (m : List ℕ) where
     module _ {o : Outcome} {n : List ℕ} (left : n ≡ packed_after (carried s m (on_chain o s.control.chain) 0)) where
       -- the outcome p, which leaves the chain, and j is told
       tells_carried : (j : ℕ) (p : Outcome) {k : ℕ} → k ≡ j → o ≡ p → Quiet s.setup s.control Unit p
-          → Meets (packed m (told_of j (carried s m p 0))) (Value k) n
+          → Meets (packed m (told_of j (carried s m p 0))) (Ok k) n
       tells_carried j p e f q =
           record {
-            answers = ap Value e;
+            answers = ap Ok e;
             leaves = left ∙ ap (λ (x : Outcome). packed_after (carried s m x 0)) (ap (λ (x : Outcome). on_chain x s.control.chain) f ∙ chain_stays q);
           }
 
       -- leave master
-      pub leaves_master : {b : Bool} → b ≡ busy s → o ≡ clear_on b control → Meets (packed m (leave_master s m)) (Value 0) n
+      pub leaves_master : {b : Bool} → b ≡ busy s → o ≡ clear_on b control → Meets (packed m (leave_master s m)) (Ok 0) n
       unfolding leave_master
       leaves_master e f =
           tells_carried 0 _ refl (f ∙ (λ i. clear_on (e i) (same i))) (clear_quiet s.setup s.control (busy s) (λ _. tt))
@@ -111,7 +111,7 @@ module _ (s : State) (m : List ℕ) where
       module _ (j : ℕ) (known : not (leb j 1) ≡ false) {sets : Sets} {b : Bool} (tested : b ≡ is_open sets)
           {k : ℕ} (tells : k ≡ cond sets.set.fresh 1 0) where
         pub judges_parameters : sets ≡ s.parameters → not b ≡ false → o ≡ judged_parameters control sets.set.fresh (eqb j 1)
-            → Meets (packed m (judge_parameters s m j)) (Value k) n
+            → Meets (packed m (judge_parameters s m j)) (Ok k) n
         unfolding judge_parameters
         judges_parameters e f g =
             rw (ap not (sym (tested ∙ ap is_open e)) ∙ f, known)
@@ -121,7 +121,7 @@ module _ (s : State) (m : List ℕ) where
 
         -- configuration not before good parameters
         pub judges_configuration : sets ≡ s.configuration → not (b && control.flags.parameters_good) ≡ false
-            → o ≡ judged_configuration control sets.set.fresh (eqb j 1) → Meets (packed m (judge_configuration s m j)) (Value k) n
+            → o ≡ judged_configuration control sets.set.fresh (eqb j 1) → Meets (packed m (judge_configuration s m j)) (Ok k) n
         unfolding judge_configuration
         judges_configuration e f g =
             let open-good : not (is_open s.configuration && s.control.flags.parameters_good) ≡ false =

@@ -1,19 +1,19 @@
 // Each call over the one lent memory: refused with 5 where it is damaged, else its step.
+#![tactic(auto, using(steps::proofs::Guarded::well_holds), unfolding(steps::specs::Calls::called))]
+
 ghost use Rattle.state.specs.Answer.{Meets};
 ghost use Rattle.rules.specs.Call.{octet, gap, send, tick, take, read, write, hand_over_call, new_diagnosis_call, judge_parameters_call, judge_configuration_call, events, acknowledge, pending, leave};
 ghost use Rattle.steps.specs.Calls.{called};
 
-use crate::memory::is_well;
+use crate::memory::checked;
 use crate::over_memory;
-use state::answer::{Answer, Refusal};
+use state::answer::Answer;
 
 // The bus's octet, flagged bad by the receiver or not.
 pub fn octet(mem: &mut [u8], value: u8, bad: bool) -> Answer
     ensures { Meets (called mem.old (octet value bad)) result mem.new }
 {
-    if !is_well(&mem[..]) {
-        return Answer::Refused(Refusal::Damaged);
-    }
+    checked(&mem[..])?;
     over_memory::octet(mem, value, bad)
 }
 
@@ -21,9 +21,7 @@ pub fn octet(mem: &mut [u8], value: u8, bad: bool) -> Answer
 pub fn gap(mem: &mut [u8]) -> Answer
     ensures { Meets (called mem.old gap) result mem.new }
 {
-    if !is_well(&mem[..]) {
-        return Answer::Refused(Refusal::Damaged);
-    }
+    checked(&mem[..])?;
     over_memory::gap(mem)
 }
 
@@ -31,9 +29,7 @@ pub fn gap(mem: &mut [u8]) -> Answer
 pub fn send(mem: &mut [u8]) -> Answer
     ensures { Meets (called mem.old send) result mem.new }
 {
-    if !is_well(&mem[..]) {
-        return Answer::Refused(Refusal::Damaged);
-    }
+    checked(&mem[..])?;
     over_memory::send(mem)
 }
 
@@ -41,9 +37,7 @@ pub fn send(mem: &mut [u8]) -> Answer
 pub fn tick(mem: &mut [u8]) -> Answer
     ensures { Meets (called mem.old tick) result mem.new }
 {
-    if !is_well(&mem[..]) {
-        return Answer::Refused(Refusal::Damaged);
-    }
+    checked(&mem[..])?;
     over_memory::tick(mem)
 }
 
@@ -51,9 +45,7 @@ pub fn tick(mem: &mut [u8]) -> Answer
 pub fn take(mem: &mut [u8]) -> Answer
     ensures { Meets (called mem.old take) result mem.new }
 {
-    if !is_well(&mem[..]) {
-        return Answer::Refused(Refusal::Damaged);
-    }
+    checked(&mem[..])?;
     over_memory::take(mem)
 }
 
@@ -61,9 +53,7 @@ pub fn take(mem: &mut [u8]) -> Answer
 pub fn read(mem: &mut [u8], kind: u32, index: u32) -> Answer
     ensures { Meets (called mem.old (read kind index)) result mem.new }
 {
-    if !is_well(&mem[..]) {
-        return Answer::Refused(Refusal::Damaged);
-    }
+    checked(&mem[..])?;
     over_memory::read(mem, kind, index)
 }
 
@@ -71,9 +61,7 @@ pub fn read(mem: &mut [u8], kind: u32, index: u32) -> Answer
 pub fn write(mem: &mut [u8], kind: u32, index: u32, value: u8) -> Answer
     ensures { Meets (called mem.old (write kind index value)) result mem.new }
 {
-    if !is_well(&mem[..]) {
-        return Answer::Refused(Refusal::Damaged);
-    }
+    checked(&mem[..])?;
     over_memory::write(mem, kind, index, value)
 }
 
@@ -81,9 +69,7 @@ pub fn write(mem: &mut [u8], kind: u32, index: u32, value: u8) -> Answer
 pub fn hand_over(mem: &mut [u8]) -> Answer
     ensures { Meets (called mem.old hand_over_call) result mem.new }
 {
-    if !is_well(&mem[..]) {
-        return Answer::Refused(Refusal::Damaged);
-    }
+    checked(&mem[..])?;
     over_memory::hand_over(mem)
 }
 
@@ -91,9 +77,7 @@ pub fn hand_over(mem: &mut [u8]) -> Answer
 pub fn new_diagnosis(mem: &mut [u8], count: u32, flags: u32) -> Answer
     ensures { Meets (called mem.old (new_diagnosis_call count flags)) result mem.new }
 {
-    if !is_well(&mem[..]) {
-        return Answer::Refused(Refusal::Damaged);
-    }
+    checked(&mem[..])?;
     over_memory::new_diagnosis(mem, count, flags)
 }
 
@@ -101,9 +85,7 @@ pub fn new_diagnosis(mem: &mut [u8], count: u32, flags: u32) -> Answer
 pub fn judge_parameters(mem: &mut [u8], judgement: u32) -> Answer
     ensures { Meets (called mem.old (judge_parameters_call judgement)) result mem.new }
 {
-    if !is_well(&mem[..]) {
-        return Answer::Refused(Refusal::Damaged);
-    }
+    checked(&mem[..])?;
     over_memory::judge_parameters(mem, judgement)
 }
 
@@ -111,9 +93,7 @@ pub fn judge_parameters(mem: &mut [u8], judgement: u32) -> Answer
 pub fn judge_configuration(mem: &mut [u8], judgement: u32) -> Answer
     ensures { Meets (called mem.old (judge_configuration_call judgement)) result mem.new }
 {
-    if !is_well(&mem[..]) {
-        return Answer::Refused(Refusal::Damaged);
-    }
+    checked(&mem[..])?;
     over_memory::judge_configuration(mem, judgement)
 }
 
@@ -121,9 +101,7 @@ pub fn judge_configuration(mem: &mut [u8], judgement: u32) -> Answer
 pub fn events(mem: &mut [u8]) -> Answer
     ensures { Meets (called mem.old events) result mem.new }
 {
-    if !is_well(&mem[..]) {
-        return Answer::Refused(Refusal::Damaged);
-    }
+    checked(&mem[..])?;
     over_memory::events(mem)
 }
 
@@ -131,9 +109,7 @@ pub fn events(mem: &mut [u8]) -> Answer
 pub fn acknowledge(mem: &mut [u8], mask: u16) -> Answer
     ensures { Meets (called mem.old (acknowledge mask)) result mem.new }
 {
-    if !is_well(&mem[..]) {
-        return Answer::Refused(Refusal::Damaged);
-    }
+    checked(&mem[..])?;
     over_memory::acknowledge(mem, mask)
 }
 
@@ -141,9 +117,7 @@ pub fn acknowledge(mem: &mut [u8], mask: u16) -> Answer
 pub fn pending(mem: &mut [u8]) -> Answer
     ensures { Meets (called mem.old pending) result mem.new }
 {
-    if !is_well(&mem[..]) {
-        return Answer::Refused(Refusal::Damaged);
-    }
+    checked(&mem[..])?;
     over_memory::pending(mem)
 }
 
@@ -151,8 +125,6 @@ pub fn pending(mem: &mut [u8]) -> Answer
 pub fn leave(mem: &mut [u8]) -> Answer
     ensures { Meets (called mem.old leave) result mem.new }
 {
-    if !is_well(&mem[..]) {
-        return Answer::Refused(Refusal::Damaged);
-    }
+    checked(&mem[..])?;
     over_memory::leave(mem)
 }

@@ -1,8 +1,10 @@
 // The whole lent memory: its length, and whether it is damaged.
-ghost use Rattle.std.specs.Prelude.{◌≡◌};
+ghost use Rattle.std.specs.Prelude.{◌≡◌, true, false, OnOk, IfErr};
+ghost use Rattle.state.specs.declared.answer.Refusal.TheVariants.{Damaged};
 ghost use Rattle.state.specs.Well.{within};
 ghost use Rattle.steps.specs.Calls.{length_ok, well_memory};
 
+use state::answer::Refusal;
 use state::memory::holds_state;
 
 // 1,536 to 16,384 octets.
@@ -28,4 +30,15 @@ pub fn is_well(mem: &[u8]) -> bool
         return false;
     }
     holds_state(mem)
+}
+
+// Refused where the memory is damaged.
+pub fn checked(mem: &[u8]) -> Result<(), Refusal>
+    ensures well { OnOk result (well_memory mem.now ≡ true) }
+    ensures damaged { IfErr result (λ why. (why ≡ Damaged) × (well_memory mem.now ≡ false)) }
+{
+    if !is_well(mem) {
+        return Err(Refusal::Damaged);
+    }
+    Ok(())
 }

@@ -16,7 +16,7 @@ pub fn octet(mem: &mut [u8], value: u8, bad: bool) -> Answer
     ensures { Meets (step_over mem.old (octet value bad)) result mem.new }
 {
     hearing::hear_octet(mem, value, bad);
-    Answer::Value(0)
+    Ok(0)
 }
 
 // A gap on the bus.
@@ -25,7 +25,7 @@ pub fn gap(mem: &mut [u8]) -> Answer
     ensures { Meets (step_over mem.old gap) result mem.new }
 {
     bus::gap(mem);
-    Answer::Value(0)
+    Ok(0)
 }
 
 // Send: the next octet of the reply, or 256.
@@ -34,7 +34,7 @@ pub fn send(mem: &mut [u8]) -> Answer
     ensures { Meets (step_over mem.old send) result mem.new }
 {
     let number = bus::send(mem) as u32;
-    Answer::Value(number)
+    Ok(number)
 }
 
 // A Tick: 1 ms.
@@ -43,7 +43,7 @@ pub fn tick(mem: &mut [u8]) -> Answer
     ensures { Meets (step_over mem.old tick) result mem.new }
 {
     bus::tick(mem);
-    Answer::Value(0)
+    Ok(0)
 }
 
 // Take outputs: whether they are new, and whether the station published zeros.
@@ -109,7 +109,7 @@ pub fn events(mem: &mut [u8]) -> Answer
 {
     let events = load::events(&mem[..]);
     let word = events.word as u32;
-    Answer::Value(word)
+    Ok(word)
 }
 
 // Acknowledge the events of a mask.
@@ -127,7 +127,7 @@ pub fn pending(mem: &mut [u8]) -> Answer
 {
     let events = load::events(&mem[..]);
     let number = events.pending() as u32;
-    Answer::Value(number)
+    Ok(number)
 }
 
 // Leave master: a clear.

@@ -8,7 +8,7 @@ ghost use Rattle.steps.specs.Calls.{started_in, started};
 use crate::memory::length_ok;
 use state::answer::{Answer, Refusal};
 use state::setup::Setup;
-use state::start::{Asked, last_end, lay_out, setup_of};
+use state::start::{last_end, lay_out, setup_of};
 
 // A setup that was accepted is laid out, if its buffers and those of the channels have room.
 fn start_in(mem: &mut [u8], setup: Setup, get_cfg: &[u8], channels: &[u8]) -> Answer
@@ -17,10 +17,10 @@ fn start_in(mem: &mut [u8], setup: Setup, get_cfg: &[u8], channels: &[u8]) -> An
 {
     let end = last_end(setup, channels);
     if mem.len() < end {
-        return Answer::Refused(Refusal::Room);
+        return Err(Refusal::Room);
     }
     lay_out(mem, setup, get_cfg, channels, end);
-    Answer::Value(0)
+    Ok(0)
 }
 
 // Start.
@@ -43,9 +43,9 @@ pub fn start(
         result mem.new }
 {
     if !length_ok(mem.len()) {
-        return Answer::Refused(Refusal::MemoryLength);
+        return Err(Refusal::MemoryLength);
     }
-    let found = setup_of(
+    let setup = setup_of(
         address,
         ident,
         output_len,
@@ -55,9 +55,6 @@ pub fn start(
         diagnosis_len,
         get_cfg.len(),
         channels,
-    );
-    match found {
-        Asked::Accepted(setup) => start_in(mem, setup, get_cfg, channels),
-        Asked::Declined(why) => Answer::Refused(why),
-    }
+    )?;
+    start_in(mem, setup, get_cfg, channels)
 }

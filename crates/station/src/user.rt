@@ -39,7 +39,7 @@ pub fn take_outputs(mem: &mut [u8]) -> Answer
 {
     let outputs = load::outputs(&mem[..]);
     if !outputs.set.fresh {
-        return Answer::Value(0);
+        return Ok(0);
     }
     let zeros = outputs.zeros;
     let taken = Outputs {
@@ -47,7 +47,7 @@ pub fn take_outputs(mem: &mut [u8]) -> Answer
         zeros,
     };
     save_outputs(taken, mem);
-    Answer::Value(new_number(zeros))
+    Ok(new_number(zeros))
 }
 
 // An index is not below a count.
@@ -101,12 +101,12 @@ pub fn read_octet(mem: &[u8], kind: u32, index: u32) -> Answer
     ensures { Tells (read_octet (unpacked mem.now) mem.now kind index) result (unpacked mem.now) mem.now }
 {
     if !in_range(load::setup(mem), kind, index) {
-        return Answer::Refused(Refusal::Range);
+        return Err(Refusal::Range);
     }
     if absent(mem, kind, index) {
-        return Answer::Refused(Refusal::Absent);
+        return Err(Refusal::Absent);
     }
-    Answer::Value(mem[kind_at(mem, kind) + index as usize] as u32)
+    Ok(mem[kind_at(mem, kind) + index as usize] as u32)
 }
 
 // Kinds 4 and 5 are written.
@@ -116,14 +116,14 @@ pub fn write_octet(mem: &mut [u8], kind: u32, index: u32, octet: u8) -> Answer
 {
     let setup = load::setup(&mem[..]);
     if !(((kind == 4) | (kind == 5)) & in_range(setup, kind, index)) {
-        return Answer::Refused(Refusal::Range);
+        return Err(Refusal::Range);
     }
     if absent(&mem[..], kind, index) {
-        return Answer::Refused(Refusal::Absent);
+        return Err(Refusal::Absent);
     }
     let from = kind_at(&mem[..], kind);
     mem[from + index as usize] = octet;
-    Answer::Value(0)
+    Ok(0)
 }
 
 // Hand over inputs: held and next change, next is new.
@@ -133,7 +133,7 @@ pub fn hand_over(mem: &mut [u8]) -> Answer
 {
     let inputs = load::inputs(&mem[..]);
     save_inputs(inputs.hand_over(), mem);
-    Answer::Value(0)
+    Ok(0)
 }
 
 // New diagnosis; while a Slave_Diag reply is unfinished all of it waits.
@@ -144,19 +144,19 @@ pub fn new_diagnosis(mem: &mut [u8], count: u32, flags: u32) -> Answer
     let setup = load::setup(&mem[..]);
     let control = load::control(&mem[..]);
     if !((6 <= count) & (count <= setup.diagnosis_len as u32) & (flags <= 7)) {
-        return Answer::Refused(Refusal::Range);
+        return Err(Refusal::Range);
     }
     if is_delayed(control.diagnosis) {
-        return Answer::Refused(Refusal::Delayed);
+        return Err(Refusal::Delayed);
     }
     let n = count as u8;
     let f = flags as u8;
     if diagnosis_leaves_in(&mem[..]) {
         save_control(delaying(control, n, f), mem);
-        return Answer::Value(0);
+        return Ok(0);
     }
     change_diagnosis(mem, diagnosed(control, n, f));
-    Answer::Value(0)
+    Ok(0)
 }
 
 // 1 if a newer set waited, else 0.
@@ -176,15 +176,15 @@ pub fn judge_parameters(mem: &mut [u8], judgement: u32) -> Answer
 {
     let parameters = load::parameters(&mem[..]);
     if !is_open(parameters) {
-        return Answer::Refused(Refusal::Judging);
+        return Err(Refusal::Judging);
     }
     if !(judgement <= 1) {
-        return Answer::Refused(Refusal::Range);
+        return Err(Refusal::Range);
     }
     let waits = parameters.set.fresh;
     let control = load::control(&mem[..]);
     carry_over(mem, judged_parameters(control, waits, judgement == 1), 0);
-    Answer::Value(waited_number(waits))
+    Ok(waited_number(waits))
 }
 
 // Judge configuration: likewise, and not before good parameters.
@@ -195,14 +195,14 @@ pub fn judge_configuration(mem: &mut [u8], judgement: u32) -> Answer
     let configuration = load::configuration(&mem[..]);
     let control = load::control(&mem[..]);
     if !(is_open(configuration) & control.flags.parameters_good) {
-        return Answer::Refused(Refusal::Judging);
+        return Err(Refusal::Judging);
     }
     if !(judgement <= 1) {
-        return Answer::Refused(Refusal::Range);
+        return Err(Refusal::Range);
     }
     let waits = configuration.set.fresh;
     carry_over(mem, judged_configuration(control, waits, judgement == 1), 0);
-    Answer::Value(waited_number(waits))
+    Ok(waited_number(waits))
 }
 
 // Acknowledge clears bits, never 10 or 11.
@@ -212,7 +212,7 @@ pub fn acknowledge(mem: &mut [u8], mask: u16) -> Answer
 {
     let events = load::events(&mem[..]);
     save_events(events.acknowledge(mask), mem);
-    Answer::Value(0)
+    Ok(0)
 }
 
 // Leave master: a clear.
@@ -222,5 +222,5 @@ pub fn leave(mem: &mut [u8]) -> Answer
 {
     let control = load::control(&mem[..]);
     carry_over(mem, clear_on(busy_in(&mem[..]), control), 0);
-    Answer::Value(0)
+    Ok(0)
 }

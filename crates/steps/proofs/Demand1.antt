@@ -1,5 +1,6 @@
 -- Demand 1 (specs/Demand1.antt): refusal 5 is the damage check's alone, a refusal leaves the memory, and what Events and Pending
 -- answer.
+use Rattle.std.specs.Prelude.{Ok, Err, Result}
 use Prim.Native.Nat.{ℕ}
 use native.Mathlib.Omega.{arith}
 use mathlib.Core.Path.{◌≡◌, refl, sym, ap, subst, ◌∙◌}
@@ -12,14 +13,11 @@ use Rattle.telegram.specs.Telegram.{Octets}
 use Rattle.telegram.proofs.OctetLists.{octet_at_lem}
 use Rattle.buffers.specs.Events.{pending_of, SmallestSet}
 use Rattle.buffers.proofs.Pending.{pending_exactly}
-use Rattle.state.specs.declared.answer.Answer.{Answer}
-use Rattle.state.specs.declared.answer.Answer.TheVariants.{Value, Refused}
 use Rattle.state.specs.declared.answer.Refusal.{Refusal}
 use Rattle.state.specs.declared.answer.Refusal.TheVariants.{MemoryLength, Address, Length, Room, Damaged, Judging, Range, Absent, Delayed, Cell}
 use Rattle.state.specs.declared.setup.Setup.{Setup}
 use Rattle.state.specs.declared.state.State.{State}
-use Rattle.state.specs.Answer.{Called}
-use Rattle.state.specs.declared.start.Asked.{Asked}
+use Rattle.state.specs.Answer.{Answer, Called}
 use Rattle.channels.specs.Setting.{lengths_given}
 use Rattle.channels.specs.Setting as channel
 use Rattle.channels.proofs.Exact.{lengths_hold}
@@ -44,8 +42,8 @@ use Rattle.steps.proofs.Guarded.{well_length, well_passes, holds_well, called_st
 
 -- an answer that a step may give
 abbrev pub ByStep : Answer → Type 0
-ByStep (Value n) = Unit
-ByStep (Refused why) = ByUser why
+ByStep (Ok n) = Unit
+ByStep (Err why) = ByUser why
 
 pub by_step : (m : List ℕ) (c : Call) → ByStep (step_over m c).answer
 unfolding step_over
@@ -54,16 +52,16 @@ by_step m c = step_cases (unpacked m) m (λ (t : Told). ByStep (packed m t).answ
 -- ---- the damage check
 
 -- no call on a memory that is well answers 5
-well_answers : (m : List ℕ) (c : Call) → well_memory m ≡ true → ¬ ((called m c).answer ≡ Refused Damaged)
+well_answers : (m : List ℕ) (c : Call) → well_memory m ≡ true → ¬ ((called m c).answer ≡ Err Damaged)
 well_answers m c w e = subst ByStep (ap (λ (x : Called). x.answer) (sym (called_steps m c w)) ∙ e) (by_step m c)
 
-exactly : (m : List ℕ) (c : Call) → Octets m → ((called m c).answer ≡ Refused Damaged) ↔ ¬ Undamaged m
+exactly : (m : List ℕ) (c : Call) → Octets m → ((called m c).answer ≡ Err Damaged) ↔ ¬ Undamaged m
 exactly m c o = (λ e u. well_answers m c (holds_well m u.state u.length_in u.holds) e, refuses)
   where
-    refuses : ¬ Undamaged m → (called m c).answer ≡ Refused Damaged
+    refuses : ¬ Undamaged m → (called m c).answer ≡ Err Damaged
     refuses n = go (well_memory m) refl
       where
-        go : (t : Bool) → well_memory m ≡ t → (called m c).answer ≡ Refused Damaged
+        go : (t : Bool) → well_memory m ≡ t → (called m c).answer ≡ Err Damaged
         go true e = absurd (n (record { length_in = well_length m e; state = unpacked m; holds = passes_holds m (octet_at_lem m o) (well_passes m e) }))
         go false e = ap (λ (x : Called). x.answer) (called_damaged m c e)
 
@@ -71,17 +69,17 @@ exactly m c o = (λ e u. well_answers m c (holds_well m u.state u.length_in u.ho
 
 -- an answer that Start may give
 abbrev ByStart : Answer → Type 0
-ByStart (Value n) = Unit
-ByStart (Refused MemoryLength) = Unit
-ByStart (Refused Address) = Unit
-ByStart (Refused Length) = Unit
-ByStart (Refused Room) = Unit
-ByStart (Refused Damaged) = ⊥
-ByStart (Refused Judging) = ⊥
-ByStart (Refused Range) = ⊥
-ByStart (Refused Absent) = ⊥
-ByStart (Refused Delayed) = ⊥
-ByStart (Refused Cell) = ⊥
+ByStart (Ok n) = Unit
+ByStart (Err MemoryLength) = Unit
+ByStart (Err Address) = Unit
+ByStart (Err Length) = Unit
+ByStart (Err Room) = Unit
+ByStart (Err Damaged) = ⊥
+ByStart (Err Judging) = ⊥
+ByStart (Err Range) = ⊥
+ByStart (Err Absent) = ⊥
+ByStart (Err Delayed) = ⊥
+ByStart (Err Cell) = ⊥
 
 by_start : (m : List ℕ) (s : Setup) (slice lengths : List ℕ) → ByStart (started m s slice lengths).answer
 unfolding started asked started_in
@@ -93,7 +91,7 @@ by_start m s slice lengths =
     May : Called → Type 0
     May x = ByStart x.answer
 
-    May-as : Asked → Type 0
+    May-as : Result Setup Refusal → Type 0
     May-as a = ByStart (started_as m slice lengths a).answer
 
 -- what it leaves
@@ -111,15 +109,15 @@ start_lays m s slice lengths long e =
 
 -- ---- a refusal leaves the memory
 
-pub step_same : (m : List ℕ) (c : Call) (why : Refusal) → (step_over m c).answer ≡ Refused why → (step_over m c).memory ≡ m
+pub step_same : (m : List ℕ) (c : Call) (why : Refusal) → (step_over m c).answer ≡ Err why → (step_over m c).memory ≡ m
 unfolding step_over
 step_same m c why =
-    step_cases (unpacked m) m (λ (t : Told). (packed m t).answer ≡ Refused why → (packed m t).memory ≡ m)
+    step_cases (unpacked m) m (λ (t : Told). (packed m t).answer ≡ Err why → (packed m t).memory ≡ m)
     (λ n t x e. let z : ◌≡◌ {A = ℕ} 0 1 = cc in absurd (omega arith)) (λ other u e. refl) c
 
-called_same : (m : List ℕ) (c : Call) (why : Refusal) → (called m c).answer ≡ Refused why → (called m c).memory ≡ m
+called_same : (m : List ℕ) (c : Call) (why : Refusal) → (called m c).answer ≡ Err why → (called m c).memory ≡ m
 unfolding called
-called_same m c why = by_test (λ (x : Called). x.answer ≡ Refused why → x.memory ≡ m) (well_memory m) _ _ (λ _. step_same m c why) (λ _ e. refl)
+called_same m c why = by_test (λ (x : Called). x.answer ≡ Err why → x.memory ≡ m) (well_memory m) _ _ (λ _. step_same m c why) (λ _ e. refl)
 
 -- ---- events
 
@@ -135,7 +133,7 @@ module _ (m : List ℕ) (s : State) (n : LengthIn (length m)) (h : Holds m s) wh
   events_told : EventsTold m s
   events_told = record {
     word = answer_by_state events;
-    smallest = λ k. (λ e. (exactly k).0 (same_value (sym (answer_by_state pending) ∙ e)), λ p. answer_by_state pending ∙ ap Value ((exactly k).1 p));
+    smallest = λ k. (λ e. (exactly k).0 (same_value (sym (answer_by_state pending) ∙ e)), λ p. answer_by_state pending ∙ ap Ok ((exactly k).1 p));
     events_leaves = ap (λ (x : Called). x.memory) (by_state events) ∙ same;
     pending_leaves = ap (λ (x : Called). x.memory) (by_state pending) ∙ same;
   }
@@ -146,7 +144,7 @@ module _ (m : List ℕ) (s : State) (n : LengthIn (length m)) (h : Holds m s) wh
       same : kept s m ≡ m
       same = sym (fronted_same m s h)
 
-      same_value : {j k : ℕ} → Value j ≡ Value k → j ≡ k
+      same_value : {j k : ℕ} → ◌≡◌ {A = Answer} (Ok j) (Ok k) → j ≡ k
       same_value e = cc
 
 pub demand_1 : Demand1

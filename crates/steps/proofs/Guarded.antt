@@ -1,4 +1,5 @@
 -- What the conditions on the whole memory say: when a call is refused with 5, and when Start answers 0.
+use Rattle.std.specs.Prelude.{Ok, Err, Result}
 use Prim.Native.Nat.{ℕ, ◌%◌, ◌≤◌}
 use native.Mathlib.Omega.{arith}
 use mathlib.Core.Path.{◌≡◌, refl, ap, subst, ◌∙◌}
@@ -9,12 +10,9 @@ use mir.Val.{Fits}
 use lib.Dec.{eqb, ltb}
 use lib.ListN.{length, get_or}
 use borrow.Author.Tests.{eqb-true, eq-eqb, ltb-false, le-ltb}
-use Rattle.state.specs.declared.answer.Answer.TheVariants.{Value, Refused}
 use Rattle.state.specs.declared.answer.Refusal.{Refusal}
 use Rattle.state.specs.declared.answer.Refusal.TheVariants.{MemoryLength, Room, Damaged}
 use Rattle.state.specs.declared.setup.Setup.{Setup}
-use Rattle.state.specs.declared.start.Asked.{Asked}
-use Rattle.state.specs.declared.start.Asked.TheVariants.{Accepted, Declined}
 use Rattle.state.specs.declared.state.State.{State}
 use Rattle.state.specs.Answer.{Called, refused}
 use Rattle.channels.specs.Setting.{lengths_given}
@@ -79,23 +77,23 @@ called_damaged m c e = ap (λ (t : Bool). cond t (step_over m c) (refused m Dama
 
 -- what it answers and leaves then
 abbrev pub answered_zero : List ℕ → Setup → List ℕ → List ℕ → Called
-answered_zero m s slice lengths = record { answer = Value 0; memory = laid_out m s slice lengths }
+answered_zero m s slice lengths = record { answer = Ok 0; memory = laid_out m s slice lengths }
 
 -- an answer 0 says that there is room
-laid_room : (m : List ℕ) (s : Setup) (slice lengths : List ℕ) → (started_in m s slice lengths).answer ≡ Value 0 → last_end (lengths_given lengths) s ≤ length m
+laid_room : (m : List ℕ) (s : Setup) (slice lengths : List ℕ) → (started_in m s slice lengths).answer ≡ Ok 0 → last_end (lengths_given lengths) s ≤ length m
 unfolding started_in
 laid_room m s slice lengths h = go (ltb (length m) (last_end (lengths_given lengths) s)) refl h
   where
-    go : (t : Bool) → ltb (length m) (last_end (lengths_given lengths) s) ≡ t → (cond t (refused m Room) (answered_zero m s slice lengths)).answer ≡ Value 0 → last_end (lengths_given lengths) s ≤ length m
+    go : (t : Bool) → ltb (length m) (last_end (lengths_given lengths) s) ≡ t → (cond t (refused m Room) (answered_zero m s slice lengths)).answer ≡ Ok 0 → last_end (lengths_given lengths) s ≤ length m
     go true e f = absurd (let z : ◌≡◌ {A = ℕ} 0 1 = cc in omega arith)
     go false e f = ltb-false (length m) (last_end (lengths_given lengths) s) e
 
 -- a refusal leaves the memory
-laid_same : (m : List ℕ) (s : Setup) (slice lengths : List ℕ) (why : Refusal) → (started_in m s slice lengths).answer ≡ Refused why → (started_in m s slice lengths).memory ≡ m
+laid_same : (m : List ℕ) (s : Setup) (slice lengths : List ℕ) (why : Refusal) → (started_in m s slice lengths).answer ≡ Err why → (started_in m s slice lengths).memory ≡ m
 unfolding started_in
 laid_same m s slice lengths why h = go (ltb (length m) (last_end (lengths_given lengths) s)) h
   where
-    go : (t : Bool) → (cond t (refused m Room) (answered_zero m s slice lengths)).answer ≡ Refused why → (cond t (refused m Room) (answered_zero m s slice lengths)).memory ≡ m
+    go : (t : Bool) → (cond t (refused m Room) (answered_zero m s slice lengths)).answer ≡ Err why → (cond t (refused m Room) (answered_zero m s slice lengths)).memory ≡ m
     go true f = refl
     go false f = absurd (let z : ◌≡◌ {A = ℕ} 0 1 = cc in omega arith)
 
@@ -106,25 +104,25 @@ module _ (m : List ℕ) (s : Setup) (slice lengths : List ℕ) where
   started_short e = simp e
 
   -- 2 and 3
-  pub started_declined : (why : Refusal) → length_ok (length m) ≡ true → asked s lengths ≡ Declined why → started m s slice lengths ≡ refused m why
+  pub started_declined : (why : Refusal) → length_ok (length m) ≡ true → asked s lengths ≡ Err why → started m s slice lengths ≡ refused m why
   unfolding started
   started_declined why e f = simp (e, f)
 
   -- the rest
-  pub started_accepted : (t : Setup) → length_ok (length m) ≡ true → asked s lengths ≡ Accepted t → started m s slice lengths ≡ started_in m t slice lengths
+  pub started_accepted : (t : Setup) → length_ok (length m) ≡ true → asked s lengths ≡ Ok t → started m s slice lengths ≡ started_in m t slice lengths
   unfolding started
   started_accepted t e f = simp (e, f)
 
   -- an answer 0 says that the rules are kept
-  pub started_begins : (started m s slice lengths).answer ≡ Value 0 → Begins m s lengths
+  pub started_begins : (started m s slice lengths).answer ≡ Ok 0 → Begins m s lengths
   unfolding started
   started_begins h = go (length_ok (length m)) refl (asked s lengths) refl h
     where
-      go : (p : Bool) → length_ok (length m) ≡ p → (a : Asked) → asked s lengths ≡ a
-          → (cond (not p) (refused m MemoryLength) (started_as m slice lengths a)).answer ≡ Value 0 → Begins m s lengths
+      go : (p : Bool) → length_ok (length m) ≡ p → (a : Result Setup Refusal) → asked s lengths ≡ a
+          → (cond (not p) (refused m MemoryLength) (started_as m slice lengths a)).answer ≡ Ok 0 → Begins m s lengths
       go false e a f g = absurd (let z : ◌≡◌ {A = ℕ} 0 1 = cc in omega arith)
-      go true e (Declined why) f g = absurd (let z : ◌≡◌ {A = ℕ} 0 1 = cc in omega arith)
-      go true e (Accepted t) f g =
+      go true e (Err why) f g = absurd (let z : ◌≡◌ {A = ℕ} 0 1 = cc in omega arith)
+      go true e (Ok t) f g =
           let a = accepts s t lengths f in
           let ok = lengths_say lengths a.channels in
           record {
@@ -142,12 +140,12 @@ module _ (m : List ℕ) (s : Setup) (slice lengths : List ℕ) where
       ∙ ap (λ (t : Bool). cond t (refused m Room) (answered_zero m s slice lengths)) (le-ltb (length m) (last_end (lengths_given lengths) s) b.room)
 
   -- a refusal leaves the memory as it was
-  pub refused_same : (why : Refusal) → (started m s slice lengths).answer ≡ Refused why → (started m s slice lengths).memory ≡ m
+  pub refused_same : (why : Refusal) → (started m s slice lengths).answer ≡ Err why → (started m s slice lengths).memory ≡ m
   unfolding started
   refused_same why h = go (length_ok (length m)) (asked s lengths) h
     where
-      go : (p : Bool) (a : Asked) → (cond (not p) (refused m MemoryLength) (started_as m slice lengths a)).answer ≡ Refused why
+      go : (p : Bool) (a : Result Setup Refusal) → (cond (not p) (refused m MemoryLength) (started_as m slice lengths a)).answer ≡ Err why
           → (cond (not p) (refused m MemoryLength) (started_as m slice lengths a)).memory ≡ m
       go false a f = refl
-      go true (Declined other) f = refl
-      go true (Accepted t) f = laid_same m t slice lengths why f
+      go true (Err other) f = refl
+      go true (Ok t) f = laid_same m t slice lengths why f

@@ -1,13 +1,10 @@
 -- The calls over the one lent memory: what each checks of the whole memory first, and then its step. A call is a promise about the
 -- answer and the whole memory, refusals too.
-use Rattle.std.specs.Prelude.{ℕ, ◌%◌, Bool, cond, not, ◌&&◌, List, eqb, ltb, length}
-use Rattle.state.specs.declared.answer.Answer.{Answer}
-use Rattle.state.specs.declared.answer.Answer.TheVariants.{Value}
+use Rattle.std.specs.Prelude.{ℕ, ◌%◌, Bool, cond, not, ◌&&◌, List, eqb, ltb, length, Ok, Result, Err}
+use Rattle.state.specs.declared.answer.Refusal.{Refusal}
 use Rattle.state.specs.declared.answer.Refusal.TheVariants.{MemoryLength, Room, Damaged}
 use Rattle.state.specs.declared.setup.Setup.{Setup}
-use Rattle.state.specs.declared.start.Asked.{Asked}
-use Rattle.state.specs.declared.start.Asked.TheVariants.{Accepted, Declined}
-use Rattle.state.specs.Answer.{Called, refused}
+use Rattle.state.specs.Answer.{Answer, Called, refused}
 use Rattle.state.specs.Layout.{last_end}
 use Rattle.channels.specs.Setting.{lengths_given}
 use Rattle.state.specs.Memory.{holds_state}
@@ -25,12 +22,12 @@ length_ok n = within 1536 n 16384 && eqb (n % 8) 0
 -- channels
 unfoldable pub started_in : List ℕ → Setup → List ℕ → List ℕ → Called
 started_in m s slice lengths =
-    cond (ltb (length m) (last_end (lengths_given lengths) s)) (refused m Room) (record { answer = Value 0; memory = laid_out m s slice lengths })
+    cond (ltb (length m) (last_end (lengths_given lengths) s)) (refused m Room) (record { answer = Ok 0; memory = laid_out m s slice lengths })
 
 -- a setup that is accepted is laid out, and a refusal is the answer
-abbrev pub started_as : List ℕ → List ℕ → List ℕ → Asked → Called
-started_as m slice lengths (Accepted s) = started_in m s slice lengths
-started_as m slice lengths (Declined why) = refused m why
+abbrev pub started_as : List ℕ → List ℕ → List ℕ → Result Setup Refusal → Called
+started_as m slice lengths (Ok s) = started_in m s slice lengths
+started_as m slice lengths (Err why) = refused m why
 
 -- Start; "checks go upward": 1 the memory's length here, 2 and 3 in asked, 4 in started_in
 unfoldable pub started : List ℕ → Setup → List ℕ → List ℕ → Called

@@ -1,7 +1,7 @@
 -- Demand 1: what is promised of every call and of Start on any memory, well or damaged. That each call has an answer, and which, and
 -- that the exported functions give it with no condition on the caller, are their contracts (card/src/lib.rt), which cite `called`
 -- and `started`.
-use Rattle.std.specs.Prelude.{ℕ, ◌+◌, ◌-◌, ◌%◌, ◌≤◌, ◌<◌, ◌≡◌, List, ◌↔◌, ◌⊎◌, length, drop, get_or}
+use Rattle.std.specs.Prelude.{ℕ, ◌+◌, ◌-◌, ◌%◌, ◌≤◌, ◌<◌, ◌≡◌, List, ◌↔◌, ◌⊎◌, length, drop, get_or, Ok, Err}
 use Rattle.octets.specs.Part.{part}
 use Rattle.telegram.specs.Telegram.{Octets}
 use Rattle.channels.specs.Image.{channels, channels_at, rows_end, loaded}
@@ -9,13 +9,11 @@ use Rattle.channels.specs.Rules.{LengthsOk}
 use Rattle.channels.specs.Places.{indication, response}
 use Rattle.channels.specs.Setting.{length_octets, lengths_given, free}
 use Rattle.buffers.specs.Events.{SmallestSet}
-use Rattle.state.specs.declared.answer.Answer.{Answer}
-use Rattle.state.specs.declared.answer.Answer.TheVariants.{Value, Refused}
 use Rattle.state.specs.declared.answer.Refusal.{Refusal}
 use Rattle.state.specs.declared.answer.Refusal.TheVariants.{Damaged}
 use Rattle.state.specs.declared.setup.Setup.{Setup}
 use Rattle.state.specs.declared.state.State.{State}
-use Rattle.state.specs.Answer.{answer_number}
+use Rattle.state.specs.Answer.{Answer, answer_number}
 use Rattle.state.specs.Image.{image}
 use Rattle.state.specs.Layout.{state_length, image_length, get_cfg_at, end_of, last_end}
 use Rattle.state.specs.Start.{initial_state}
@@ -50,13 +48,13 @@ pub record Begins (m : List ℕ) (s : Setup) (lengths : List ℕ) : Type 0 where
 
 -- the damage check: a call on a memory of octets answers 5 exactly if the memory is damaged, and Start never does
 pub record DamageCheck : Type 0 where
-  pub exactly : (m : List ℕ) (c : Call) → Octets m → ((called m c).answer ≡ Refused Damaged) ↔ ¬ Undamaged m
-  pub not_by_start : (m : List ℕ) (s : Setup) (slice lengths : List ℕ) → ¬ ((started m s slice lengths).answer ≡ Refused Damaged)
+  pub exactly : (m : List ℕ) (c : Call) → Octets m → ((called m c).answer ≡ Err Damaged) ↔ ¬ Undamaged m
+  pub not_by_start : (m : List ℕ) (s : Setup) (slice lengths : List ℕ) → ¬ ((started m s slice lengths).answer ≡ Err Damaged)
 
 -- "each leaves memory unchanged": a refusal of a call, and of Start
 pub record RefusalsLeave : Type 0 where
-  pub of_call : (m : List ℕ) (c : Call) (why : Refusal) → (called m c).answer ≡ Refused why → (called m c).memory ≡ m
-  pub of_start : (m : List ℕ) (s : Setup) (slice lengths : List ℕ) (why : Refusal) → (started m s slice lengths).answer ≡ Refused why
+  pub of_call : (m : List ℕ) (c : Call) (why : Refusal) → (called m c).answer ≡ Err why → (called m c).memory ≡ m
+  pub of_start : (m : List ℕ) (s : Setup) (slice lengths : List ℕ) (why : Refusal) → (started m s slice lengths).answer ≡ Err why
       → (started m s slice lengths).memory ≡ m
 
 -- every call leads from every state whose roles, lengths and counts keep the rules to such a state, reached or not
@@ -90,12 +88,12 @@ pub record Laid (m n : List ℕ) (s : Setup) (slice lengths : List ℕ) : Type 0
 -- so it is of every Start that answers 0
 abbrev pub StartLays : Type 0
 StartLays =
-    (m : List ℕ) (s : Setup) (slice lengths : List ℕ) → s.get_cfg_len ≡ length slice → (started m s slice lengths).answer ≡ Value 0
+    (m : List ℕ) (s : Setup) (slice lengths : List ℕ) → s.get_cfg_len ≡ length slice → (started m s slice lengths).answer ≡ Ok 0
     → Laid m (started m s slice lengths).memory s slice lengths
 
 -- Start answers 0 exactly if what it is given keeps the rules
 abbrev pub StartAnswersZero : Type 0
-StartAnswersZero = (m : List ℕ) (s : Setup) (slice lengths : List ℕ) → ((started m s slice lengths).answer ≡ Value 0) ↔ Begins m s lengths
+StartAnswersZero = (m : List ℕ) (s : Setup) (slice lengths : List ℕ) → ((started m s slice lengths).answer ≡ Ok 0) ↔ Begins m s lengths
 
 -- "one image per state": no two states that keep the rules have one image
 abbrev pub OneImage : Type 0
@@ -108,9 +106,9 @@ NumbersApart = (a b : Answer) → answer_number a ≡ answer_number b → a ≡ 
 -- what Events and Pending do on a memory that holds the state s (document 02, Req 06)
 pub record EventsTold (m : List ℕ) (s : State) : Type 0 where
   -- Events answers the event word
-  pub word : (called m events).answer ≡ Value s.control.events.word
+  pub word : (called m events).answer ≡ Ok s.control.events.word
   -- Pending answers the smallest number of an event that is set in it, or 16 if none is, and nothing else
-  pub smallest : (n : ℕ) → ((called m pending).answer ≡ Value n) ↔ SmallestSet s.control.events.word n
+  pub smallest : (n : ℕ) → ((called m pending).answer ≡ Ok n) ↔ SmallestSet s.control.events.word n
   -- neither changes anything
   pub events_leaves : (called m events).memory ≡ m
   pub pending_leaves : (called m pending).memory ≡ m

@@ -1,10 +1,8 @@
 -- Each call as a step over the memory that holds a state: the state is unpacked, the step made and the state packed again. Nothing
 -- of the memory is checked here.
-use Rattle.std.specs.Prelude.{ℕ, List}
-use Rattle.state.specs.declared.answer.Answer.{Answer}
-use Rattle.state.specs.declared.answer.Answer.TheVariants.{Value, Refused}
+use Rattle.std.specs.Prelude.{ℕ, List, Ok, Err}
 use Rattle.state.specs.declared.state.State.{State}
-use Rattle.state.specs.Answer.{Called, refused}
+use Rattle.state.specs.Answer.{Answer, Called, refused}
 use Rattle.state.specs.Memory.{kept}
 use Rattle.state.specs.Unpack.{unpacked}
 use Rattle.rules.specs.Call.{Call, octet, gap, send, tick, take, read, write, hand_over_call, new_diagnosis_call, judge_parameters_call, judge_configuration_call, events, acknowledge, pending, leave}
@@ -33,8 +31,8 @@ step s m leave = leave_master s m
 
 -- a refusal leaves the memory as it was; else the state stands in front again
 abbrev pub packed_as : Answer → List ℕ → Told → Called
-packed_as (Value n) m t = record { answer = Value n; memory = kept t.state t.memory }
-packed_as (Refused why) m t = refused m why
+packed_as (Ok n) m t = record { answer = Ok n; memory = kept t.state t.memory }
+packed_as (Err why) m t = refused m why
 
 -- by its own answer
 abbrev pub packed : List ℕ → Told → Called

@@ -1,7 +1,6 @@
 -- What a step makes of a state and a memory, and what a call tells of it.
-use Rattle.std.specs.Prelude.{ℕ, ◌≡◌, List}
-use Rattle.state.specs.declared.answer.Answer.{Answer}
-use Rattle.state.specs.declared.answer.Answer.TheVariants.{Value, Refused}
+use Rattle.std.specs.Prelude.{ℕ, ◌≡◌, List, Ok, Err}
+use Rattle.state.specs.Answer.{Answer}
 use Rattle.state.specs.declared.answer.Refusal.{Refusal}
 use Rattle.state.specs.declared.state.State.{State}
 use Rattle.state.specs.Memory.{kept}
@@ -32,11 +31,11 @@ pub record Told : Type 0 where
 
 -- a call that answers a value
 abbrev pub told : ℕ → State → List ℕ → Told
-told n s m = record { answer = Value n; state = s; memory = m }
+told n s m = record { answer = Ok n; state = s; memory = m }
 
 -- a refused call answers its number and changes nothing
 abbrev pub refusing : Refusal → State → List ℕ → Told
-refusing why s m = record { answer = Refused why; state = s; memory = m }
+refusing why s m = record { answer = Err why; state = s; memory = m }
 
 -- a step that answers a value
 abbrev pub told_of : ℕ → Stepped → Told

@@ -1,4 +1,5 @@
 -- What an access may answer on a memory that holds a state: reading a cell is refused by 6 or 9 alone, and writing to one answers 0.
+use Rattle.std.specs.Prelude.{Ok}
 use Prim.Native.Nat.{ℕ, ◌≤◌}
 use native.Mathlib.Omega.{arith}
 use mathlib.Core.Path.{◌≡◌, refl}
@@ -7,7 +8,6 @@ use mathlib.Core.Logic.{inl, inr}
 use mathlib.Core.List.{List}
 use lib.Dec.{leb}
 use borrow.Author.Tests.{le-leb}
-use Rattle.state.specs.declared.answer.Answer.TheVariants.{Value}
 use Rattle.state.specs.declared.state.State.{State}
 use Rattle.state.specs.Memory.{Holds}
 use Rattle.state.specs.Unpack.{unpacked}
@@ -61,7 +61,7 @@ module _ (m : List ℕ) (h : Holds m (unpacked m)) where
       (λ h. tt) (λ h. tt) (λ h. tt) (λ h. tt) (λ h. tt) (λ h. taken) (λ h. renewed)
       (λ h. judged_parameters_lem 1 refl) (λ h. judged_parameters_lem 0 refl) (λ h. judged_configuration_lem 1 refl) (λ h. judged_configuration_lem 0 refl)
 
-  pub write_answers : (x cell : ℕ) → cell ≤ 0x15 → (made m ((row_of (unpacked m).control cell).writing x)).answer ≡ Value 0
+  pub write_answers : (x cell : ℕ) → cell ≤ 0x15 → (made m ((row_of (unpacked m).control cell).writing x)).answer ≡ Ok 0
   unfolding s step_over acknowledge_events
   write_answers x =
-      writing_cases _ _ (λ n b. n ≤ 0x15 → (made m b).answer ≡ Value 0) (λ n h. refl) (λ n f h. absurd (omega arith)) x (λ h. refl) (λ h. refl)
+      writing_cases _ _ (λ n b. n ≤ 0x15 → (made m b).answer ≡ Ok 0) (λ n h. refl) (λ n f h. absurd (omega arith)) x (λ h. refl) (λ h. refl)

@@ -1,4 +1,5 @@
 -- Demand 1 with accesses (specs/Demand1.antt).
+use Rattle.std.specs.Prelude.{Ok, Err}
 use Prim.Native.Nat.{ℕ, ◌+◌, ◌*◌, ◌/◌, ◌%◌, ◌^◌, ◌<◌, ◌≤◌}
 use native.Mathlib.Omega.{arith}
 use mathlib.Core.Path.{◌≡◌, refl, sym, ap, subst, ◌∙◌}
@@ -9,12 +10,10 @@ use lib.Dec.{ltb}
 use borrow.Author.Tests.{ltb-true, ltb-false}
 use Rattle.telegram.specs.Telegram.{Octets}
 use Rattle.telegram.proofs.OctetLists.{octet_at_lem}
-use Rattle.state.specs.declared.answer.Answer.{Answer}
-use Rattle.state.specs.declared.answer.Answer.TheVariants.{Value, Refused}
 use Rattle.state.specs.declared.answer.Refusal.{Refusal}
 use Rattle.state.specs.declared.answer.Refusal.TheVariants.{Damaged, Judging, Delayed, Cell}
 use Rattle.state.specs.declared.control.Control.{Control}
-use Rattle.state.specs.Answer.{Called}
+use Rattle.state.specs.Answer.{Answer, Called}
 use Rattle.state.specs.Memory.{Holds}
 use Rattle.state.specs.Unpack.{unpacked}
 use Rattle.state.proofs.Choice.{by_test}
@@ -44,38 +43,38 @@ use Rattle.window.proofs.Answers.{read_answers, write_answers}
 -- ---- a refusal
 
 -- a cut does not make one
-cut_refused : (cut : Cut) (a : Answer) (why : Refusal) → cut_to cut a ≡ Refused why → a ≡ Refused why
+cut_refused : (cut : Cut) (a : Answer) (why : Refusal) → cut_to cut a ≡ Err why → a ≡ Err why
 cut_refused whole a why e = e
-cut_refused (bits from) (Value n) why e = absurd (let z : ◌≡◌ {A = ℕ} 0 1 = cc in omega arith)
-cut_refused (bits from) (Refused other) why e = e
+cut_refused (bits from) (Ok n) why e = absurd (let z : ◌≡◌ {A = ℕ} 0 1 = cc in omega arith)
+cut_refused (bits from) (Err other) why e = e
 
 -- what is behind an entry leaves the memory where it is refused
-made_same : (m : List ℕ) (b : Behind) (why : Refusal) → (made m b).answer ≡ Refused why → (made m b).memory ≡ m
+made_same : (m : List ℕ) (b : Behind) (why : Refusal) → (made m b).answer ≡ Err why → (made m b).memory ≡ m
 made_same m (calls c cut) why e = step_same m c why (cut_refused cut (step_over m c).answer why e)
 made_same m nothing why e = refl
 made_same m no_cell why e = refl
 
-refusals_leave : (m : List ℕ) (e : Entry) (why : Refusal) → (entered m e).answer ≡ Refused why → (entered m e).memory ≡ m
+refusals_leave : (m : List ℕ) (e : Entry) (why : Refusal) → (entered m e).answer ≡ Err why → (entered m e).memory ≡ m
 unfolding entered_by
 refusals_leave m e why =
-    by_test (λ (x : Called). x.answer ≡ Refused why → x.memory ≡ m) (well_memory m) _ _ (λ _. made_same m (behind (unpacked m).control e) why) (λ _ f. refl)
+    by_test (λ (x : Called). x.answer ≡ Err why → x.memory ≡ m) (well_memory m) _ _ (λ _. made_same m (behind (unpacked m).control e) why) (λ _ f. refl)
 
 -- it is never refused by 5
-not_damaged : (m : List ℕ) (b : Behind) → ¬ ((made m b).answer ≡ Refused Damaged)
+not_damaged : (m : List ℕ) (b : Behind) → ¬ ((made m b).answer ≡ Err Damaged)
 not_damaged m (calls c cut) e = subst ByStep (cut_refused cut (step_over m c).answer Damaged e) (by_step m c)
 not_damaged m nothing e = let z : ◌≡◌ {A = ℕ} 0 1 = cc in omega arith
 not_damaged m no_cell e = let z : ◌≡◌ {A = ℕ} 0 1 = cc in omega arith
 
 -- a value is no refusal
 abbrev IsValue : Answer → Type 0
-IsValue (Value n) = Unit
-IsValue (Refused why) = ⊥
+IsValue (Ok n) = Unit
+IsValue (Err why) = ⊥
 
 -- and on a damaged memory an entry always is
-refuses : (m : List ℕ) (e : Entry) → Octets m → ¬ Undamaged m → (entered m e).answer ≡ Refused Damaged
+refuses : (m : List ℕ) (e : Entry) → Octets m → ¬ Undamaged m → (entered m e).answer ≡ Err Damaged
 refuses m e o n = go (well_memory m) refl
   where
-    go : (t : Bool) → well_memory m ≡ t → (entered m e).answer ≡ Refused Damaged
+    go : (t : Bool) → well_memory m ≡ t → (entered m e).answer ≡ Err Damaged
     go true w = absurd (n (record { length_in = well_length m w; state = unpacked m; holds = well_holds m (λ i. record { fits = octet_at_lem m o i }) w }))
     go false w = ap (λ (x : Called). x.answer) (entered_damaged m (behind (unpacked m).control e) w)
 
@@ -121,7 +120,7 @@ module _ (m : List ℕ) (u : Undamaged m) where
   makes e = entered_makes m (behind (unpacked m).control e) well
 
   -- above 015H an access is refused by 10
-  so_above : (e : Entry) → Above e → (made m (behind (unpacked m).control e)).answer ≡ Refused Cell
+  so_above : (e : Entry) → Above e → (made m (behind (unpacked m).control e)).answer ≡ Err Cell
   so_above (call c) t = absurd t
   so_above (window_read order address) t = ap (λ (b : Behind). (made m b).answer) (sym (reads_none order address t (unpacked m).control))
   so_above (window_write order address x) t = ap (λ (b : Behind). (made m b).answer) (sym (writes_none order address t (unpacked m).control x))
@@ -136,7 +135,7 @@ module _ (m : List ℕ) (u : Undamaged m) where
       write_answers m holds x (cell_at order address) (cell_within order address (not_above address n))
 
   -- so nothing else is refused by 10
-  above_so : (e : Entry) → (made m (behind (unpacked m).control e)).answer ≡ Refused Cell → Above e
+  above_so : (e : Entry) → (made m (behind (unpacked m).control e)).answer ≡ Err Cell → Above e
   unfolding behind
   above_so (call c) f = subst ByStep f (by_step m c)
   above_so (window_read order address) f =

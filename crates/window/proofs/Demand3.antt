@@ -1,9 +1,9 @@
 -- Demand 3 over lists with accesses (specs/Demand3.antt).
+use Rattle.std.specs.Prelude.{Ok}
 use Prim.Native.Nat.{ℕ, ◌<◌}
 use mathlib.Core.Path.{◌≡◌, sym, ap, ◌∙◌}
 use mathlib.Core.List.{List, [], ◌∷◌, ◌++◌}
 use lib.ListN.{length, get_or}
-use Rattle.state.specs.declared.answer.Answer.TheVariants.{Value}
 use Rattle.state.specs.declared.setup.Setup.{Setup}
 use Rattle.rules.specs.Call.{take, read}
 use Rattle.rules.proofs.Runs.{left_append, answers_append}
@@ -51,7 +51,7 @@ module _ (s : Setup) (slice : List ℕ) (es : List Entry) (index : ℕ) (i : ind
   pub read_answers : (rest : List Entry)
       → ledger.answers (fresh s slice) (es ++ call (read 1 index) ∷ rest)
       ≡ ledger.answers (fresh s slice) es
-      ++ Value (get_or (readable s.output_len (history (fresh s slice) (translated (fresh s slice) es))) index 0)
+      ++ Ok (get_or (readable s.output_len (history (fresh s slice) (translated (fresh s slice) es))) index 0)
       ∷ ledger.answers (after (fresh s slice) es) rest
   unfolding l octet_read
   read_answers rest =
@@ -60,12 +60,12 @@ module _ (s : Setup) (slice : List ℕ) (es : List Entry) (index : ℕ) (i : ind
 
 -- a take after a list of entries
 take_told : (s : Setup) (slice : List ℕ) (es : List Entry)
-    → (step (after (fresh s slice) es) (call take)).answer ≡ Value (news_of (history (fresh s slice) (translated (fresh s slice) es)))
+    → (step (after (fresh s slice) es) (call take)).answer ≡ Ok (news_of (history (fresh s slice) (translated (fresh s slice) es)))
 unfolding behind
 take_told s slice es =
     ap (λ (a : Ledger). (calls-on-ledger.step a take).answer) (ledger_left es (fresh s slice)) ∙ takes_told s slice (translated (fresh s slice) es)
 
-module _ (m : List ℕ) (s : Setup) (slice lengths : List ℕ) (long : s.get_cfg_len ≡ length slice) (zero : (steps.started m s slice lengths).answer ≡ Value 0) where
+module _ (m : List ℕ) (s : Setup) (slice lengths : List ℕ) (long : s.get_cfg_len ≡ length slice) (zero : (steps.started m s slice lengths).answer ≡ Ok 0) where
   ready : Ready (memory_of m s slice lengths) (fresh s slice)
   ready = begins_ready m s slice lengths long zero
 
@@ -86,7 +86,7 @@ module _ (m : List ℕ) (s : Setup) (slice lengths : List ℕ) (long : s.get_cfg
     octet_then_call = λ pre post b bad e u i. places_alike agree (inner_first (fresh s slice) pre post b bad e u i);
     call_then_octet = λ pre post b bad e u i. places_alike agree (inner_second (fresh s slice) pre post b bad e u i);
     outputs = λ es index rest i.
-        let x = Value (get_or (readable s.output_len (history (fresh s slice) (translated (fresh s slice) es))) index 0) in
+        let x = Ok (get_or (readable s.output_len (history (fresh s slice) (translated (fresh s slice) es))) index 0) in
         agree (es ++ call (read 1 index) ∷ rest)
         ∙ read_answers s slice es index i rest
         ∙ (λ j. sym (agree es) j ++ x ∷ sym (later es rest) j);

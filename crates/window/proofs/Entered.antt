@@ -1,12 +1,11 @@
 -- What is behind an entry, over a memory: refused where the memory is damaged.
+use Rattle.std.specs.Prelude.{Err}
 use Prim.Native.Nat.{ℕ}
 use mathlib.Core.Path.{◌≡◌, refl, sym, ap, ◌∙◌}
 use mathlib.Core.Bool.{Bool, true, false, cond}
 use mathlib.Core.List.{List}
-use Rattle.state.specs.declared.answer.Answer.{Answer}
-use Rattle.state.specs.declared.answer.Answer.TheVariants.{Refused}
 use Rattle.state.specs.declared.answer.Refusal.TheVariants.{Damaged}
-use Rattle.state.specs.Answer.{Called, Meets, refused}
+use Rattle.state.specs.Answer.{Answer, Called, Meets, refused}
 use Rattle.rules.specs.Call.{Call}
 use Rattle.steps.specs.Step.{step_over}
 use Rattle.steps.specs.Calls.{well_memory, called}
@@ -21,14 +20,6 @@ module _ (m : List ℕ) (b : Behind) where
   pub entered_makes : well_memory m ≡ true → entered_by m b ≡ made m b
   unfolding entered_by
   entered_makes w = ap (λ (t : Bool). cond t (made m b) (refused m Damaged)) w
-
-  -- r is what the check told of m
-  module _ (r : Bool) (tells : r ≡ well_memory m) where
-    pub damaged : r ≡ false → Meets (entered_by m b) (Refused Damaged) m
-    damaged f = rw (entered_damaged (sym tells ∙ f)) (record { answers = refl; leaves = refl })
-
-    pub passed : {a : Answer} {left : List ℕ} → r ≡ true → Meets (made m b) a left → Meets (entered_by m b) a left
-    passed f h = rw (entered_makes (sym tells ∙ f)) h
 
 -- a call's answer cut, and the memory as the call leaves it
 abbrev pub cut_called : Cut → Called → Called

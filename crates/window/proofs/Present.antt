@@ -5,10 +5,9 @@ use mathlib.Core.Path.{◌≡◌, refl, ap, subst, ◌∙◌}
 use mathlib.Core.Bool.{Bool, true, false, not, ◌&&◌}
 use mathlib.Core.List.{List}
 use lib.Dec.{leb}
-use Rattle.state.specs.declared.answer.Answer.{Answer}
 use Rattle.state.specs.declared.control.Control.{Control}
 use Rattle.state.specs.declared.control.Flags.{Flags}
-use Rattle.state.specs.Answer.{Meets}
+use Rattle.state.specs.Answer.{Answer, Meets}
 use Rattle.state.specs.Well.{within}
 use Rattle.state.proofs.Choice.{either}
 use Rattle.rules.specs.Call.{Call, new_diagnosis_call}

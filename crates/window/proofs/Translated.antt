@@ -1,11 +1,10 @@
 -- A list of entries is answered by the list of the calls behind them, on the ledger and over the memory.
+use Rattle.std.specs.Prelude.{Ok, Err}
 use Prim.Native.Nat.{ℕ}
 use mathlib.Core.Path.{◌≡◌, refl, sym, ap, ◌∙◌}
 use mathlib.Core.List.{List, [], ◌∷◌}
-use Rattle.state.specs.declared.answer.Answer.{Answer}
-use Rattle.state.specs.declared.answer.Answer.TheVariants.{Value, Refused}
 use Rattle.state.specs.declared.answer.Refusal.TheVariants.{Cell}
-use Rattle.state.specs.Answer.{Called}
+use Rattle.state.specs.Answer.{Answer, Called}
 use Rattle.ledger.specs.Ledger.{Ledger}
 use Rattle.ledger.specs.Calls as ledger
 use Rattle.steps.specs.Calls as steps
@@ -24,8 +23,8 @@ module _ (l : Ledger) (es : List Entry) where
       → (step_by l b).answer ∷ answers (step_by l b).ledger es
       ≡ answers_by (b ∷ behind_each (step_by l b).ledger es) (ledger.answers l (calls_among (b ∷ behind_each (step_by l b).ledger es)))
   first_answer (calls c cut) = ap (λ (more : List Answer). cut_to cut (ledger.step l c).answer ∷ more)
-  first_answer nothing = ap (λ (more : List Answer). Value 0 ∷ more)
-  first_answer no_cell = ap (λ (more : List Answer). Refused Cell ∷ more)
+  first_answer nothing = ap (λ (more : List Answer). Ok 0 ∷ more)
+  first_answer no_cell = ap (λ (more : List Answer). Err Cell ∷ more)
 
   first_left : (b : Behind) → ledger.after (step_by l b).ledger (translated (step_by l b).ledger es) ≡ ledger.after l (calls_among (b ∷ behind_each (step_by l b).ledger es))
   first_left (calls c cut) = refl

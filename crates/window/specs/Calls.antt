@@ -1,8 +1,7 @@
 -- The entries of a list over the one lent memory: a promise about the answer and the whole memory, refusals too.
 use Rattle.std.specs.Prelude.{ℕ, cond, List}
-use Rattle.state.specs.declared.answer.Answer.{Answer}
 use Rattle.state.specs.declared.answer.Refusal.TheVariants.{Damaged}
-use Rattle.state.specs.Answer.{Called, refused}
+use Rattle.state.specs.Answer.{Answer, Called, refused}
 use Rattle.state.specs.Unpack.{unpacked}
 use Rattle.rules.specs.Runs.{answers_to, left_by}
 use Rattle.steps.specs.Step.{step_over}

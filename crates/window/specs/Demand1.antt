@@ -1,10 +1,9 @@
 -- Demand 1 with accesses: what is promised of every call and every access on any memory, well or damaged. That each has an
 -- answer, and which, and that the exported functions give it with no condition on the caller, are their contracts (card/src/lib.rt), which
 -- cite `started`, `called` and `entered`.
-use Rattle.std.specs.Prelude.{ℕ, ◌+◌, ◌*◌, ◌^◌, ◌<◌, ◌≡◌, List, ◌↔◌, ◌⊎◌}
+use Rattle.std.specs.Prelude.{ℕ, ◌+◌, ◌*◌, ◌^◌, ◌<◌, ◌≡◌, List, ◌↔◌, ◌⊎◌, Ok, Err}
 use Rattle.telegram.specs.Telegram.{Octets}
-use Rattle.state.specs.declared.answer.Answer.{Answer}
-use Rattle.state.specs.declared.answer.Answer.TheVariants.{Value, Refused}
+use Rattle.state.specs.Answer.{Answer}
 use Rattle.state.specs.declared.answer.Refusal.{Refusal}
 use Rattle.state.specs.declared.answer.Refusal.TheVariants.{Damaged, Judging, Delayed, Cell}
 use Rattle.state.specs.declared.control.Control.{Control}
@@ -28,14 +27,14 @@ Above (window_write order address x) = 0x15 < address
 
 -- what reading a cell may answer: a value, or refused by 6 or 9
 abbrev pub ReadAnswer : Answer → Type 0
-ReadAnswer (Value n) = Unit
-ReadAnswer (Refused why) = (why ≡ Judging) ⊎ (why ≡ Delayed)
+ReadAnswer (Ok n) = Unit
+ReadAnswer (Err why) = (why ≡ Judging) ⊎ (why ≡ Delayed)
 
 -- what an access to a cell may answer: "every window write answers 0"; of a call of the station nothing is said here
 abbrev pub AccessAnswer : Entry → Answer → Type 0
 AccessAnswer (call c) a = Unit
 AccessAnswer (window_read order address) a = ReadAnswer a
-AccessAnswer (window_write order address x) a = a ≡ Value 0
+AccessAnswer (window_write order address x) a = a ≡ Ok 0
 
 -- the same access in Intel's order
 abbrev pub in_intel : Entry → Entry
@@ -54,8 +53,8 @@ pub record SamePresent (c d : Control) : Type 0 where
 pub record EventsWhole (l : Ledger) (order : Order) : Type 0 where
   pub low : ℕ
   pub high : ℕ
-  pub reads_low : (step l (window_read order (cell_at order 0x02))).answer ≡ Value low
-  pub reads_high : (step l (window_read order (cell_at order 0x03))).answer ≡ Value high
+  pub reads_low : (step l (window_read order (cell_at order 0x02))).answer ≡ Ok low
+  pub reads_high : (step l (window_read order (cell_at order 0x03))).answer ≡ Ok high
   pub make_up : low + 256 * high ≡ l.control.events.word
 
 -- all of it
@@ -63,13 +62,13 @@ pub record Demand1 : Type 0 where
   -- a call of the station is as an entry what it is alone
   pub calls_stay : (m : List ℕ) (c : Call) → entered m (call c) ≡ called m c
   -- an entry on a memory of octets answers 5 exactly if the memory is damaged
-  pub damage_check : (m : List ℕ) (e : Entry) → Octets m → ((entered m e).answer ≡ Refused Damaged) ↔ ¬ Undamaged m
+  pub damage_check : (m : List ℕ) (e : Entry) → Octets m → ((entered m e).answer ≡ Err Damaged) ↔ ¬ Undamaged m
   -- "each leaves memory unchanged"
-  pub refusals_leave : (m : List ℕ) (e : Entry) (why : Refusal) → (entered m e).answer ≡ Refused why → (entered m e).memory ≡ m
+  pub refusals_leave : (m : List ℕ) (e : Entry) (why : Refusal) → (entered m e).answer ≡ Err why → (entered m e).memory ≡ m
   -- no entry damages a memory, whatever led to it
   pub stays_undamaged : (m : List ℕ) (e : Entry) → Undamaged m → Undamaged (entered m e).memory
   -- "An address above 015H is refused by 10, checked after 5"; no other entry is
-  pub above_refused : (m : List ℕ) (e : Entry) → Undamaged m → ((entered m e).answer ≡ Refused Cell) ↔ Above e
+  pub above_refused : (m : List ℕ) (e : Entry) → Undamaged m → ((entered m e).answer ≡ Err Cell) ↔ Above e
   -- up to 015H a read is refused by 6 or 9 alone, and a write answers 0
   pub access_answers : (m : List ℕ) (e : Entry) → Undamaged m → ¬ Above e → AccessAnswer e (entered m e).answer
   -- "What holds for a cell is shown for both orders together": an access in either order is Intel's access to the cell that the order

@@ -1,7 +1,6 @@
 -- Demand 3 over lists with accesses: what is claimed of every list of calls and accesses from a freshly started station, refused ones
 -- included.
-use Rattle.std.specs.Prelude.{ℕ, ◌<◌, ◌≡◌, Bool, true, List, [], ◌∷◌, ◌++◌, get_or}
-use Rattle.state.specs.declared.answer.Answer.TheVariants.{Value}
+use Rattle.std.specs.Prelude.{ℕ, ◌<◌, ◌≡◌, Bool, true, List, [], ◌∷◌, ◌++◌, get_or, Ok}
 use Rattle.state.specs.declared.setup.Setup.{Setup}
 use Rattle.rules.specs.Call.{octet, take, read}
 use Rattle.steps.specs.Calls as steps
@@ -43,13 +42,13 @@ pub record Agreement (m : List ℕ) (s : Setup) (slice lengths : List ℕ) : Typ
   pub outputs : (es : List Entry) (index : ℕ) (rest : List Entry) → index < s.output_len
       → answers (memory_of m s slice lengths) (es ++ call (read 1 index) ∷ rest)
       ≡ answers (memory_of m s slice lengths) es
-      ++ Value (get_or (readable s.output_len (history (fresh s slice) (translated (fresh s slice) es))) index 0)
+      ++ Ok (get_or (readable s.output_len (history (fresh s slice) (translated (fresh s slice) es))) index 0)
       ∷ answers (memory_after (memory_of m s slice lengths) es) rest
   -- a take tells of them, also where they have no octet that could be read
   pub takes : (es rest : List Entry)
       → answers (memory_of m s slice lengths) (es ++ call take ∷ rest)
       ≡ answers (memory_of m s slice lengths) es
-      ++ Value (news_of (history (fresh s slice) (translated (fresh s slice) es)))
+      ++ Ok (news_of (history (fresh s slice) (translated (fresh s slice) es)))
       ∷ answers (memory_after (memory_of m s slice lengths) (es ++ call take ∷ [])) rest
 
 -- demand 3 whole

@@ -1,7 +1,6 @@
 -- The table of the window (document 02, Req 02): what is behind each access.
-use Rattle.std.specs.Prelude.{ℕ, ◌*◌, ◌/◌, ◌%◌, ◌^◌, List, [], ◌∷◌, get_or}
-use Rattle.state.specs.declared.answer.Answer.{Answer}
-use Rattle.state.specs.declared.answer.Answer.TheVariants.{Value, Refused}
+use Rattle.std.specs.Prelude.{ℕ, ◌*◌, ◌/◌, ◌%◌, ◌^◌, List, [], ◌∷◌, get_or, Ok, Err}
+use Rattle.state.specs.Answer.{Answer}
 use Rattle.state.specs.declared.answer.Refusal.TheVariants.{Cell}
 use Rattle.state.specs.declared.control.Control.{Control}
 use Rattle.rules.specs.Call.{Call, take, hand_over_call, new_diagnosis_call, judge_parameters_call, judge_configuration_call, events, acknowledge}
@@ -17,8 +16,8 @@ pub data Cut : Type 0 where
 -- an answer so cut; a refusal is told whole
 abbrev pub cut_to : Cut → Answer → Answer
 cut_to whole a = a
-cut_to (bits from) (Value n) = Value (n / 2 ^ from % 256)
-cut_to (bits from) (Refused why) = Refused why
+cut_to (bits from) (Ok n) = Ok (n / 2 ^ from % 256)
+cut_to (bits from) (Err why) = Err why
 
 -- what is behind an access: a call, and the cut of its answer; nothing, so that it reads 0 and changes nothing; no cell of the window
 pub data Behind : Type 0 where
@@ -29,8 +28,8 @@ pub data Behind : Type 0 where
 -- what an access answers; answer: what a call answers where the access is made
 abbrev pub answer_behind : (Call → Answer) → Behind → Answer
 answer_behind answer (calls c cut) = cut_to cut (answer c)
-answer_behind answer nothing = Value 0
-answer_behind answer no_cell = Refused Cell
+answer_behind answer nothing = Ok 0
+answer_behind answer no_cell = Err Cell
 
 -- and what it leaves of s; next: what a call leaves of it
 abbrev pub left_behind : {S : Type 0} → (Call → S) → S → Behind → S

@@ -1,7 +1,6 @@
 -- A list with accesses on the ledger, and as the list of the calls behind them.
-use Rattle.std.specs.Prelude.{List, [], ◌∷◌, get_or, drop}
-use Rattle.state.specs.declared.answer.Answer.{Answer}
-use Rattle.state.specs.declared.answer.Answer.TheVariants.{Value}
+use Rattle.std.specs.Prelude.{List, [], ◌∷◌, get_or, drop, Ok}
+use Rattle.state.specs.Answer.{Answer}
 use Rattle.rules.specs.Call.{Call}
 use Rattle.rules.specs.Runs.{answers_to, left_by}
 use Rattle.ledger.specs.Ledger.{Ledger}
@@ -49,4 +48,4 @@ translated l es = calls_among (behind_each l es)
 -- the answers to the entries by those to the calls behind them, of which each call takes the next
 abbrev pub answers_by : List Behind → List Answer → List Answer
 answers_by [] told = []
-answers_by (b ∷ bs) told = answer_behind (λ c. get_or told 0 (Value 0)) b ∷ answers_by bs (left_behind (λ c. drop 1 told) told b)
+answers_by (b ∷ bs) told = answer_behind (λ c. get_or told 0 (Ok 0)) b ∷ answers_by bs (left_behind (λ c. drop 1 told) told b)

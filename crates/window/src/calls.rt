@@ -11,7 +11,7 @@ ghost use Rattle.window.specs.Calls.{entered_by};
 use rules::diagnosis::present_flags;
 use state::answer::{Answer, Refusal};
 use state::load;
-use station::memory::is_well;
+use station::memory::checked;
 use station::{calls, over_memory};
 
 // Eight bits of an answer, from that bit upward.
@@ -19,10 +19,7 @@ fn eight_bits(answer: Answer, from: u32) -> Answer
     requires { from < 32 }
     ensures { result ≡ cut_to (bits from) answer }
 {
-    match answer {
-        Answer::Value(n) => Answer::Value((n >> from) % 256),
-        Answer::Refused(why) => Answer::Refused(why),
-    }
+    answer.map(|n| (n >> from) % 256)
 }
 
 // Eight bits of the event word.
@@ -30,39 +27,35 @@ pub fn event_bits(mem: &mut [u8], from: u32) -> Answer
     requires { from < 32 }
     ensures { Meets (entered_by mem.old (calls events (bits from))) result mem.new }
 {
-    let answer = calls::events(mem);
-    eight_bits(answer, from)
+    eight_bits(calls::events(mem), from)
 }
 
 // A new diagnosis with the present count and flags.
+#[tactic(auto, using(steps::proofs::Guarded::well_holds, crate::proofs::Present::renews), unfolding(steps::specs::Calls::called))]
 pub fn renew_diagnosis(mem: &mut [u8]) -> Answer
     ensures { Meets (called mem.old (new_diagnosis_call (unpacked mem.old).control.diagnosis.count (present_flags (unpacked mem.old).control.flags))) result mem.new }
 {
-    if !is_well(&mem[..]) {
-        return Answer::Refused(Refusal::Damaged);
-    }
+    checked(&mem[..])?;
     let control = load::control(&mem[..]);
-    let count = control.diagnosis.count as u32;
-    let flags = present_flags(control.flags) as u32;
+    let count = u32::from(control.diagnosis.count);
+    let flags = u32::from(present_flags(control.flags));
     over_memory::new_diagnosis(mem, count, flags)
 }
 
 // No call: 0, and nothing changes.
+#[tactic(auto, unfolding(crate::specs::Calls::entered_by))]
 pub fn nothing(mem: &[u8]) -> Answer
     ensures { Meets (entered_by mem.now nothing) result mem.now }
 {
-    if !is_well(mem) {
-        return Answer::Refused(Refusal::Damaged);
-    }
-    Answer::Value(0)
+    checked(mem)?;
+    Ok(0)
 }
 
 // No cell: refused with 10.
+#[tactic(auto, unfolding(crate::specs::Calls::entered_by))]
 pub fn no_cell(mem: &[u8]) -> Answer
     ensures { Meets (entered_by mem.now no_cell) result mem.now }
 {
-    if !is_well(mem) {
-        return Answer::Refused(Refusal::Damaged);
-    }
-    Answer::Refused(Refusal::Cell)
+    checked(mem)?;
+    Err(Refusal::Cell)
 }

@@ -5,4 +5,4 @@ use Rattle.window.proofs.Entered.{cut_meets}
 use Rattle.window.proofs.calls.event_bits.Goals as goal
 
 pub returns : goal.returns
-returns c = cut_meets _ events (bits _) c.events-answer.ensures c.eight_bits.ensures
+returns c = cut_meets _ events (bits _) c.events.ensures c.eight_bits.ensures
