@@ -3,7 +3,7 @@ use state::control::Control;
 use state::state::Drawn;
 
 // What becomes of the outputs.
-#[derive(Clone, Copy)]
+#[derive(Clone, Copy, PartialEq, Eq, Debug)]
 pub enum OutputsDeed {
     Keep,
     // the data received is published
@@ -17,7 +17,7 @@ pub enum OutputsDeed {
 }
 
 // What becomes of the inputs.
-#[derive(Clone, Copy)]
+#[derive(Clone, Copy, PartialEq, Eq, Debug)]
 pub enum InputsDeed {
     Keep,
     // new inputs come to the sending buffer
@@ -25,7 +25,7 @@ pub enum InputsDeed {
 }
 
 // What becomes of the sets of parameters or of configuration.
-#[derive(Clone, Copy)]
+#[derive(Clone, Copy, PartialEq, Eq, Debug)]
 pub enum SetDeed {
     Keep,
     // the data received is shown, or waits where a set is open

@@ -13,22 +13,14 @@ use state::state::Drawn;
 pub fn in_exchange(phase: Phase) -> bool
     ensures { result ≡ exchanging phase }
 {
-    match phase {
-        Phase::WaitPrm => false,
-        Phase::WaitCfg => false,
-        Phase::DataExch => true,
-    }
+    phase == Phase::DataExch
 }
 
 // Whether the phase is WAIT_PRM.
 pub fn in_wait_prm(phase: Phase) -> bool
     ensures { result ≡ in_wait_prm phase }
 {
-    match phase {
-        Phase::WaitPrm => true,
-        Phase::WaitCfg => false,
-        Phase::DataExch => false,
-    }
+    matches!(phase, Phase::WaitPrm)
 }
 
 // Nothing but a reply comes of it.

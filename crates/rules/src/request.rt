@@ -50,7 +50,7 @@ pub struct Occupied {
 }
 
 // What a telegram asks of the station, by its header alone.
-#[derive(Clone, Copy)]
+#[derive(Clone, Copy, PartialEq, Eq, Debug)]
 pub enum Service {
     Nothing,
     Status,

@@ -3,7 +3,7 @@ use crate::chain::Chain;
 use buffers::events::Events;
 
 // The phases of the DP state machine: WAIT_PRM, WAIT_CFG, DATA_EXCH.
-#[derive(Clone, Copy)]
+#[derive(Clone, Copy, PartialEq, Eq, Debug)]
 pub enum Phase {
     WaitPrm,
     WaitCfg,

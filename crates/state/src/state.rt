@@ -30,7 +30,7 @@ pub struct Incoming {
 }
 
 // What a telegram draws.
-#[derive(Clone, Copy)]
+#[derive(Clone, Copy, PartialEq, Eq, Debug)]
 pub enum Drawn {
     // no reply
     Nothing,

@@ -7,7 +7,7 @@ ghost use Rattle.window.specs.Command.{commanded};
 
 use crate::order::Order;
 
-#[derive(Clone, Copy)]
+#[derive(Clone, Copy, PartialEq, Eq, Debug)]
 pub enum Command {
     // bits 7 to 0 of the event word, and bits 15 to 8
     LowEvents,
