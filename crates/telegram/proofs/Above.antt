@@ -1,7 +1,5 @@
 -- What a layer above may use of the reader besides Framing and Run: laws that ask about no phase.
-use Rattle.std.proofs.Common.{◌≡◌, ℕ, ◌+◌, ◌%◌, Bool, true, false, ◌⊎◌, List, [], ◌∷◌, ◌++◌, length, sym, refl, ap, ◌∙◌, subst, inl, inr, append-nil, zero-add, arith}
-use Rattle.telegram.specs.declared.Datum.{Datum}
-use Rattle.telegram.specs.declared.Datum.TheVariants.{Number, Nothing}
+use Rattle.std.proofs.Common.{◌≡◌, ℕ, ◌+◌, ◌%◌, Bool, true, false, ◌⊎◌, List, [], ◌∷◌, ◌++◌, length, sym, refl, ap, ◌∙◌, subst, inl, inr, append-nil, zero-add, arith, Option, Some, None}
 use Rattle.telegram.specs.declared.reader.Reader.{Reader}
 use Rattle.telegram.specs.declared.reader.Status.TheVariants.{Inside, Complete, Broken}
 use Rattle.telegram.specs.Telegram.{Telegram, sd1, sd2, sd3, sd4, octets_of}
@@ -35,17 +33,17 @@ first_plain b = refl
 
 module _ (r : Reader) where
   -- number r .at if it is one
-  pub datum_number : takes_data r ≡ true → datum_of r ≡ Number r.at
+  pub datum_number : takes_data r ≡ true → datum_of r ≡ Some r.at
   unfolding datum_of
   datum_number e = rw e
 
   -- none if not
-  pub datum_nothing : takes_data r ≡ false → datum_of r ≡ Nothing
+  pub datum_nothing : takes_data r ≡ false → datum_of r ≡ None
   unfolding datum_of
   datum_nothing e = rw e
 
   -- both cases
-  pub datum_case : (P : Datum → Type 0) → (takes_data r ≡ true → P (Number r.at)) → (takes_data r ≡ false → P Nothing) → P (datum_of r)
+  pub datum_case : (P : Option ℕ → Type 0) → (takes_data r ≡ true → P (Some r.at)) → (takes_data r ≡ false → P None) → P (datum_of r)
   datum_case P f g = go (takes_data r) refl
     where
       go : (c : Bool) → takes_data r ≡ c → P (datum_of r)

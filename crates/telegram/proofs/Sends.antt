@@ -1,8 +1,7 @@
 -- The sending promise (specs/Sending.antt), and the laws of what a sender has yet to send.
-use Rattle.std.proofs.Common.{◌≡◌, ℕ, zero, suc, ◌+◌, ◌%◌, ◌<◌, ◌≤◌, Bool, true, false, cond, ltb, List, [], ◌∷◌, length, get_or, sym, refl, ap, ◌∙◌, mod-eq_of_lt, add-one, arith, drop_of_length-le, drop-cons, ltb-false, ltb-true}
+use Rattle.std.proofs.Common.{◌≡◌, ℕ, zero, suc, ◌+◌, ◌%◌, ◌<◌, ◌≤◌, Bool, true, false, cond, ltb, List, [], ◌∷◌, length, get_or, sym, refl, ap, ◌∙◌, mod-eq_of_lt, add-one, arith, drop_of_length-le, drop-cons, ltb-false, ltb-true, Some, None}
 use Rattle.telegram.specs.declared.Kind.{Kind}
 use Rattle.telegram.specs.declared.Kind.TheVariants.{Sd1, Sd2, Sd3, Sd4}
-use Rattle.telegram.specs.declared.Datum.TheVariants.{Number, Nothing}
 use Rattle.telegram.specs.declared.sender.Stage.{Stage}
 use Rattle.telegram.specs.declared.sender.Stage.TheVariants.{Start, Le, LeAgain, SdAgain, Da, Sa, Fc, Body, End, Single, Empty}
 use Rattle.telegram.specs.declared.sender.Sender.{Sender}
@@ -15,7 +14,7 @@ use Rattle.telegram.proofs.Checksum.{running_total}
 use Rattle.telegram.proofs.ReadBack.{reads, gathers}
 
 -- a sender asks for a data octet or for nothing
-unlike : {k : ℕ} → Nothing ≡ Number k → ⊥
+unlike : {k : ℕ} → None ≡ Some k → ⊥
 unlike e = let z : ◌≡◌ {A = ℕ} 0 1 = cc in omega arith
 
 -- what is sent next of a telegram with the data octets ds
@@ -101,7 +100,7 @@ unfolding to_send sent
 one s ds e h = one_at s.stage s ds e h
 
 -- what a sender asks for is data that it has, and its next stage sends more of them
-at_data : (g : Stage) (s : Sender) (k : ℕ) → asks_at g s ≡ Number k → (g ≡ Body) × (ltb s.at s.count ≡ true)
+at_data : (g : Stage) (s : Sender) (k : ℕ) → asks_at g s ≡ Some k → (g ≡ Body) × (ltb s.at s.count ≡ true)
 at_data Start s k e = absurd (unlike e)
 at_data Le s k e = absurd (unlike e)
 at_data LeAgain s k e = absurd (unlike e)
@@ -113,16 +112,16 @@ at_data Body s k e = go (ltb s.at s.count) refl
   where
     go : (t : Bool) → ltb s.at s.count ≡ t → (Body ≡ Body) × (ltb s.at s.count ≡ true)
     go true h = (refl, h)
-    go false h = absurd (unlike (sym (ap (λ (t : Bool). cond t (Number s.at) Nothing) h) ∙ e))
+    go false h = absurd (unlike (sym (ap (λ (t : Bool). cond t (Some s.at) None) h) ∙ e))
 at_data End s k e = absurd (unlike e)
 at_data Single s k e = absurd (unlike e)
 at_data Empty s k e = absurd (unlike e)
 
-pub asked_below : (s : Sender) (k : ℕ) → asks s ≡ Number k → s.at < s.count
+pub asked_below : (s : Sender) (k : ℕ) → asks s ≡ Some k → s.at < s.count
 asked_below s k e = ltb-true s.at s.count (at_data s.stage s k e).1
 
 -- and it sends the octet that it is given
-pub sent_asked : (s : Sender) (d k : ℕ) → asks s ≡ Number k
+pub sent_asked : (s : Sender) (d k : ℕ) → asks s ≡ Some k
     → sent s d ≡ record { octet = d; sender = sn Body s.kind s.count (s.at + 1) s.da s.sa s.fc ((s.sum + d) % 256) }
 unfolding sent
 sent_asked s d k e = rw ((at_data s.stage s k e).0, (at_data s.stage s k e).1)
@@ -151,15 +150,15 @@ keeps_count s d = go s.stage (octet_at s.stage s d)
     go Empty b = refl
 
 -- what is handed in where no data octet is asked for has no effect
-pub unasked : (s : Sender) → asks s ≡ Nothing → (d e : ℕ) → sent s d ≡ sent s e
+pub unasked : (s : Sender) → asks s ≡ None → (d e : ℕ) → sent s d ≡ sent s e
 unfolding sent
 unasked s h d e = ap (λ (b : ℕ). record { octet = b; sender = after_at s.stage s b }) (go s.stage h)
   where
-    body : (t : Bool) → cond t (Number s.at) Nothing ≡ Nothing → cond t d s.sum ≡ cond t e s.sum
+    body : (t : Bool) → cond t (Some s.at) None ≡ None → cond t d s.sum ≡ cond t e s.sum
     body true h = let z : ◌≡◌ {A = ℕ} 0 1 = cc in absurd (omega arith)
     body false h = refl
 
-    go : (g : Stage) → asks_at g s ≡ Nothing → octet_at g s d ≡ octet_at g s e
+    go : (g : Stage) → asks_at g s ≡ None → octet_at g s d ≡ octet_at g s e
     go Start h = refl
     go Le h = refl
     go LeAgain h = refl

@@ -2,12 +2,11 @@
 use Rattle.std.proofs.Common.{◌≡◌, ℕ, ◌+◌, ◌-◌, ◌%◌, ◌<◌, ◌≤◌, Bool, true, false, cond, ◌&&◌, ltb, List, sym, refl, ap, ◌∙◌, arith, ltb-true, le-ltb, lt-ltb, eq-eqb, ne_eqb, le-leb}
 use borrow.Author.Tests.{lt-leb}
 use Rattle.telegram.specs.declared.Kind.TheVariants.{Sd1, Sd2, Sd3, Sd4}
-use Rattle.telegram.specs.declared.Datum.TheVariants.{Number, Nothing}
 use Rattle.telegram.specs.declared.reader.Phase.{Phase}
 use Rattle.telegram.specs.declared.reader.Phase.TheVariants.{Start, Le, LeAgain, SdAgain, Da, Sa, Fc, Dsap, Ssap, Body, End, Done, Off}
 use Rattle.telegram.specs.declared.reader.Reader.{Reader}
 use Rattle.telegram.specs.declared.reader.Status.TheVariants.{Complete}
-use Rattle.telegram.specs.Reading.{rd, before, moved, off, ok_at, next_at, after_fc, step_at, reader_step, run_from, status, in_body, takes_data, datum_of}
+use Rattle.telegram.specs.Reading.{rd, before, moved, off, ok_at, next_at, after_fc, step_at, reader_step, run_from, status, in_body, takes_data}
 use Rattle.telegram.proofs.Run.{no_true, broken_complete, stays_broken}
 
 module _ (r : Reader) (b : ℕ) where
@@ -142,15 +141,6 @@ fc_plain da h = rw (lt-leb 128 da h)
 
 pub fc_marked : (da : ℕ) → 128 ≤ da → Dsap ≡ after_fc da
 fc_marked da h = rw (le-leb 128 da h)
-
-module _ (r : Reader) where
-  pub datum_next : in_body r.phase ≡ true → r.at < r.count → Number r.at ≡ datum_of r
-  unfolding datum_of takes_data
-  datum_next e h = rw (e, lt-ltb r.at r.count h)
-
-  pub datum_full : in_body r.phase ≡ true → r.count ≤ r.at → Nothing ≡ datum_of r
-  unfolding datum_of takes_data
-  datum_full e h = rw (e, le-ltb r.at r.count h)
 
 -- ---- a data octet
 

@@ -1,10 +1,8 @@
 -- What a reader does at an octet, and over a list of octets.
-use Rattle.std.specs.Prelude.{ℕ, ◌+◌, ◌-◌, ◌%◌, Bool, true, false, cond, not, ◌&&◌, ◌||◌, List, [], ◌∷◌, length, ◌==◌, nat_le, nat_lt}
+use Rattle.std.specs.Prelude.{ℕ, ◌+◌, ◌-◌, ◌%◌, Bool, true, false, cond, not, ◌&&◌, ◌||◌, List, [], ◌∷◌, length, ◌==◌, nat_le, nat_lt, Option, Some, None}
 use Rattle.std.specs.Bool.{beq}
 use Rattle.telegram.specs.declared.Kind.{Kind}
 use Rattle.telegram.specs.declared.Kind.TheVariants.{Sd1, Sd2, Sd3, Sd4}
-use Rattle.telegram.specs.declared.Datum.{Datum}
-use Rattle.telegram.specs.declared.Datum.TheVariants.{Number, Nothing}
 use Rattle.telegram.specs.declared.reader.Phase.{Phase}
 use Rattle.telegram.specs.declared.reader.Phase.TheVariants.{Start, Le, LeAgain, SdAgain, Da, Sa, Fc, Dsap, Ssap, Body, End, Done, Off}
 use Rattle.telegram.specs.declared.reader.Reader.{Reader}
@@ -164,8 +162,8 @@ unfoldable pub takes_data : Reader → Bool
 takes_data r = in_body r.phase && nat_lt r.at r.count
 
 -- which data octet the next octet is, if it is one
-unfoldable pub datum_of : Reader → Datum
-datum_of r = cond (takes_data r) (Number r.at) Nothing
+unfoldable pub datum_of : Reader → Option ℕ
+datum_of r = cond (takes_data r) (Some r.at) None
 
 -- the data octets among those that come, in order, DSAP and SSAP left out
 abbrev pub gathered : Reader → List ℕ → List ℕ

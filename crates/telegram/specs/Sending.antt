@@ -1,9 +1,7 @@
 -- What a sender sends, octet by octet, and the promise that these are the octets of a telegram.
-use Rattle.std.specs.Prelude.{◌≡◌, ℕ, zero, suc, ◌+◌, ◌%◌, ◌≤◌, Bool, true, false, cond, List, [], ◌∷◌, length, nat_lt, slice_index}
+use Rattle.std.specs.Prelude.{◌≡◌, ℕ, zero, suc, ◌+◌, ◌%◌, ◌≤◌, Bool, true, false, cond, List, [], ◌∷◌, length, nat_lt, slice_index, Option, Some, None}
 use Rattle.telegram.specs.declared.Kind.{Kind}
 use Rattle.telegram.specs.declared.Kind.TheVariants.{Sd1, Sd2, Sd3, Sd4}
-use Rattle.telegram.specs.declared.Datum.{Datum}
-use Rattle.telegram.specs.declared.Datum.TheVariants.{Number, Nothing}
 use Rattle.telegram.specs.declared.sender.Stage.{Stage}
 use Rattle.telegram.specs.declared.sender.Stage.TheVariants.{Start, Le, LeAgain, SdAgain, Da, Sa, Fc, Body, End, Single, Empty}
 use Rattle.telegram.specs.declared.sender.Sender.{Sender}
@@ -50,21 +48,21 @@ abbrev pub left : Sender → Bool
 left s = left_at s.stage
 
 -- which data octet is sent next, by the stage
-abbrev pub asks_at : Stage → Sender → Datum
-asks_at Start s = Nothing
-asks_at Le s = Nothing
-asks_at LeAgain s = Nothing
-asks_at SdAgain s = Nothing
-asks_at Da s = Nothing
-asks_at Sa s = Nothing
-asks_at Fc s = Nothing
-asks_at Body s = cond (nat_lt s.at s.count) (Number s.at) Nothing
-asks_at End s = Nothing
-asks_at Single s = Nothing
-asks_at Empty s = Nothing
+abbrev pub asks_at : Stage → Sender → Option ℕ
+asks_at Start s = None
+asks_at Le s = None
+asks_at LeAgain s = None
+asks_at SdAgain s = None
+asks_at Da s = None
+asks_at Sa s = None
+asks_at Fc s = None
+asks_at Body s = cond (nat_lt s.at s.count) (Some s.at) None
+asks_at End s = None
+asks_at Single s = None
+asks_at Empty s = None
 
 -- which data octet is sent next
-abbrev pub asks : Sender → Datum
+abbrev pub asks : Sender → Option ℕ
 asks s = asks_at s.stage s
 
 -- the start delimiter

@@ -13,10 +13,3 @@ pub enum Kind {
     Sd3,
     Sd4,
 }
-
-// What the next octet is to the layer above: a data octet, by its number from 0, or none.
-#[derive(Clone, Copy)]
-pub enum Datum {
-    Number(u8),
-    Nothing,
-}

@@ -2,7 +2,7 @@
 ghost use Rattle.std.specs.Prelude.{◌≡◌, true};
 ghost use Rattle.telegram.specs.Reading.{start, off, before, moved, summed, after_sa, after_fc, next_at, step_at, reader_step, reader_after, status_at, status, in_body, takes_data, datum_of};
 
-use crate::{Datum, Kind};
+use crate::Kind;
 
 // What the next octet is.
 #[derive(Clone, Copy)]
@@ -88,18 +88,12 @@ impl Reader {
         status_at(phase)
     }
 
-    // Which data octet the next octet is, DSAP and SSAP left out.
-    pub fn datum(self) -> Datum
+    // Which data octet the next octet is, from 0, DSAP and SSAP left out; none if it is no data octet.
+    #[tactic(auto, unfolding(crate::specs::Reading::datum_of))]
+    pub fn datum(self) -> Option<u8>
         ensures { result ≡ datum_of self }
     {
-        let phase = self.phase;
-        if in_body(phase) {
-            if self.at < self.count {
-                return Datum::Number(self.at);
-            }
-            return Datum::Nothing;
-        }
-        Datum::Nothing
+        self.takes_data().then_some(self.at)
     }
 
     // Whether the next octet is a data octet.

@@ -1,12 +1,11 @@
 // A sender gives the octets of a telegram, or the single octet E5, one after the other.
 ghost use Rattle.std.specs.Prelude.{◌≡◌};
-ghost use Rattle.telegram.specs.declared.Datum.TheVariants.{Number};
 ghost use Rattle.telegram.specs.Sending.{sn, empty, single, sending, left, asks_at, asks, start_octet, after_start, stage_after_sa, octet_at, octet_of, onto, adding, after_at, after_sent, sent};
 
-use crate::{Datum, Kind};
+use crate::Kind;
 
 // What is sent next.
-#[derive(Clone, Copy)]
+#[derive(Clone, Copy, PartialEq, Eq, Debug)]
 pub enum Stage {
     Start,
     Le,
@@ -97,24 +96,11 @@ impl Sender {
         }
     }
 
-    // Which data octet is sent next; it is to be handed to `send`.
-    pub fn asks(self) -> Datum
+    // Which data octet is sent next, from 0; it is to be handed to `send`.
+    pub fn asks(self) -> Option<u8>
         ensures { result ≡ asks self }
     {
-        let stage = self.stage;
-        match stage {
-            Stage::Start => Datum::Nothing,
-            Stage::Le => Datum::Nothing,
-            Stage::LeAgain => Datum::Nothing,
-            Stage::SdAgain => Datum::Nothing,
-            Stage::Da => Datum::Nothing,
-            Stage::Sa => Datum::Nothing,
-            Stage::Fc => Datum::Nothing,
-            Stage::Body => self.asks_in_body(),
-            Stage::End => Datum::Nothing,
-            Stage::Single => Datum::Nothing,
-            Stage::Empty => Datum::Nothing,
-        }
+        (self.stage == Stage::Body && self.at < self.count).then_some(self.at)
     }
 
     // The next octet. `datum` is the data octet asked for, without effect where none is; where nothing is left, 0.
@@ -130,7 +116,7 @@ impl Sender {
 
     // The sender after the data octet that it asks for, which most octets are.
     pub fn give(mut self, datum: u8) -> Sender
-        requires { asks self ≡ Number self.at }
+        requires { asks self ≡ Some self.at }
         ensures { sent self datum ≡ record { octet = datum; sender = result } }
     {
         self.at = self.at + 1;
@@ -165,15 +151,6 @@ impl Sender {
             return datum;
         }
         self.sum
-    }
-
-    fn asks_in_body(self) -> Datum
-        ensures { result ≡ asks_at Stage.Body self }
-    {
-        if self.at < self.count {
-            return Datum::Number(self.at);
-        }
-        Datum::Nothing
     }
 
     // The sender after it sent `octet`.
