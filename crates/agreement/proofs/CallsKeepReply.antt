@@ -1,6 +1,7 @@
 -- A reply of the held outputs is unfinished only where they may be drawn, in DATA_EXCH or by a repeat: every call keeps that. DATA_EXCH is
 -- left only where no such reply is left: on an idle line, or by a bad judgement, which needs an open set. The chain changes only with a
 -- telegram, whose beginning drops the reply.
+use Rattle.std.proofs.Common.{Option, Some, None}
 use Prim.Native.Nat.{ℕ, ◌+◌}
 use mathlib.Core.Path.{◌≡◌, refl, sym, subst, ap, ◌∙◌}
 use mathlib.Core.Bool.{Bool, true, false, cond, not, ◌&&◌, ◌||◌}
@@ -44,8 +45,6 @@ use Rattle.rules.proofs.Served.{Publishes, Quiet, clear_quiet, clear_noted_quiet
 use Rattle.agreement.proofs.OutcomeCarried.{Spared}
 use Rattle.agreement.proofs.SettleAgrees.{idle_spared, after_reply_keeps}
 use Rattle.agreement.proofs.UserCallsAgree.{parameters_spared, configuration_spared}
-use Rattle.telegram.specs.declared.Datum.{Datum}
-use Rattle.telegram.specs.declared.Datum.TheVariants as datum
 use Rattle.telegram.specs.declared.reader.Reader.{Reader}
 use Rattle.telegram.specs.declared.reader.Status.{Status}
 use Rattle.telegram.specs.declared.reader.Status.TheVariants as reader-status
@@ -98,9 +97,9 @@ module _ (s : State) (m : List ℕ) (g : ReplySteady s) where
   unfolding answered carried reply_for
   completed_keeps r w h = (outcome_served (read_by s r) m (request_by r)).draws_within (ap is_outputs w)
 
-  stored_keeps : (d : Datum) (r : Reader) (b : ℕ) → ReplySteady (stored_as d s m r b).state
-  stored_keeps datum.Nothing r b = g
-  stored_keeps (datum.Number k) r b = g
+  stored_keeps : (d : Option ℕ) (r : Reader) (b : ℕ) → ReplySteady (stored_as d s m r b).state
+  stored_keeps None r b = g
+  stored_keeps (Some k) r b = g
 
   heard_keeps : (t : Status) (r : Reader) (b : ℕ) → ReplySteady (heard_as t s m r b).state
   heard_keeps reader-status.Fresh r b = g

@@ -1,10 +1,10 @@
 -- An inner octet only lengthens the telegram, on both sides.
+use Rattle.std.proofs.Common.{Option}
 use Prim.Native.Nat.{ℕ}
 use mathlib.Core.Path.{◌≡◌, refl, sym, ap, ◌∙◌, subst}
 use mathlib.Core.Bool.{true, false}
 use mathlib.Core.List.{List, [], ◌∷◌, ◌++◌}
 use lib.ListN.{length}
-use Rattle.telegram.specs.declared.Datum.{Datum}
 use Rattle.telegram.specs.declared.reader.Reader.{Reader}
 use Rattle.telegram.specs.declared.reader.Status.TheVariants.{Inside}
 use Rattle.telegram.specs.Reading.{start, reader_step, run, status, takes_data, datum_of, gathered}
@@ -66,4 +66,4 @@ module _ (s : State) (m : List ℕ) (l : Ledger) (b : ℕ) (d : Steady l) (a : A
 
   pub inner_octet : After (stored_as (datum_of r) s m (reader_step r b) b) (with_line l (lengthened l.line b))
   inner_octet =
-      datum_case r (λ (d : Datum). After (stored_as d s m (reader_step r b) b) (with_line l (lengthened l.line b))) inner_data inner_plain
+      datum_case r (λ (d : Option ℕ). After (stored_as d s m (reader_step r b) b) (with_line l (lengthened l.line b))) inner_data inner_plain

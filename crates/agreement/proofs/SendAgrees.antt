@@ -1,4 +1,5 @@
 -- Send answers the same octet on both sides, and leaves what agrees.
+use Rattle.std.proofs.Common.{Option, Some, None}
 use Prim.Native.Nat.{ℕ, ◌-◌, ◌<◌}
 use native.Mathlib.Omega.{arith}
 use mathlib.Core.Path.{◌≡◌, refl, sym, ap, ◌∙◌, subst}
@@ -7,8 +8,6 @@ use mathlib.Core.List.{List, [], ◌∷◌}
 use lib.Dec.{ltb, eqb}
 use lib.ListN.{get_or}
 use borrow.Author.Tests.{ltb-true}
-use Rattle.telegram.specs.declared.Datum.{Datum}
-use Rattle.telegram.specs.declared.Datum.TheVariants.{Number, Nothing}
 use Rattle.telegram.specs.declared.sender.Stage.{Stage}
 use Rattle.telegram.specs.declared.sender.Stage.TheVariants.{Start, Le, LeAgain, SdAgain, Da, Sa, Fc, Body, End, Single, Empty}
 use Rattle.telegram.specs.declared.sender.Sender.{Sender}
@@ -37,15 +36,15 @@ use Rattle.agreement.proofs.SettleAgrees.{settle_agrees}
 use Rattle.agreement.proofs.OnePartChanges.{replied, reply_changed}
 
 -- a data octet is asked for by its number, or none is
-asked_cases : (x : Sender) {A : Type 0} → (asks x ≡ Number x.at → x.at < x.count → A) → (asks x ≡ Nothing → A) → A
+asked_cases : (x : Sender) {A : Type 0} → (asks x ≡ Some x.at → x.at < x.count → A) → (asks x ≡ None → A) → A
 asked_cases x {A} f g = at_stage x.stage f g
   where
-    body : (t : Bool) → ltb x.at x.count ≡ t → (cond t (Number x.at) Nothing ≡ Number x.at → x.at < x.count → A)
-        → (cond t (Number x.at) Nothing ≡ Nothing → A) → A
+    body : (t : Bool) → ltb x.at x.count ≡ t → (cond t (Some x.at) None ≡ Some x.at → x.at < x.count → A)
+        → (cond t (Some x.at) None ≡ None → A) → A
     body true e f g = f refl (ltb-true x.at x.count e)
     body false e f g = g refl
 
-    at_stage : (p : Stage) → (asks_at p x ≡ Number x.at → x.at < x.count → A) → (asks_at p x ≡ Nothing → A) → A
+    at_stage : (p : Stage) → (asks_at p x ≡ Some x.at → x.at < x.count → A) → (asks_at p x ≡ None → A) → A
     at_stage Start f g = g refl
     at_stage Le f g = g refl
     at_stage LeAgain f g = g refl
@@ -82,7 +81,7 @@ module _ {s : State} {m : List ℕ} {n : Line} {ds : List ℕ} (r : ReplyAgrees 
   sends_datum =
       let x = s.reply.sender in
       asked_cases x
-      (λ e h. let c = r.count in ap (sent x) (ap (λ (d : Datum). asked_as d s m) e ∙ r.octets x.at (omega arith)))
+      (λ e h. let c = r.count in ap (sent x) (ap (λ (d : Option ℕ). asked_as d s m) e ∙ r.octets x.at (omega arith)))
       (λ e. unasked x e (asked_for s m) (get_or ds x.at 0))
 
   -- so the first octet left is the one sent

@@ -1,12 +1,10 @@
 -- An octet heard over the memory that holds the state: the step changes no more than the code writes.
-use Rattle.std.proofs.Common.{◌≡◌, ℕ, ◌+◌, ◌<◌, ◌≤◌, Bool, true, false, cond, not, ◌&&◌, eqb, ltb, List, take, set, sym, refl, ap, ◌∙◌, arith}
+use Rattle.std.proofs.Common.{◌≡◌, ℕ, ◌+◌, ◌<◌, ◌≤◌, Bool, true, false, cond, not, ◌&&◌, eqb, ltb, List, take, set, sym, refl, ap, ◌∙◌, arith, Option, Some}
 use lib.Seq.{take-set-le}
 use borrow.Author.Tests.{not-true, not-false}
 use Rattle.buffers.specs.Roles.{fill_of}
 use Rattle.buffers.specs.Roles as role
 use Rattle.octets.specs.Part.{stored_in}
-use Rattle.telegram.specs.declared.Datum.{Datum}
-use Rattle.telegram.specs.declared.Datum.TheVariants.{Number}
 use Rattle.telegram.specs.declared.reader.Reader.{Reader}
 use Rattle.telegram.specs.declared.reader.Status.{Status}
 use Rattle.telegram.specs.declared.reader.Status.TheVariants.{Fresh, Inside, Complete, Broken}
@@ -55,10 +53,10 @@ module _ (s : State) (m : List ℕ) (b : ℕ) where
       ∙ (λ i. cond (is_inside (e i)) (stored_as (datum_of old) s m next b) (settle (beginning s next) m))
 
   -- data
-  pub heard_data : takes_data old ≡ true → heard s m b false ≡ stored_as (Number old.at) s m (reader_step old b) b
+  pub heard_data : takes_data old ≡ true → heard s m b false ≡ stored_as (Some old.at) s m (reader_step old b) b
   heard_data e =
       heard_inner false (data_inside old e) (data_goes_on old b e)
-      ∙ ap (λ (d : Datum). stored_as d s m (reader_step old b) b) (datum_number old e)
+      ∙ ap (λ (d : Option ℕ). stored_as d s m (reader_step old b) b) (datum_number old e)
 
   -- no data
   heard_plain : (bad : Bool) → is_plain old (reader_after old b bad) ≡ true
@@ -70,7 +68,7 @@ module _ (s : State) (m : List ℕ) (b : ℕ) where
       heard_inner bad
       (is_inside_lem (status old) (and_left (is_inside (status old)) (is_inside (status next)) both))
       (is_inside_lem (status next) (and_right (is_inside (status old)) (is_inside (status next)) both))
-      ∙ ap (λ (d : Datum). stored_as d s m next b) (datum_nothing old none)
+      ∙ ap (λ (d : Option ℕ). stored_as d s m next b) (datum_nothing old none)
 
   -- the others
   heard_other : (bad : Bool) → is_ignored (status old) ≡ false

@@ -15,7 +15,6 @@ use rules::services::outcome_by;
 use state::layout::{configuration_at, outputs_at, parameters_at};
 use state::start::no_reply;
 use state::state::{Incoming, State};
-use telegram::Datum;
 use telegram::reader::{Reader, Status};
 
 // The part of the memory that is the fill buffer is lent on to the step that stores an octet.
@@ -93,12 +92,12 @@ fn store_inner(mut s: State, mem: &mut [u8], reader: Reader, b: u8) -> State
     let old = s.incoming.reader;
     let datum = old.datum();
     match datum {
-        Datum::Number(k) => {
+        Some(k) => {
             store_data(s, mem, k, b);
             s.incoming = keep_octets(s.incoming, reader, k, b);
             s
         }
-        Datum::Nothing => read_by(s, reader),
+        None => read_by(s, reader),
     }
 }
 

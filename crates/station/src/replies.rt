@@ -14,8 +14,8 @@ use state::layout::{diagnosis_at, get_cfg_at, inputs_at, outputs_at};
 use state::load;
 use state::setup::Setup;
 use state::state::{Drawn, Header, Reply, State};
+use telegram::Kind;
 use telegram::sender::Sender;
-use telegram::{Datum, Kind};
 
 // SD2 with bit 7 in both addresses: DSAP and SSAP stand before n data octets.
 fn servicing(setup: Setup, master: u8, n: u8) -> Sender
@@ -231,7 +231,7 @@ pub fn asked_for(mem: &[u8]) -> u8
     let sender = reply.sender;
     let asked = sender.asks();
     match asked {
-        Datum::Number(k) => datum_at(mem, k),
-        Datum::Nothing => 0,
+        Some(k) => datum_at(mem, k),
+        None => 0,
     }
 }

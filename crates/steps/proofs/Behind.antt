@@ -1,4 +1,5 @@
 -- A step reads and writes only behind the image of the state: what it makes of two memories that agree there agrees.
+use Rattle.std.proofs.Common.{Option, Some, None}
 use Prim.Native.Nat.{ℕ, ◌+◌, ◌-◌, ◌≤◌, ◌<◌}
 use native.Mathlib.Omega.{arith}
 use mathlib.Core.Path.{◌≡◌, refl, sym, ap, subst, ◌∙◌}
@@ -11,8 +12,6 @@ use Rattle.buffers.specs.Roles.{fill_of, next_of}
 use Rattle.buffers.specs.Roles as role
 use Rattle.octets.specs.Part.{pasted, stored_in}
 use Rattle.octets.proofs.Parts.{stored_append, pasted_append}
-use Rattle.telegram.specs.declared.Datum.{Datum}
-use Rattle.telegram.specs.declared.Datum.TheVariants.{Number, Nothing}
 use Rattle.telegram.specs.declared.reader.Reader.{Reader}
 use Rattle.telegram.specs.declared.reader.Status.{Status}
 use Rattle.telegram.specs.declared.reader.Status.TheVariants.{Fresh, Inside, Complete, Broken}
@@ -139,9 +138,9 @@ module _ (s : State) (m n : List ℕ) (h : Safe s m) (g : Safe s n) (e : behind 
       go false false true = into configuration_row (fill_of s.configuration.set.place) s.setup.configuration_len (h.configuration.within role.fill (omega arith))
       go false false false = e
 
-  alike_stored : (d : Datum) (r : Reader) (b : ℕ) → Alike (stored_as d s m r b) (stored_as d s n r b)
-  alike_stored Nothing r b = record { states = refl; bodies = e }
-  alike_stored (Number k) r b = record { states = refl; bodies = same_data k b }
+  alike_stored : (d : Option ℕ) (r : Reader) (b : ℕ) → Alike (stored_as d s m r b) (stored_as d s n r b)
+  alike_stored None r b = record { states = refl; bodies = e }
+  alike_stored (Some k) r b = record { states = refl; bodies = same_data k b }
 
   same_prm_at : (a : ℕ) → image_length ≤ a → prm_at m a ≡ prm_at n a
   same_prm_at a far = λ j. record {

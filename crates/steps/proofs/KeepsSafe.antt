@@ -1,4 +1,5 @@
 -- Every step keeps what the steps need of a state and a memory, and every buffer that they name lies in the memory.
+use Rattle.std.proofs.Common.{Option, Some, None}
 use Prim.Native.Nat.{ℕ, ◌+◌, ◌≤◌, ◌<◌}
 use native.Mathlib.Omega.{arith}
 use mathlib.Core.Path.{◌≡◌, refl}
@@ -16,8 +17,6 @@ use Rattle.buffers.proofs.Quads as quads
 use Rattle.octets.specs.Part.{part, stored_in, rounded_up}
 use Rattle.octets.proofs.Parts.{pasted_length, pasted_apart, stored_length, stored_apart}
 use Rattle.channels.specs.Image.{channels_at, rows_length}
-use Rattle.telegram.specs.declared.Datum.{Datum}
-use Rattle.telegram.specs.declared.Datum.TheVariants.{Number, Nothing}
 use Rattle.telegram.specs.declared.reader.Reader.{Reader}
 use Rattle.telegram.specs.declared.reader.Status.{Status}
 use Rattle.telegram.specs.declared.reader.Status.TheVariants.{Fresh, Inside, Complete, Broken}
@@ -297,9 +296,9 @@ stored_data_beside s m k b h a n beside =
     into row i there =
         stored_apart m (start_of s.setup row i) (row_length s.setup row) k b a n (beside_buffer s row i (row_length s.setup row) a n there (omega arith) beside)
 
-pub safe_stored_as : (d : Datum) (s : State) (m : List ℕ) (r : Reader) (b : ℕ) → Safe s m → Safely (stored_as d s m r b)
-safe_stored_as Nothing s m r b h = safe_read_by s m r h
-safe_stored_as (Number k) s m r b h =
+pub safe_stored_as : (d : Option ℕ) (s : State) (m : List ℕ) (r : Reader) (b : ℕ) → Safe s m → Safely (stored_as d s m r b)
+safe_stored_as None s m r b h = safe_read_by s m r h
+safe_stored_as (Some k) s m r b h =
     safe_same (with_incoming s (kept_octets s.incoming r k b)) m (stored_data s m k b) (stored_data_length s m k b) (beside_rows s m (stored_data s m k b) (stored_data_beside s m k b h))
     (safe_incoming s m (kept_octets s.incoming r k b) h)
 

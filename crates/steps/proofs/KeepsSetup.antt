@@ -1,4 +1,5 @@
 -- No call changes the memory's length, the setup that Start gave, or what lies beside the buffers; so the channels stay as they are.
+use Rattle.std.proofs.Common.{Option, Some, None}
 use Prim.Native.Nat.{ℕ, ◌+◌, ◌≤◌, ◌<◌}
 use native.Mathlib.Omega.{arith}
 use mathlib.Core.Path.{◌≡◌, refl, sym, subst, ◌∙◌}
@@ -10,8 +11,6 @@ use lib.ListN.{length, set, length-set}
 use Rattle.octets.proofs.Parts.{part_set_outside}
 use borrow.Author.Tests.{not-false}
 use Rattle.state.proofs.Choice.{by_test, either, and_right}
-use Rattle.telegram.specs.declared.Datum.{Datum}
-use Rattle.telegram.specs.declared.Datum.TheVariants.{Number, Nothing}
 use Rattle.telegram.specs.declared.reader.Reader.{Reader}
 use Rattle.telegram.specs.declared.reader.Status.{Status}
 use Rattle.telegram.specs.declared.reader.Status.TheVariants.{Fresh, Inside, Complete, Broken}
@@ -92,9 +91,9 @@ settle_keeps s m h =
     on (same (after_reply_setup s)) (carried_keeps (after_reply s) m (safe_after_reply s m h) (clear_noted (busy s) (after_reply s).control) 0)
 
 module _ (s : State) (m : List ℕ) (h : Safe s m) where
-  stored_keeps : (d : Datum) (r : Reader) (b : ℕ) → KeepsStep s m (stored_as d s m r b)
-  stored_keeps Nothing r b = same refl
-  stored_keeps (Number k) r b = record { length_is = stored_data_length s m k b; setup_is = refl; beside_is = stored_data_beside s m k b h }
+  stored_keeps : (d : Option ℕ) (r : Reader) (b : ℕ) → KeepsStep s m (stored_as d s m r b)
+  stored_keeps None r b = same refl
+  stored_keeps (Some k) r b = record { length_is = stored_data_length s m k b; setup_is = refl; beside_is = stored_data_beside s m k b h }
 
   completed_keeps : (r : Reader) → KeepsStep s m (completed s m r)
   unfolding answered

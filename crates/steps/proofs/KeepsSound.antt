@@ -1,4 +1,5 @@
 -- Every call keeps a state sound: from every state whose roles, lengths and counts keep the rules, reached or not.
+use Rattle.std.proofs.Common.{Option, Some, None}
 use Prim.Native.Nat.{ℕ, ◌+◌, ◌%◌, ◌≤◌}
 use native.Mathlib.Omega.{arith}
 use mathlib.Core.Path.{◌≡◌, refl}
@@ -10,8 +11,6 @@ use borrow.Author.Tests.{leb-true, eqb-false, not-true, not-false}
 use Rattle.buffers.specs.Roles as role
 use Rattle.buffers.proofs.Triples.{handed_over_permutes}
 use Rattle.buffers.proofs.Quads.{taken_permutes}
-use Rattle.telegram.specs.declared.Datum.{Datum}
-use Rattle.telegram.specs.declared.Datum.TheVariants.{Number, Nothing}
 use Rattle.telegram.specs.declared.reader.Reader.{Reader}
 use Rattle.telegram.specs.declared.reader.Status.{Status}
 use Rattle.telegram.specs.declared.reader.Status.TheVariants.{Fresh, Inside, Complete, Broken}
@@ -134,9 +133,9 @@ sound_reply_for s d master h =
 
 -- ---- an octet heard
 
-sound_stored : (d : Datum) (s : State) (m : List ℕ) (r : Reader) (b : ℕ) → Sound s → ReadCounts r → SoundStep (stored_as d s m r b)
-sound_stored Nothing s m r b h a = sound_read_by s h r a
-sound_stored (Number k) s m r b h a = sound_incoming s h (kept_octets s.incoming r k b) a
+sound_stored : (d : Option ℕ) (s : State) (m : List ℕ) (r : Reader) (b : ℕ) → Sound s → ReadCounts r → SoundStep (stored_as d s m r b)
+sound_stored None s m r b h a = sound_read_by s h r a
+sound_stored (Some k) s m r b h a = sound_incoming s h (kept_octets s.incoming r k b) a
 
 pub sound_completed : (s : State) (m : List ℕ) (r : Reader) → Sound s → ReadCounts r → SoundStep (completed s m r)
 unfolding answered

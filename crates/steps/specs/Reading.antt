@@ -1,9 +1,7 @@
 -- The bus's octet: a telegram's data goes into the fill buffer that its header names, as it comes.
-use Rattle.std.specs.Prelude.{ℕ, ◌+◌, Bool, true, false, cond, List, eqb, ltb, get_or}
+use Rattle.std.specs.Prelude.{ℕ, ◌+◌, Bool, true, false, cond, List, eqb, ltb, get_or, Option, Some, None}
 use Rattle.buffers.specs.Roles.{fill_of}
 use Rattle.octets.specs.Part.{stored_in}
-use Rattle.telegram.specs.declared.Datum.{Datum}
-use Rattle.telegram.specs.declared.Datum.TheVariants.{Number, Nothing}
 use Rattle.telegram.specs.declared.reader.Reader.{Reader}
 use Rattle.telegram.specs.declared.reader.Status.{Status}
 use Rattle.telegram.specs.declared.reader.Status.TheVariants.{Fresh, Inside, Complete, Broken}
@@ -49,10 +47,10 @@ abbrev pub read_by : State → Reader → State
 read_by s r = with_incoming s (read_on s.incoming r)
 
 -- an inner octet, by what the reader told of it before
-abbrev pub stored_as : Datum → State → List ℕ → Reader → ℕ → Stepped
-stored_as Nothing s m r b =
+abbrev pub stored_as : Option ℕ → State → List ℕ → Reader → ℕ → Stepped
+stored_as None s m r b =
     record { state = read_by s r; memory = m }
-stored_as (Number k) s m r b = record { state = with_incoming s (kept_octets s.incoming r k b); memory = stored_data s m k b }
+stored_as (Some k) s m r b = record { state = with_incoming s (kept_octets s.incoming r k b); memory = stored_data s m k b }
 
 -- the header of the telegram that the reader has read
 abbrev pub request_by : Reader → Request

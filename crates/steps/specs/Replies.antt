@@ -1,10 +1,8 @@
 -- The reply in progress: how it is drawn, and where its data octets are read.
-use Rattle.std.specs.Prelude.{ℕ, ◌+◌, ◌-◌, ◌/◌, ◌%◌, Bool, true, false, cond, List, eqb, ltb, get_or}
+use Rattle.std.specs.Prelude.{ℕ, ◌+◌, ◌-◌, ◌/◌, ◌%◌, Bool, true, false, cond, List, eqb, ltb, get_or, Option, Some, None}
 use Rattle.buffers.specs.Roles.{fill_of, held_of}
 use Rattle.octets.specs.Part.{part}
 use Rattle.telegram.specs.declared.Kind.TheVariants.{Sd1, Sd2}
-use Rattle.telegram.specs.declared.Datum.{Datum}
-use Rattle.telegram.specs.declared.Datum.TheVariants as datum
 use Rattle.telegram.specs.declared.sender.Sender.{Sender}
 use Rattle.telegram.specs.Sending.{empty, single, sending, asks}
 use Rattle.state.specs.declared.setup.Setup.{Setup}
@@ -100,9 +98,9 @@ datum_at s m k =
     (cond (eqb k 1) (reply_point s.reply.drawn) (content_at s.reply.drawn s m (k - 2))))
 
 -- the data octet asked for, 0 where none is
-abbrev pub asked_as : Datum → State → List ℕ → ℕ
-asked_as (datum.Number k) s m = datum_at s m k
-asked_as datum.Nothing s m = 0
+abbrev pub asked_as : Option ℕ → State → List ℕ → ℕ
+asked_as (Some k) s m = datum_at s m k
+asked_as None s m = 0
 
 -- what the sender of the reply asks for
 abbrev pub asked_for : State → List ℕ → ℕ

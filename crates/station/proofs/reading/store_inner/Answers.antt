@@ -1,13 +1,13 @@
 use Rattle.std.proofs.Common.{refl}
 use Rattle.station.proofs.reading.store_inner.Goals as goal
 
-pub returns-in-Number : goal.returns-in-Number
-returns-in-Number c = rw (
+pub returns-in-Some : goal.returns-in-Some
+returns-in-Some c = rw (
   ← c.datum-datum.ensures,
-  c.in-Number.is,
+  c.in-Some.is,
 )
     (record { states = rw c.keep_octets-s.ensures; leaves = c.store_data.ensures })
 
-pub returns-in-Nothing : goal.returns-in-Nothing
-returns-in-Nothing c = rw (← c.datum-datum.ensures, c.in-Nothing.is)
+pub returns-in-None : goal.returns-in-None
+returns-in-None c = rw (← c.datum-datum.ensures, c.in-None.is)
     (record { states = c.read_by.ensures; leaves = refl })

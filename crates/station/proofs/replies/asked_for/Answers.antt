@@ -7,13 +7,13 @@ reply-reply-requires c = c.requires.long
 pub datum_at-requires : goal.datum_at-requires
 datum_at-requires c = c.requires
 
-pub returns-in-Number : goal.returns-in-Number
-returns-in-Number c = rw (
+pub returns-in-Some : goal.returns-in-Some
+returns-in-Some c = rw (
   c.datum_at.ensures,
   ← c.reply-reply.ensures,
   ← c.asks-asked.ensures,
-  c.in-Number.is,
+  c.in-Some.is,
 )
 
-pub returns-in-Nothing : goal.returns-in-Nothing
-returns-in-Nothing c = rw (← c.reply-reply.ensures, ← c.asks-asked.ensures, c.in-Nothing.is)
+pub returns-in-None : goal.returns-in-None
+returns-in-None c = rw (← c.reply-reply.ensures, ← c.asks-asked.ensures, c.in-None.is)
