@@ -6,7 +6,7 @@ pub mod reader;
 pub mod sender;
 
 // A telegram's start delimiter: 10 (no data), 68 (1 to 246 data octets), A2 (8 data octets), DC (token).
-#[derive(Clone, Copy)]
+#[derive(Clone, Copy, PartialEq, Eq, Debug)]
 pub enum Kind {
     Sd1,
     Sd2,

@@ -1,11 +1,13 @@
 // A reader takes the octets of the line one after the other and tells whether a telegram is complete.
+#![tactic(auto, unfolding(crate::specs::Reading::step_at, crate::specs::Reading::reader_step, crate::specs::Reading::status, crate::specs::Reading::takes_data, crate::specs::Reading::datum_of))]
+
 ghost use Rattle.std.specs.Prelude.{◌≡◌, true};
 ghost use Rattle.telegram.specs.Reading.{start, off, before, moved, summed, after_sa, after_fc, next_at, step_at, reader_step, reader_after, status_at, status, in_body, takes_data, datum_of};
 
 use crate::Kind;
 
 // What the next octet is.
-#[derive(Clone, Copy)]
+#[derive(Clone, Copy, PartialEq, Eq, Debug)]
 pub enum Phase {
     Start,
     Le,
@@ -26,7 +28,7 @@ pub enum Phase {
 }
 
 // What a reader tells of the octets since the last gap.
-#[derive(Clone, Copy)]
+#[derive(Clone, Copy, PartialEq, Eq, Debug)]
 pub enum Status {
     // none came
     Fresh,
@@ -75,21 +77,22 @@ impl Reader {
     pub fn receive(self, octet: u8, bad: bool) -> Reader
         ensures { result ≡ reader_after self octet bad }
     {
-        if bad {
-            return Reader::off();
-        }
-        self.step(octet)
+        if bad { Reader::off() } else { self.step(octet) }
     }
 
+    // What the octets since the last gap are, by the phase.
     pub fn status(self) -> Status
         ensures { result ≡ status self }
     {
-        let phase = self.phase;
-        status_at(phase)
+        match self.phase {
+            Phase::Start => Status::Fresh,
+            Phase::Done => Status::Complete,
+            Phase::Off => Status::Broken,
+            _ => Status::Inside,
+        }
     }
 
     // Which data octet the next octet is, from 0, DSAP and SSAP left out; none if it is no data octet.
-    #[tactic(auto, unfolding(crate::specs::Reading::datum_of))]
     pub fn datum(self) -> Option<u8>
         ensures { result ≡ datum_of self }
     {
@@ -100,8 +103,7 @@ impl Reader {
     pub fn takes_data(self) -> bool
         ensures { result ≡ takes_data self }
     {
-        let phase = self.phase;
-        in_body(phase) & (self.at < self.count)
+        self.phase == Phase::Body && self.at < self.count
     }
 
     // The step at a data octet, which most octets are.
@@ -109,15 +111,14 @@ impl Reader {
         requires { takes_data self ≡ true }
         ensures { result ≡ reader_step self b }
     {
-        self.at = self.at + 1;
+        self.at += 1;
         self.summed(b, Phase::Body)
     }
 
     pub fn step(self, b: u8) -> Reader
         ensures { result ≡ reader_step self b }
     {
-        let phase = self.phase;
-        match phase {
+        match self.phase {
             Phase::Start => self.on_start(b),
             Phase::Le => self.on_le(b),
             Phase::LeAgain => self.on_le_again(b),
@@ -129,8 +130,7 @@ impl Reader {
             Phase::Ssap => self.on_ssap(b),
             Phase::Body => self.on_body(b),
             Phase::End => self.on_end(b),
-            Phase::Done => Reader::off(),
-            Phase::Off => Reader::off(),
+            Phase::Done | Phase::Off => Reader::off(),
         }
     }
 
@@ -139,9 +139,9 @@ impl Reader {
         ensures { result ≡ before phase kind count }
     {
         Reader {
-            phase: phase,
-            kind: kind,
-            count: count,
+            phase,
+            kind,
+            count,
             at: 0,
             da: 0,
             sa: 0,
@@ -155,43 +155,30 @@ impl Reader {
     fn on_start(self, b: u8) -> Reader
         ensures { result ≡ step_at Phase.Start self b }
     {
-        if b == 0x10 {
-            return Reader::begun(Phase::Da, Kind::Sd1, 0);
+        match b {
+            0x10 => Reader::begun(Phase::Da, Kind::Sd1, 0),
+            0xA2 => Reader::begun(Phase::Da, Kind::Sd3, 8),
+            0xDC => Reader::begun(Phase::Da, Kind::Sd4, 0),
+            0x68 => Reader::begun(Phase::Le, Kind::Sd2, 0),
+            _ => Reader::off(),
         }
-        if b == 0xA2 {
-            return Reader::begun(Phase::Da, Kind::Sd3, 8);
-        }
-        if b == 0xDC {
-            return Reader::begun(Phase::Da, Kind::Sd4, 0);
-        }
-        if b == 0x68 {
-            return Reader::begun(Phase::Le, Kind::Sd2, 0);
-        }
-        Reader::off()
     }
 
     // LE counts DA, SA and FC too: 4 to 249 for 1 to 246 data octets.
     fn on_le(self, b: u8) -> Reader
         ensures { result ≡ step_at Phase.Le self b }
     {
-        if b < 4 {
-            return Reader::off();
+        match b {
+            4..=Self::LAST_LE => Reader::begun(Phase::LeAgain, Kind::Sd2, b - 3),
+            _ => Reader::off(),
         }
-        if Self::LAST_LE < b {
-            return Reader::off();
-        }
-        Reader::begun(Phase::LeAgain, Kind::Sd2, b - 3)
     }
 
     fn on_le_again(self, b: u8) -> Reader
         ensures { result ≡ step_at Phase.LeAgain self b }
     {
-        if b < 3 {
-            return Reader::off();
-        }
-        let n = b - 3;
-        if n == self.count {
-            return Reader::begun(Phase::SdAgain, Kind::Sd2, n);
+        if b.checked_sub(3) == Some(self.count) {
+            return Reader::begun(Phase::SdAgain, Kind::Sd2, self.count);
         }
         Reader::off()
     }
@@ -209,39 +196,25 @@ impl Reader {
     fn on_da(mut self, b: u8) -> Reader
         ensures { result ≡ step_at Phase.Da self b }
     {
+        if 128 <= b {
+            if self.count < 2 {
+                return Reader::off();
+            }
+            self.count -= 2;
+        }
         self.da = b;
-        if b < 128 {
-            return self.summed(b, Phase::Sa);
-        }
-        if 2 <= self.count {
-            self.count = self.count - 2;
-            return self.summed(b, Phase::Sa);
-        }
-        Reader::off()
+        self.summed(b, Phase::Sa)
     }
 
     // Bit 7 in both addresses or in neither.
-    fn on_sa(self, b: u8) -> Reader
+    fn on_sa(mut self, b: u8) -> Reader
         ensures { result ≡ step_at Phase.Sa self b }
     {
-        if self.da < 128 {
-            if b < 128 {
-                return self.with_sa(b);
-            }
+        if (self.da < 128) != (b < 128) {
             return Reader::off();
         }
-        if 128 <= b {
-            return self.with_sa(b);
-        }
-        Reader::off()
-    }
-
-    fn with_sa(mut self, b: u8) -> Reader
-        ensures { result ≡ next_at Phase.Sa self b }
-    {
         self.sa = b;
-        let kind = self.kind;
-        self.summed(b, after_sa(kind))
+        self.summed(b, after_sa(self.kind))
     }
 
     fn on_fc(mut self, b: u8) -> Reader
@@ -269,7 +242,7 @@ impl Reader {
         ensures { result ≡ step_at Phase.Body self b }
     {
         if self.at < self.count {
-            self.at = self.at + 1;
+            self.at += 1;
             return self.summed(b, Phase::Body);
         }
         if b == self.sum {
@@ -291,68 +264,16 @@ impl Reader {
     fn summed(mut self, b: u8, phase: Phase) -> Reader
         ensures { result ≡ summed self b phase }
     {
-        self.sum = std::num::wrapping_add_u8(self.sum, b);
+        self.sum = self.sum.wrapping_add(b);
         self.moved(phase)
     }
 
     // On to another phase.
-    fn moved(self, phase: Phase) -> Reader
+    fn moved(mut self, phase: Phase) -> Reader
         ensures { result ≡ moved self phase }
     {
-        let kind = self.kind;
-        Reader {
-            phase: phase,
-            kind: kind,
-            count: self.count,
-            at: self.at,
-            da: self.da,
-            sa: self.sa,
-            fc: self.fc,
-            dsap: self.dsap,
-            ssap: self.ssap,
-            sum: self.sum,
-        }
-    }
-}
-
-// What a reader tells, by its phase.
-fn status_at(phase: Phase) -> Status
-    ensures { result ≡ status_at phase }
-{
-    match phase {
-        Phase::Start => Status::Fresh,
-        Phase::Le => Status::Inside,
-        Phase::LeAgain => Status::Inside,
-        Phase::SdAgain => Status::Inside,
-        Phase::Da => Status::Inside,
-        Phase::Sa => Status::Inside,
-        Phase::Fc => Status::Inside,
-        Phase::Dsap => Status::Inside,
-        Phase::Ssap => Status::Inside,
-        Phase::Body => Status::Inside,
-        Phase::End => Status::Inside,
-        Phase::Done => Status::Complete,
-        Phase::Off => Status::Broken,
-    }
-}
-
-fn in_body(phase: Phase) -> bool
-    ensures { result ≡ in_body phase }
-{
-    match phase {
-        Phase::Start => false,
-        Phase::Le => false,
-        Phase::LeAgain => false,
-        Phase::SdAgain => false,
-        Phase::Da => false,
-        Phase::Sa => false,
-        Phase::Fc => false,
-        Phase::Dsap => false,
-        Phase::Ssap => false,
-        Phase::Body => true,
-        Phase::End => false,
-        Phase::Done => false,
-        Phase::Off => false,
+        self.phase = phase;
+        self
     }
 }
 
@@ -360,11 +281,10 @@ fn in_body(phase: Phase) -> bool
 fn after_sa(k: Kind) -> Phase
     ensures { result ≡ after_sa k }
 {
-    match k {
-        Kind::Sd1 => Phase::Fc,
-        Kind::Sd2 => Phase::Fc,
-        Kind::Sd3 => Phase::Fc,
-        Kind::Sd4 => Phase::Done,
+    if k == Kind::Sd4 {
+        Phase::Done
+    } else {
+        Phase::Fc
     }
 }
 
@@ -372,8 +292,5 @@ fn after_sa(k: Kind) -> Phase
 fn after_fc(da: u8) -> Phase
     ensures { result ≡ after_fc da }
 {
-    if da < 128 {
-        return Phase::Body;
-    }
-    Phase::Dsap
+    if da < 128 { Phase::Body } else { Phase::Dsap }
 }

@@ -1,4 +1,6 @@
 // A sender gives the octets of a telegram, or the single octet E5, one after the other.
+#![tactic(auto, unfolding(crate::specs::Sending::sent))]
+
 ghost use Rattle.std.specs.Prelude.{◌≡◌};
 ghost use Rattle.telegram.specs.Sending.{sn, empty, single, sending, left, asks_at, asks, start_octet, after_start, stage_after_sa, octet_at, octet_of, onto, adding, after_at, after_sent, sent};
 
@@ -66,12 +68,12 @@ impl Sender {
     {
         Sender {
             stage: Stage::Start,
-            kind: kind,
-            count: count,
+            kind,
+            count,
             at: 0,
-            da: da,
-            sa: sa,
-            fc: fc,
+            da,
+            sa,
+            fc,
             sum: 0,
         }
     }
@@ -80,20 +82,7 @@ impl Sender {
     pub fn left(self) -> bool
         ensures { result ≡ left self }
     {
-        let stage = self.stage;
-        match stage {
-            Stage::Start => true,
-            Stage::Le => true,
-            Stage::LeAgain => true,
-            Stage::SdAgain => true,
-            Stage::Da => true,
-            Stage::Sa => true,
-            Stage::Fc => true,
-            Stage::Body => true,
-            Stage::End => true,
-            Stage::Single => true,
-            Stage::Empty => false,
-        }
+        self.stage != Stage::Empty
     }
 
     // Which data octet is sent next, from 0; it is to be handed to `send`.
@@ -109,7 +98,7 @@ impl Sender {
     {
         let octet = self.octet(datum);
         Sent {
-            octet: octet,
+            octet,
             sender: self.after(octet),
         }
     }
@@ -119,7 +108,7 @@ impl Sender {
         requires { asks self ≡ Some self.at }
         ensures { sent self datum ≡ record { octet = datum; sender = result } }
     {
-        self.at = self.at + 1;
+        self.at += 1;
         self.adding(datum, Stage::Body)
     }
 
@@ -127,86 +116,56 @@ impl Sender {
     fn octet(self, datum: u8) -> u8
         ensures { result ≡ octet_of self datum }
     {
-        let stage = self.stage;
-        let kind = self.kind;
-        match stage {
-            Stage::Start => start_octet(kind),
-            Stage::Le => std::num::wrapping_add_u8(self.count, 3),
-            Stage::LeAgain => std::num::wrapping_add_u8(self.count, 3),
+        match self.stage {
+            Stage::Start => start_octet(self.kind),
+            Stage::Le | Stage::LeAgain => self.count.wrapping_add(3),
             Stage::SdAgain => 0x68,
             Stage::Da => self.da,
             Stage::Sa => self.sa,
             Stage::Fc => self.fc,
-            Stage::Body => self.octet_in_body(datum),
+            Stage::Body if self.at < self.count => datum,
+            Stage::Body => self.sum,
             Stage::End => 0x16,
             Stage::Single => 0xE5,
             Stage::Empty => 0,
         }
     }
 
-    fn octet_in_body(self, datum: u8) -> u8
-        ensures { result ≡ octet_at Stage.Body self datum }
-    {
-        if self.at < self.count {
-            return datum;
-        }
-        self.sum
-    }
-
     // The sender after it sent `octet`.
-    fn after(self, octet: u8) -> Sender
+    fn after(mut self, octet: u8) -> Sender
         ensures { result ≡ after_sent self octet }
     {
-        let stage = self.stage;
-        let kind = self.kind;
-        match stage {
-            Stage::Start => self.onto(after_start(kind)),
+        match self.stage {
+            Stage::Start => self.onto(after_start(self.kind)),
             Stage::Le => self.onto(Stage::LeAgain),
             Stage::LeAgain => self.onto(Stage::SdAgain),
             Stage::SdAgain => self.onto(Stage::Da),
             Stage::Da => self.adding(octet, Stage::Sa),
-            Stage::Sa => self.adding(octet, stage_after_sa(kind)),
+            Stage::Sa => self.adding(octet, stage_after_sa(self.kind)),
             Stage::Fc => self.adding(octet, Stage::Body),
-            Stage::Body => self.after_in_body(octet),
-            Stage::End => self.onto(Stage::Empty),
-            Stage::Single => self.onto(Stage::Empty),
-            Stage::Empty => self.onto(Stage::Empty),
+            Stage::Body if self.at < self.count => {
+                self.at += 1;
+                self.adding(octet, Stage::Body)
+            }
+            Stage::Body => self.onto(Stage::End),
+            Stage::End | Stage::Single | Stage::Empty => self.onto(Stage::Empty),
         }
-    }
-
-    fn after_in_body(mut self, octet: u8) -> Sender
-        ensures { result ≡ after_at Stage.Body self octet }
-    {
-        if self.at < self.count {
-            self.at = self.at + 1;
-            return self.adding(octet, Stage::Body);
-        }
-        self.onto(Stage::End)
     }
 
     // On to another stage, with the octet added to the checksum.
     fn adding(mut self, octet: u8, stage: Stage) -> Sender
         ensures { result ≡ adding self octet stage }
     {
-        self.sum = std::num::wrapping_add_u8(self.sum, octet);
+        self.sum = self.sum.wrapping_add(octet);
         self.onto(stage)
     }
 
     // On to another stage.
-    fn onto(self, stage: Stage) -> Sender
+    fn onto(mut self, stage: Stage) -> Sender
         ensures { result ≡ onto self stage }
     {
-        let kind = self.kind;
-        Sender {
-            stage: stage,
-            kind: kind,
-            count: self.count,
-            at: self.at,
-            da: self.da,
-            sa: self.sa,
-            fc: self.fc,
-            sum: self.sum,
-        }
+        self.stage = stage;
+        self
     }
 
     // A sender of no telegram.
@@ -214,7 +173,7 @@ impl Sender {
         ensures { result ≡ sn stage Kind.Sd1 0 0 0 0 0 0 }
     {
         Sender {
-            stage: stage,
+            stage,
             kind: Kind::Sd1,
             count: 0,
             at: 0,
@@ -241,11 +200,10 @@ fn start_octet(kind: Kind) -> u8
 fn after_start(kind: Kind) -> Stage
     ensures { result ≡ after_start kind }
 {
-    match kind {
-        Kind::Sd1 => Stage::Da,
-        Kind::Sd2 => Stage::Le,
-        Kind::Sd3 => Stage::Da,
-        Kind::Sd4 => Stage::Da,
+    if kind == Kind::Sd2 {
+        Stage::Le
+    } else {
+        Stage::Da
     }
 }
 
@@ -253,10 +211,9 @@ fn after_start(kind: Kind) -> Stage
 fn stage_after_sa(kind: Kind) -> Stage
     ensures { result ≡ stage_after_sa kind }
 {
-    match kind {
-        Kind::Sd1 => Stage::Fc,
-        Kind::Sd2 => Stage::Fc,
-        Kind::Sd3 => Stage::Fc,
-        Kind::Sd4 => Stage::Empty,
+    if kind == Kind::Sd4 {
+        Stage::Empty
+    } else {
+        Stage::Fc
     }
 }
