@@ -1,12 +1,8 @@
 -- `octets::clear` meets its contract: after i turns the first i octets are 0 and the rest is as it was.
-use Prim.Native.Nat.{◌≤◌, ◌-◌}
 use mathlib.Core.Path.{◌≡◌}
 use mathlib.Core.List.{◌++◌}
-use lib.ListN.{length, drop, replicate}
+use lib.ListN.{drop, replicate}
 use Rattle.octets.proofs.clear.Given as goal
 
 abbrev pub invariant-loop-i : goal.invariant-loop-i
-invariant-loop-i l = (l.dst ≡ replicate l.i 0 ++ drop l.i l.initial.dst) × (l.i ≤ length l.initial.dst) × (length l.dst ≡ length l.initial.dst)
-
-abbrev pub decreases-loop-i : goal.decreases-loop-i
-decreases-loop-i l = length l.initial.dst - l.i
+invariant-loop-i l = (l.dst ≡ replicate l.i 0 ++ drop l.i l.initial.dst)

@@ -1,12 +1,8 @@
 -- `octets::copy` meets its contract: after i turns the first i octets are copied and the rest is as it was.
-use Prim.Native.Nat.{◌≤◌, ◌-◌}
 use mathlib.Core.Path.{◌≡◌}
 use mathlib.Core.List.{◌++◌}
-use lib.ListN.{length, take, drop}
+use lib.ListN.{take, drop}
 use Rattle.octets.proofs.copy.Given as goal
 
 abbrev pub invariant-loop-i : goal.invariant-loop-i
-invariant-loop-i l = (l.dst ≡ take l.i l.src ++ drop l.i l.initial.dst) × (l.i ≤ length l.src) × (length l.dst ≡ length l.initial.dst)
-
-abbrev pub decreases-loop-i : goal.decreases-loop-i
-decreases-loop-i l = length l.src - l.i
+invariant-loop-i l = (l.dst ≡ take l.i l.src ++ drop l.i l.initial.dst)
