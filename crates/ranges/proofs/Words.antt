@@ -1,45 +1,12 @@
 -- A word and its octets, and the parts of a memory that they come from.
-use Rattle.std.proofs.Common.{◌≡◌, ℕ, zero, suc, ◌+◌, ◌*◌, ◌/◌, ◌%◌, ◌^◌, ◌<◌, ◌≤◌, Bool, ◌&&◌, eqb, ltb, leb, List, [], ◌∷◌, ◌++◌, length, get_or, take, drop, replicate, sym, refl, ap, ◌∙◌, ap₂, add-one, arith, lit≤, drop-cons, drop-drop, take-add, shl_exact, le-ltb, lt-ltb, ne_eqb}
+use Rattle.std.proofs.Common.{◌≡◌, ℕ, zero, suc, ◌+◌, ◌*◌, ◌/◌, ◌%◌, ◌<◌, ◌≤◌, Bool, ◌&&◌, eqb, ltb, leb, List, [], ◌∷◌, ◌++◌, length, get_or, take, drop, replicate, sym, refl, ap, ◌∙◌, ap₂, add-one, arith, drop-cons, drop-drop, take-add, le-ltb, lt-ltb, ne_eqb}
 use mathlib.Core.Bool.{and_assoc}
 use lib.ListN.{length-replicate, replicate-append-replicate}
-use lib.Bits.{bit_or, or_shifted_r, or_add_and, and_le_r}
+use lib.Bits.{bit_or, or_add_and, and_le_r}
 use borrow.Author.Tests.{lt-leb}
 use Rattle.octets.specs.Part.{part}
 use Rattle.octets.proofs.Parts.{part_length}
 use Rattle.ranges.specs.Octets.{number, octets, at_most, lows}
-
--- ---- octets put together
-
--- one more octet above those that a word of w bits has
-put : (w k v b : ℕ) {u : ℕ} → u ≡ v → v < 2 ^ k → b < 256 → k + 8 ≤ w → bit_or u ((b * 2 ^ k) % 2 ^ w) ≡ v + b * 2 ^ k
-put w k v b e p q r = ap₂ bit_or e (shl_exact 8 k w q (omega arith)) ∙ or_shifted_r b k v p ∙ omega arith
-
--- four of them
-pub joined_half : (a b c d : ℕ) → a < 256 → b < 256 → c < 256 → d < 256
-    → bit_or (bit_or (bit_or a ((b * 2 ^ 8) % 2 ^ 32)) ((c * 2 ^ 16) % 2 ^ 32)) ((d * 2 ^ 24) % 2 ^ 32) ≡ number (a ∷ b ∷ c ∷ d ∷ [])
-unfolding number
-joined_half a b c d a< b< c< d< =
-    let s1 = put 32 8 a b refl a< b< (lit≤ tt) in
-    let s2 = put 32 16 (a + b * 2 ^ 8) c s1 (omega arith) c< (lit≤ tt) in
-    let s3 = put 32 24 (a + b * 2 ^ 8 + c * 2 ^ 16) d s2 (omega arith) d< (lit≤ tt) in
-    s3 ∙ omega arith
-
--- eight of them
-pub joined : (a b c d e f g h : ℕ) → a < 256 → b < 256 → c < 256 → d < 256 → e < 256 → f < 256 → g < 256 → h < 256
-    → bit_or (bit_or (bit_or (bit_or (bit_or (bit_or (bit_or a
-    ((b * 2 ^ 8) % 2 ^ 64)) ((c * 2 ^ 16) % 2 ^ 64)) ((d * 2 ^ 24) % 2 ^ 64)) ((e * 2 ^ 32) % 2 ^ 64))
-    ((f * 2 ^ 40) % 2 ^ 64)) ((g * 2 ^ 48) % 2 ^ 64)) ((h * 2 ^ 56) % 2 ^ 64)
-    ≡ number (a ∷ b ∷ c ∷ d ∷ e ∷ f ∷ g ∷ h ∷ [])
-unfolding number
-joined a b c d e f g h a< b< c< d< e< f< g< h< =
-    let s1 = put 64 8 a b refl a< b< (lit≤ tt) in
-    let s2 = put 64 16 (a + b * 2 ^ 8) c s1 (omega arith) c< (lit≤ tt) in
-    let s3 = put 64 24 (a + b * 2 ^ 8 + c * 2 ^ 16) d s2 (omega arith) d< (lit≤ tt) in
-    let s4 = put 64 32 (a + b * 2 ^ 8 + c * 2 ^ 16 + d * 2 ^ 24) e s3 (omega arith) e< (lit≤ tt) in
-    let s5 = put 64 40 (a + b * 2 ^ 8 + c * 2 ^ 16 + d * 2 ^ 24 + e * 2 ^ 32) f s4 (omega arith) f< (lit≤ tt) in
-    let s6 = put 64 48 (a + b * 2 ^ 8 + c * 2 ^ 16 + d * 2 ^ 24 + e * 2 ^ 32 + f * 2 ^ 40) g s5 (omega arith) g< (lit≤ tt) in
-    let s7 = put 64 56 (a + b * 2 ^ 8 + c * 2 ^ 16 + d * 2 ^ 24 + e * 2 ^ 32 + f * 2 ^ 40 + g * 2 ^ 48) h s6 (omega arith) h< (lit≤ tt) in
-    s7 ∙ omega arith
 
 -- ---- a part of a memory
 
@@ -53,31 +20,19 @@ part_from m at j k h =
     let next : at + j + 1 ≡ at + suc j = omega arith in
     part_cons m (at + j) k h ∙ ap (λ n. get_or m (at + j) 0 ∷ part m n k) next
 
--- a word of eight octets that were read one by one is the part's
-pub eight : (m : List ℕ) (at r : ℕ) → at + 8 ≤ length m
-    → r ≡ number (get_or m at 0 ∷ get_or m (at + 1) 0 ∷ get_or m (at + 2) 0 ∷ get_or m (at + 3) 0
-    ∷ get_or m (at + 4) 0 ∷ get_or m (at + 5) 0 ∷ get_or m (at + 6) 0 ∷ get_or m (at + 7) 0 ∷ [])
-    → r ≡ number (part m at 8)
-eight m at r h e =
-    e
-    ∙ ap number (sym (part_cons m at 7 (omega arith)
-    ∙ ap (λ l. get_or m at 0 ∷ l) (part_from m at 1 6 (omega arith)
-    ∙ ap (λ l. get_or m (at + 1) 0 ∷ l) (part_from m at 2 5 (omega arith)
-    ∙ ap (λ l. get_or m (at + 2) 0 ∷ l) (part_from m at 3 4 (omega arith)
-    ∙ ap (λ l. get_or m (at + 3) 0 ∷ l) (part_from m at 4 3 (omega arith)
-    ∙ ap (λ l. get_or m (at + 4) 0 ∷ l) (part_from m at 5 2 (omega arith)
-    ∙ ap (λ l. get_or m (at + 5) 0 ∷ l) (part_from m at 6 1 (omega arith)
-    ∙ ap (λ l. get_or m (at + 6) 0 ∷ l) (part_from m at 7 0 (omega arith))))))))))
+-- k octets of a memory from at + j on, read one by one
+unfoldable pub reads : List ℕ → ℕ → ℕ → ℕ → List ℕ
+reads m at j zero = []
+reads m at j (suc k) = get_or m (at + j) 0 ∷ reads m at (suc j) k
 
--- and half a word of four
-pub quarter : (m : List ℕ) (at r : ℕ) → at + 4 ≤ length m
-    → r ≡ number (get_or m at 0 ∷ get_or m (at + 1) 0 ∷ get_or m (at + 2) 0 ∷ get_or m (at + 3) 0 ∷ []) → r ≡ number (part m at 4)
-quarter m at r h e =
-    e
-    ∙ ap number (sym (part_cons m at 3 (omega arith)
-    ∙ ap (λ l. get_or m at 0 ∷ l) (part_from m at 1 2 (omega arith)
-    ∙ ap (λ l. get_or m (at + 1) 0 ∷ l) (part_from m at 2 1 (omega arith)
-    ∙ ap (λ l. get_or m (at + 2) 0 ∷ l) (part_from m at 3 0 (omega arith))))))
+reads_are : (m : List ℕ) (at j k : ℕ) → at + j + k ≤ length m → part m (at + j) k ≡ reads m at j k
+unfolding reads
+reads_are m at j zero h = refl
+reads_are m at j (suc k) h = part_from m at j k (omega arith) ∙ ap (λ l. get_or m (at + j) 0 ∷ l) (reads_are m at (suc j) k (omega arith))
+
+-- a part's octets, read one by one
+pub part_reads : (m : List ℕ) (at k : ℕ) → at + suc k ≤ length m → part m at (suc k) ≡ get_or m at 0 ∷ reads m at 1 k
+part_reads m at k h = part_cons m at k (omega arith) ∙ ap (λ l. get_or m at 0 ∷ l) (reads_are m at 1 k (omega arith))
 
 -- a word has the octets that it was made of
 pub octets_part : (m : List ℕ) → ((i : ℕ) → get_or m i 0 < 256) → (k at : ℕ) → at + k ≤ length m → octets k (number (part m at k)) ≡ part m at k

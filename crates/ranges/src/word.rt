@@ -1,28 +1,15 @@
 // Octets in a word, eight of them, or four in half a word, the lowest first: held octet by octet to limits or to others, and summed.
-ghost use Rattle.std.specs.Prelude.{◌≡◌, ◌+◌, ◌≤◌, true, ◌&&◌, [], ◌∷◌, length, replicate, ◌==◌};
+ghost use Rattle.std.specs.Prelude.{◌≡◌, ◌+◌, ◌≤◌, true, ◌&&◌, length, replicate, ◌==◌};
 ghost use Rattle.octets.specs.Part.{part};
 ghost use Rattle.ranges.specs.Octets.{number, octets, at_most, lows, paired, eighths_of, total};
 
-// The word with these octets. Written with | and << in one expression the compiler makes one load of it.
-fn join(a: u8, b: u8, c: u8, d: u8, e: u8, f: u8, g: u8, h: u8) -> u64
-    ensures { result ≡ number (a ∷ b ∷ c ∷ d ∷ e ∷ f ∷ g ∷ h ∷ []) }
-{
-    (a as u64)
-        | (b as u64) << 8
-        | (c as u64) << 16
-        | (d as u64) << 24
-        | (e as u64) << 32
-        | (f as u64) << 40
-        | (g as u64) << 48
-        | (h as u64) << 56
-}
-
-// The eight octets of the memory from a place on.
+// The eight octets of the memory from a place on. The compiler makes one load of it.
+// Not one function for both widths: each test below is made in one width alone, so a trait would have no other user.
 pub fn word(mem: &[u8], at: usize) -> u64
     requires { at + 8 ≤ length mem.now }
     ensures { result ≡ number (part mem.now at 8) }
 {
-    join(
+    u64::from_le_bytes([
         mem[at],
         mem[at + 1],
         mem[at + 2],
@@ -31,22 +18,15 @@ pub fn word(mem: &[u8], at: usize) -> u64
         mem[at + 5],
         mem[at + 6],
         mem[at + 7],
-    )
+    ])
 }
 
-// The half word with these octets.
-fn join_half(a: u8, b: u8, c: u8, d: u8) -> u32
-    ensures { result ≡ number (a ∷ b ∷ c ∷ d ∷ []) }
-{
-    (a as u32) | (b as u32) << 8 | (c as u32) << 16 | (d as u32) << 24
-}
-
-// The four octets of the memory from a place on.
+// The four octets of the memory from a place on, also one load.
 pub fn half(mem: &[u8], at: usize) -> u32
     requires { at + 4 ≤ length mem.now }
     ensures { result ≡ number (part mem.now at 4) }
 {
-    join_half(mem[at], mem[at + 1], mem[at + 2], mem[at + 3])
+    u32::from_le_bytes([mem[at], mem[at + 1], mem[at + 2], mem[at + 3]])
 }
 
 // The low seven bits of every octet.
@@ -60,7 +40,7 @@ const TOP: u64 = 0x8080_8080_8080_8080;
 pub fn above(x: u64, limits: u64) -> u64
     ensures { (result == 0) ≡ at_most (octets 8 x) (lows (octets 8 limits)) }
 {
-    let sum = std::num::wrapping_add_u64(x, !limits & LOW);
+    let sum = x.wrapping_add(!limits & LOW);
     (x | sum) & TOP
 }
 
@@ -69,7 +49,7 @@ pub fn above(x: u64, limits: u64) -> u64
 pub fn outside(x: u64, least: u64, most: u64) -> u64
     ensures { (result == 0) ≡ (at_most (octets 8 x) (lows (octets 8 most)) && at_most (lows (octets 8 least)) (octets 8 x)) }
 {
-    let below = std::num::wrapping_sub_u64(LOW + (least & LOW), x);
+    let below = (LOW + (least & LOW)).wrapping_sub(x);
     above(x, most) | below & TOP
 }
 
@@ -83,7 +63,7 @@ const TOP_HALF: u32 = 0x8080_8080;
 pub fn exceeds(x: u32, limits: u32) -> u32
     ensures { (result == 0) ≡ at_most (octets 4 x) (octets 4 limits) }
 {
-    let rest = std::num::wrapping_sub_u32(limits, x);
+    let rest = limits.wrapping_sub(x);
     (x & !limits | (x | !limits) & rest) & TOP_HALF
 }
 
@@ -92,7 +72,7 @@ pub fn unpaired(x: u32, y: u32) -> u32
     ensures { (result == 0) ≡ paired (octets 4 x) (octets 4 y) }
 {
     let any = x | y;
-    let some = (any & LOW_HALF) + 0x7f7f_7f7f | any;
+    let some = (any & LOW_HALF) + LOW_HALF | any;
     let first = (x & LOW_HALF) + 0x7c7c_7c7c | x;
     let second = (y & LOW_HALF) + 0x7c7c_7c7c | y;
     some & !(first & second) & TOP_HALF

@@ -1,6 +1,9 @@
 -- `ranges::word::word` meets its contract.
-use Rattle.ranges.proofs.Words.{eight}
+use Rattle.std.proofs.Common.{sym, ap, ◌∙◌, arith}
+use Rattle.ranges.specs.Octets.{number}
+use Rattle.ranges.proofs.Words.{reads, part_reads}
 use Rattle.ranges.proofs.word.word.Goals as goal
 
 pub returns : goal.returns
-returns c = eight c.args.mem.now c.args.at c.join.result c.requires c.join.ensures
+unfolding number reads
+returns c = c.from_le_bytes.ensures ∙ omega arith ∙ ap number (sym (part_reads c.args.mem.now c.args.at 7 c.requires))
