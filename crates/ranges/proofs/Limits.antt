@@ -4,7 +4,7 @@ use mathlib.Core.Bool.{false≢true}
 use lib.Bits.{bit_and, bit_or, and_block, or_block, or_lt, and_le_r, and_zero_r, and_mask, and_high, and_mod, or_mod, or_shr}
 use borrow.Author.Tests.{lt-leb}
 use Rattle.ranges.specs.Octets.{octets, at_most, lows}
-use Rattle.ranges.proofs.Words.{shifted}
+use Rattle.ranges.proofs.Words.{shifted, or_zero}
 
 -- k octets that are all d
 unfoldable pub rep : ℕ → ℕ → ℕ
@@ -176,19 +176,24 @@ below_is (suc k) x y l p h =
     A = bit_and (rep k 127 + B - x / 256) (rep k 128)
 
 -- a difference that does not wrap
-unwrapped : (r x a : ℕ) → r < 2 ^ 64 → (r + x) % 2 ^ 64 ≡ a → x ≤ a → r ≡ a - x
-unwrapped r x a p e h = omega arith
+unwrapped : (a x : ℕ) → a < 2 ^ 64 → x ≤ a → (a + (2 ^ 64 - x)) % 2 ^ 64 ≡ a - x
+unwrapped a x p h = omega arith
 
--- the difference r of whole words is tested where the test of the mosts passes, and else does not matter
-pub both_are : (x y l r : ℕ) → x ≤ rep 8 255 → r < 2 ^ 64 → (r + x) % 2 ^ 64 ≡ rep 8 127 + bit_and l (rep 8 127)
-    → (at_most (octets 8 x) (lows (octets 8 y)) && eqb (bit_and r (rep 8 128)) 0)
+-- w, 127 + least of each octet: the difference of whole words is tested where the test a of the mosts passes, and else does not matter
+pub outside_is : (x y l w a : ℕ) → x ≤ rep 8 255 → w ≡ rep 8 127 + bit_and l (rep 8 127) → eqb a 0 ≡ at_most (octets 8 x) (lows (octets 8 y))
+    → eqb (bit_or a (bit_and ((w + (2 ^ 64 - x)) % 2 ^ 64) (rep 8 128))) 0
     ≡ (at_most (octets 8 x) (lows (octets 8 y)) && at_most (lows (octets 8 l)) (octets 8 x))
-both_are x y l r p q e = go (at_most (octets 8 x) (lows (octets 8 y))) refl
+unfolding rep
+outside_is x y l w a p e f = or_zero a (bit_and r (rep 8 128)) ∙ ap (λ t. t && eqb (bit_and r (rep 8 128)) 0) f ∙ go (at_most (octets 8 x) (lows (octets 8 y))) refl
   where
+    r : ℕ
+    r = (w + (2 ^ 64 - x)) % 2 ^ 64
+
     go : (t : Bool) → at_most (octets 8 x) (lows (octets 8 y)) ≡ t
         → (t && eqb (bit_and r (rep 8 128)) 0) ≡ (t && at_most (lows (octets 8 l)) (octets 8 x))
     go true h =
         let fits : x ≤ rep 8 127 = low_word 8 x y p h in
-        ap (λ z. eqb (bit_and z (rep 8 128)) 0) (unwrapped r x (rep 8 127 + bit_and l (rep 8 127)) q e (omega arith))
+        let small : w < 2 ^ 64 = omega (arith, e, and_le_r l (rep 8 127)) in
+        ap (λ z. eqb (bit_and z (rep 8 128)) 0) (unwrapped w x small (omega arith) ∙ ap (λ z. z - x) e)
         ∙ below_is 8 x y l p h
     go false h = refl

@@ -34,6 +34,12 @@ reads_are m at j (suc k) h = part_from m at j k (omega arith) ∙ ap (λ l. get_
 pub part_reads : (m : List ℕ) (at k : ℕ) → at + suc k ≤ length m → part m at (suc k) ≡ get_or m at 0 ∷ reads m at 1 k
 part_reads m at k h = part_cons m at k (omega arith) ∙ ap (λ l. get_or m at 0 ∷ l) (reads_are m at 1 k (omega arith))
 
+-- half a word of four octets that were read one by one is the part's
+pub quarter : (m : List ℕ) (at r : ℕ) → at + 4 ≤ length m
+    → r ≡ number (get_or m at 0 ∷ get_or m (at + 1) 0 ∷ get_or m (at + 2) 0 ∷ get_or m (at + 3) 0 ∷ []) → r ≡ number (part m at 4)
+unfolding reads
+quarter m at r h e = e ∙ ap number (sym (part_reads m at 3 h))
+
 -- a word has the octets that it was made of
 pub octets_part : (m : List ℕ) → ((i : ℕ) → get_or m i 0 < 256) → (k at : ℕ) → at + k ≤ length m → octets k (number (part m at k)) ≡ part m at k
 unfolding octets number
