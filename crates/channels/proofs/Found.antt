@@ -9,11 +9,10 @@ use mathlib.Core.List.{List, [], ◌∷◌}
 use lib.Dec.{leb, eqb}
 use lib.ListN.{get_or, replicate}
 use borrow.Author.Tests.{leb-true, eq-eqb, ne_eqb}
+use Rattle.std.specs.Prelude.{Some, None}
 use Rattle.octets.specs.Part.{part, rounded_up}
 use Rattle.octets.proofs.Parts.{part_at}
 use Rattle.ranges.specs.Octets.{at_most, nothing_at}
-use Rattle.channels.specs.declared.survey.Survey.{Survey}
-use Rattle.channels.specs.declared.survey.Survey.TheVariants.{Room, Damaged}
 use Rattle.channels.specs.Image.{channels, channels_at, rows, rows_length, cell, octet_at}
 use Rattle.channels.specs.Rules.{buffer_test, lengths_test, keeps, well_at, each_from, well_channels}
 use Rattle.channels.specs.Places.{Side, indication, response, Lengths, lengths_in, room_at, room_from, room_of, surveyed}
@@ -31,29 +30,19 @@ lengths_some a b e = sym (ap (λ (t : Bool). cond t (eqb b 0) (buffer_test a && 
 
 -- ---- an answer
 
-pub says_damaged : (t : Bool) (x : ℕ) → t ≡ false → Damaged ≡ cond t (Room x) Damaged
-says_damaged t x e = sym (ap (λ (u : Bool). cond u (Room x) Damaged) e)
+pub says_none : (t : Bool) (x : ℕ) → t ≡ false → None ≡ cond t (Some x) None
+says_none t x e = sym (ap (λ (u : Bool). cond u (Some x) None) e)
 
-pub says_room : (t : Bool) (x y : ℕ) → t ≡ true → y ≡ x → Room y ≡ cond t (Room x) Damaged
-says_room t x y e f = ap Room f ∙ sym (ap (λ (u : Bool). cond u (Room x) Damaged) e)
+pub says_room : (t : Bool) (x y : ℕ) → t ≡ true → y ≡ x → Some y ≡ cond t (Some x) None
+says_room t x y e f = ap Some f ∙ sym (ap (λ (u : Bool). cond u (Some x) None) e)
 
-fine : Survey → Bool
-fine (Room x) = true
-fine Damaged = false
+pub told_room : (t : Bool) (x y : ℕ) → cond t (Some x) None ≡ Some y → (t ≡ true) × (y ≡ x)
+told_room true x y e = (refl, cc)
+told_room false x y e = cc
 
-room_in : Survey → ℕ
-room_in (Room x) = x
-room_in Damaged = 0
-
-pub told_room : (t : Bool) (x y : ℕ) → cond t (Room x) Damaged ≡ Room y → (t ≡ true) × (y ≡ x)
-unfolding fine room_in
-told_room true x y e = (refl, sym (ap room_in e))
-told_room false x y e = absurd (false≢true (ap fine e))
-
-pub told_damaged : (t : Bool) (x : ℕ) → cond t (Room x) Damaged ≡ Damaged → t ≡ false
-unfolding fine
-told_damaged true x e = absurd (false≢true (sym (ap fine e)))
-told_damaged false x e = refl
+pub told_none : (t : Bool) (x : ℕ) → cond t (Some x) None ≡ None → t ≡ false
+told_none true x e = cc
+told_none false x e = refl
 
 -- ---- channels behind one another
 
@@ -111,12 +100,12 @@ abbrev pub Found : List ℕ → ℕ → ℕ → ℕ → Type 0
 Found m k j x = (each_from (well_at m) k j ≡ true) × (x ≡ room_from (lengths_in m) k j)
 
 -- so it is told
-pub found_says : (m : List ℕ) (k j x : ℕ) → Found m k j x → Room x ≡ surveyed m k j
+pub found_says : (m : List ℕ) (k j x : ℕ) → Found m k j x → Some x ≡ surveyed m k j
 unfolding surveyed
 found_says m k j x h = says_room (each_from (well_at m) k j) (room_from (lengths_in m) k j) x h.0 h.1
 
 -- and what is told is so
-pub says_found : (m : List ℕ) (k j x : ℕ) → surveyed m k j ≡ Room x → Found m k j x
+pub says_found : (m : List ℕ) (k j x : ℕ) → surveyed m k j ≡ Some x → Found m k j x
 unfolding surveyed
 says_found m k j x e = told_room (each_from (well_at m) k j) (room_from (lengths_in m) k j) x e
 
@@ -187,6 +176,6 @@ columns_nothing m k e =
 -- ---- all of them
 
 -- where the survey tells a room every channel keeps the rules, and it is the room of their buffers
-pub survey_well : (m : List ℕ) (x : ℕ) → surveyed m 0 channels ≡ Room x → (well_channels m ≡ true) × (x ≡ room_of (lengths_in m))
+pub survey_well : (m : List ℕ) (x : ℕ) → surveyed m 0 channels ≡ Some x → (well_channels m ≡ true) × (x ≡ room_of (lengths_in m))
 unfolding well_channels
 survey_well m x e = says_found m 0 channels x e

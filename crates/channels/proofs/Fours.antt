@@ -9,10 +9,10 @@ use lib.Dec.{leb, eqb}
 use lib.ListN.{length, get_or, replicate}
 use lib.Bits.{bit_or}
 use borrow.Author.Tests.{eqb-true, le-leb}
+use Rattle.std.specs.Prelude.{Some, None}
 use Rattle.octets.specs.Part.{part, rounded_up}
 use Rattle.ranges.specs.Octets.{number, octets, at_most, pair, paired, eighths_of, total}
 use Rattle.ranges.proofs.Words.{or_zero, part_cons, octets_part}
-use Rattle.channels.specs.declared.survey.Survey.TheVariants.{Room, Damaged}
 use Rattle.channels.specs.Image.{channels, rows_end, cell, octet_at}
 use Rattle.channels.specs.Rules.{LengthsOk, buffer_test, lengths_test, keeps, all_keep, well_at, each_from}
 use Rattle.channels.specs.Places.{Side, indication, response, Lengths, lengths_in, room_at, room_from, surveyed}
@@ -263,4 +263,4 @@ first_found m u v w =
     let y = v.1 in
     let n = w.1 in
     let r : room_from z 0 channels ≡ room_from z 0 4 = omega arith in
-    sym (ap₂ (λ (q : Bool) (n : ℕ). cond q (Room n) Damaged) t r)
+    sym (ap₂ (λ (q : Bool) (n : ℕ). cond q (Some n) None) t r)

@@ -1,8 +1,6 @@
 -- The lengths of the channels' buffers, and how much room they take, each rounded up to a multiple of 8.
-use Rattle.std.specs.Prelude.{ℕ, zero, suc, ◌+◌, cond, List}
+use Rattle.std.specs.Prelude.{ℕ, zero, suc, ◌+◌, cond, List, Option, Some, None}
 use Rattle.octets.specs.Part.{rounded_up}
-use Rattle.channels.specs.declared.survey.Survey.{Survey}
-use Rattle.channels.specs.declared.survey.Survey.TheVariants.{Room, Damaged}
 use Rattle.channels.specs.Image.{channels, octet_at}
 use Rattle.channels.specs.Rules.{well_at, each_from}
 
@@ -38,6 +36,6 @@ abbrev pub buffer_at : Lengths → ℕ → ℕ → Side → ℕ
 buffer_at z from n indication = from + room_from z 0 n
 buffer_at z from n response = from + room_from z 0 n + rounded_up (z n indication)
 
--- what the damage check finds of j channels from channel k on: the room that they take, or that one of them breaks the rules
-unfoldable pub surveyed : List ℕ → ℕ → ℕ → Survey
-surveyed m k j = cond (each_from (well_at m) k j) (Room (room_from (lengths_in m) k j)) Damaged
+-- what the damage check finds of j channels from channel k on: the room that they take, none where one of them breaks the rules
+unfoldable pub surveyed : List ℕ → ℕ → ℕ → Option ℕ
+surveyed m k j = cond (each_from (well_at m) k j) (Some (room_from (lengths_in m) k j)) None

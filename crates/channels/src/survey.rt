@@ -7,13 +7,6 @@ ghost use Rattle.channels.specs.Places.{lengths_in, room_from, surveyed};
 
 use ranges::{checks, word};
 
-// How much room the buffers of channels take, or that a channel breaks the rules.
-#[derive(Clone, Copy)]
-pub enum Survey {
-    Room(usize),
-    Damaged,
-}
-
 // Both lengths of a channel: 0 and 0, or each 4 to 240.
 pub fn lengths_ok(a: u8, b: u8) -> bool
     ensures { result ≡ lengths_test a b }
@@ -61,16 +54,15 @@ fn eighths_at(mem: &[u8], k: usize) -> u32
     word::sum_of(indications + responses)
 }
 
-// The first four channels.
-fn first_four(mem: &[u8]) -> Survey
+// How much room the buffers of the first four channels take; none where one breaks the rules.
+fn first_four(mem: &[u8]) -> Option<usize>
     requires { rows_end ≤ length mem.now }
     ensures { result ≡ surveyed mem.now 0 4 }
 {
     if broken_at(mem, 0) != 0 {
-        return Survey::Damaged;
+        return None;
     }
-    let eighths = eighths_at(mem, 0);
-    Survey::Room(8 * (eighths as usize))
+    Some(8 * (eighths_at(mem, 0) as usize))
 }
 
 // All of them: 0 exactly if each keeps the rules. One comparison with 0 at the end: the compiler makes vectors of the four.
@@ -89,20 +81,19 @@ fn all_eighths(mem: &[u8]) -> u32
     eighths_at(mem, 0) + eighths_at(mem, 4) + eighths_at(mem, 8) + eighths_at(mem, 12)
 }
 
-// All of them.
-fn all(mem: &[u8]) -> Survey
+// Those of all of them. Not one function for some groups of four: in a loop over the groups the compiler makes no vectors.
+fn all(mem: &[u8]) -> Option<usize>
     requires { rows_end ≤ length mem.now }
     ensures { result ≡ surveyed mem.now 0 channels }
 {
     if all_broken(mem) != 0 {
-        return Survey::Damaged;
+        return None;
     }
-    let eighths = all_eighths(mem);
-    Survey::Room(8 * (eighths as usize))
+    Some(8 * (all_eighths(mem) as usize))
 }
 
-// All of them. Few stations use more than four.
-pub fn survey_of(mem: &[u8]) -> Survey
+// How much room the buffers of all channels take; none where one breaks the rules. Few stations use more than four channels.
+pub fn survey_of(mem: &[u8]) -> Option<usize>
     requires { rows_end ≤ length mem.now }
     ensures { result ≡ surveyed mem.now 0 channels }
 {
