@@ -3,7 +3,7 @@ ghost use Rattle.std.specs.Prelude.{◌≡◌, ◌<◌, ◌≤◌, length};
 ghost use Rattle.channels.specs.Image.{channels, rows_end, loaded, saved};
 
 // The lengths of both buffers, 0 and 0 for a channel that is not set up, and how many octets of each are in use, 0 for none.
-#[derive(Clone, Copy)]
+#[derive(Clone, Copy, PartialEq, Eq, Debug)]
 pub struct Channel {
     pub indication_len: u8,
     pub response_len: u8,
@@ -11,8 +11,20 @@ pub struct Channel {
     pub response_count: u8,
 }
 
+// How many channels there are.
+pub const CHANNELS: usize = 16;
+
 // Where the first row begins.
 pub const CHANNELS_AT: usize = 128;
+
+// The rows, one behind the other.
+pub const INDICATION_LENGTHS: usize = CHANNELS_AT;
+
+pub const RESPONSE_LENGTHS: usize = CHANNELS_AT + CHANNELS;
+
+pub const INDICATION_COUNTS: usize = CHANNELS_AT + 2 * CHANNELS;
+
+pub const RESPONSE_COUNTS: usize = CHANNELS_AT + 3 * CHANNELS;
 
 // Channel n.
 pub fn load(mem: &[u8], n: usize) -> Channel
@@ -20,10 +32,10 @@ pub fn load(mem: &[u8], n: usize) -> Channel
     ensures { result ≡ loaded mem.now n }
 {
     Channel {
-        indication_len: mem[128 + n],
-        response_len: mem[144 + n],
-        indication_count: mem[160 + n],
-        response_count: mem[176 + n],
+        indication_len: mem[INDICATION_LENGTHS + n],
+        response_len: mem[RESPONSE_LENGTHS + n],
+        indication_count: mem[INDICATION_COUNTS + n],
+        response_count: mem[RESPONSE_COUNTS + n],
     }
 }
 
@@ -32,8 +44,8 @@ pub fn save(c: Channel, n: usize, mem: &mut [u8])
     requires { (n < channels) × (rows_end ≤ length mem.old) }
     ensures { mem.new ≡ saved mem.old n c }
 {
-    mem[128 + n] = c.indication_len;
-    mem[144 + n] = c.response_len;
-    mem[160 + n] = c.indication_count;
-    mem[176 + n] = c.response_count;
+    mem[INDICATION_LENGTHS + n] = c.indication_len;
+    mem[RESPONSE_LENGTHS + n] = c.response_len;
+    mem[INDICATION_COUNTS + n] = c.indication_count;
+    mem[RESPONSE_COUNTS + n] = c.response_count;
 }

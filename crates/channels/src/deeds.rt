@@ -3,7 +3,7 @@ ghost use Rattle.std.specs.Prelude.{◌≡◌, ◌+◌, ◌<◌, ◌≤◌, leng
 ghost use Rattle.channels.specs.Image.{channels, rows_end};
 ghost use Rattle.channels.specs.Deeds.{is_open, is_given, takes_response, is_set_up, filled, responded, freed, no_channel, channel_in, filled_in, freed_in, responded_in, emptied};
 
-use crate::channel::{Channel, load, save};
+use crate::channel::{CHANNELS, Channel, INDICATION_COUNTS, load, save};
 use octets::{clear_at, copy_at};
 
 // A request is open.
@@ -32,11 +32,7 @@ pub fn is_set_up(mem: &[u8], n: u32) -> bool
     requires { rows_end ≤ length mem.now }
     ensures { result ≡ is_set_up mem.now n }
 {
-    if 16 <= n {
-        return false;
-    }
-    let c = load(mem, n as usize);
-    c.indication_len != 0
+    n < 16 && load(mem, n as usize).indication_len != 0
 }
 
 // A channel that a request of so many octets filled: no response stands.
@@ -124,5 +120,5 @@ pub fn empty_all(mem: &mut [u8])
     requires { rows_end ≤ length mem.old }
     ensures { mem.new ≡ emptied mem.old }
 {
-    clear_at(mem, 160, 32);
+    clear_at(mem, INDICATION_COUNTS, 2 * CHANNELS);
 }

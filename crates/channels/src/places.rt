@@ -12,11 +12,9 @@ fn room_before(mem: &[u8], n: usize) -> usize
     ensures { (result ≡ room_from (lengths_in mem.now) 0 n) × (result ≤ 8192) }
 {
     let mut room = 0;
-    let mut k = 0;
-    while k < n {
+    for k in 0..n {
         let c = load(mem, k);
         room += rounded_up(c.indication_len) + rounded_up(c.response_len);
-        k += 1;
     }
     room
 }

@@ -3,7 +3,7 @@ ghost use Rattle.std.specs.Prelude.{◌≡◌, ◌≤◌, length};
 ghost use Rattle.channels.specs.Image.{poll_end, poll_in, poll_saved};
 
 // The channel, which is the poll's DSAP, and its SSAP. The reply to it, and to its repeat, is formed by them.
-#[derive(Clone, Copy)]
+#[derive(Clone, Copy, PartialEq, Eq, Debug)]
 pub struct Poll {
     pub channel: u8,
     pub ssap: u8,

@@ -4,23 +4,22 @@ ghost use Rattle.channels.specs.Image.{channels, rows_end};
 ghost use Rattle.channels.specs.Places.{room_of};
 ghost use Rattle.channels.specs.Setting.{length_octets, lengths_given, lengths_ok, set_up};
 
-use crate::channel::{Channel, save};
+use crate::channel::{CHANNELS, Channel, save};
 use crate::survey;
 use octets::rounded_up;
 
 // Whether there are 32 octets, and every channel's lengths are allowed.
+// A loop over numbers here and below, not one over pairs: an iterator keeps addresses beside numbers (cross/widths.awk refuses that).
 pub fn lengths_ok(lengths: &[u8]) -> bool
     ensures { result ≡ lengths_ok lengths.now }
 {
     if lengths.len() != 32 {
         return false;
     }
-    let mut n = 0;
-    while n < 16 {
+    for n in 0..CHANNELS {
         if !survey::lengths_ok(lengths[2 * n], lengths[2 * n + 1]) {
             return false;
         }
-        n += 1;
     }
     true
 }
@@ -31,10 +30,8 @@ pub fn room_for(lengths: &[u8]) -> usize
     ensures { (result ≡ room_of (lengths_given lengths.now)) × (result ≤ 8192) }
 {
     let mut room = 0;
-    let mut n = 0;
-    while n < 16 {
+    for n in 0..CHANNELS {
         room += rounded_up(lengths[2 * n]) + rounded_up(lengths[2 * n + 1]);
-        n += 1;
     }
     room
 }
@@ -44,8 +41,7 @@ pub fn set_up(mem: &mut [u8], lengths: &[u8])
     requires { (length lengths.now ≡ length_octets) × (rows_end ≤ length mem.old) }
     ensures { mem.new ≡ set_up mem.old lengths.now channels }
 {
-    let mut n = 0;
-    while n < 16 {
+    for n in 0..CHANNELS {
         let free = Channel {
             indication_len: lengths[2 * n],
             response_len: lengths[2 * n + 1],
@@ -53,6 +49,5 @@ pub fn set_up(mem: &mut [u8], lengths: &[u8])
             response_count: 0,
         };
         save(free, n, mem);
-        n += 1;
     }
 }

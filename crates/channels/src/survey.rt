@@ -5,6 +5,9 @@ ghost use Rattle.channels.specs.Image.{channels, rows_end};
 ghost use Rattle.channels.specs.Rules.{lengths_test, all_keep, well_at, each_from};
 ghost use Rattle.channels.specs.Places.{lengths_in, room_from, surveyed};
 
+use crate::channel::{
+    CHANNELS, CHANNELS_AT, INDICATION_COUNTS, INDICATION_LENGTHS, RESPONSE_COUNTS, RESPONSE_LENGTHS,
+};
 use ranges::{checks, word};
 
 // Both lengths of a channel: 0 and 0, or each 4 to 240.
@@ -37,10 +40,10 @@ fn broken_at(mem: &[u8], k: usize) -> u32
     ensures { eqb result 0 ≡ each_from (well_at mem.now) k 4 }
 {
     broken(
-        word::half(mem, 128 + k),
-        word::half(mem, 144 + k),
-        word::half(mem, 160 + k),
-        word::half(mem, 176 + k),
+        word::half(mem, INDICATION_LENGTHS + k),
+        word::half(mem, RESPONSE_LENGTHS + k),
+        word::half(mem, INDICATION_COUNTS + k),
+        word::half(mem, RESPONSE_COUNTS + k),
     )
 }
 
@@ -49,8 +52,8 @@ fn eighths_at(mem: &[u8], k: usize) -> u32
     requires { (k + 4 ≤ channels) × (rows_end ≤ length mem.now) × (each_from (well_at mem.now) k 4 ≡ true) }
     ensures { (8 * result ≡ room_from (lengths_in mem.now) k 4) × (result ≤ 256) }
 {
-    let indications = word::eighths(word::half(mem, 128 + k));
-    let responses = word::eighths(word::half(mem, 144 + k));
+    let indications = word::eighths(word::half(mem, INDICATION_LENGTHS + k));
+    let responses = word::eighths(word::half(mem, RESPONSE_LENGTHS + k));
     word::sum_of(indications + responses)
 }
 
@@ -97,10 +100,12 @@ pub fn survey_of(mem: &[u8]) -> Option<usize>
     requires { rows_end ≤ length mem.now }
     ensures { result ≡ surveyed mem.now 0 channels }
 {
-    if !checks::nothing_across(mem, 132, 16) {
+    if !checks::nothing_across(mem, CHANNELS_AT + 4, CHANNELS) {
         return all(mem);
     }
-    if !(checks::nothing_across(mem, 136, 16) & checks::nothing_across(mem, 140, 16)) {
+    if !(checks::nothing_across(mem, CHANNELS_AT + 8, CHANNELS)
+        & checks::nothing_across(mem, CHANNELS_AT + 12, CHANNELS))
+    {
         return all(mem);
     }
     first_four(mem)

@@ -3,10 +3,10 @@ use borrow.Author.Tests.{lt-ltb, le-ltb}
 use Rattle.channels.specs.Deeds.{is_set_up}
 use Rattle.channels.proofs.deeds.is_set_up.Goals as goal
 
-pub returns-then-n-ge16 : goal.returns-then-n-ge16
+pub returns-then-n-lt16 : goal.returns-then-n-lt16
 unfolding is_set_up
-returns-then-n-ge16 c = simp (le-ltb _ _ c.if-n-ge16.true)
+returns-then-n-lt16 c = simp (lt-ltb _ _ c.if-n-lt16.true, c.load.ensures)
 
-pub returns : goal.returns
+pub returns-else-n-lt16 : goal.returns-else-n-lt16
 unfolding is_set_up
-returns c = simp (lt-ltb _ _ c.if-n-ge16.false, c.load-c.ensures)
+returns-else-n-lt16 c = simp (le-ltb c.args.n 16 c.if-n-lt16.false)

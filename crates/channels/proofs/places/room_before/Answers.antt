@@ -10,7 +10,7 @@ use Rattle.channels.proofs.places.room_before.Goals as goal
 
 pub loop-k-init : goal.loop-k-init
 unfolding room_from
-loop-k-init c = (omega arith, refl, omega arith)
+loop-k-init c = (refl, omega arith)
 
 pub loop-k-preserved : goal.loop-k-preserved
 unfolding loaded
@@ -19,8 +19,7 @@ loop-k-preserved c =
     let e = c.load-c.ensures in
     let u = c.rounded_up.ensures in
     let v = c.rounded_up-in-loop-k.ensures in (
-      omega arith,
-      room_next (lengths_in m) c.loop-k.k c.loop-k.room _ _ c.loop-k.invariant.1
+      room_next (lengths_in m) c.loop-k.k c.loop-k.room _ _ c.loop-k.invariant.0
           (u.0 ∙ ap (λ (x : Channel). rounded_up x.indication_len) e)
           (v.0 ∙ ap (λ (x : Channel). rounded_up x.response_len) e),
       omega arith,
@@ -30,4 +29,4 @@ pub returns : goal.returns
 returns c =
     let s = c.args in
     let e : c.loop-k.k ≡ s.n = omega arith in
-    (c.loop-k.invariant.1 ∙ ap (room_from (lengths_in s.mem.now) 0) e, omega arith)
+    (c.loop-k.invariant.0 ∙ ap (room_from (lengths_in s.mem.now) 0) e, omega arith)

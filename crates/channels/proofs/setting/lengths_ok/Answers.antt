@@ -18,7 +18,7 @@ returns-then-lengths-ne32 c =
 
 pub loop-n-init : goal.loop-n-init
 unfolding each_from
-loop-n-init c = (omega arith, refl)
+loop-n-init c = refl
 
 pub returns-then-not-lengths_ok : goal.returns-then-not-lengths_ok
 unfolding lengths_ok
@@ -31,11 +31,11 @@ returns-then-not-lengths_ok c =
 pub loop-n-preserved : goal.loop-n-preserved
 loop-n-preserved c =
     let xs = c.args.lengths.now in
-    (omega arith, each_next (pair_test xs) c.loop-n.n c.loop-n.invariant.1 (sym c.lengths_ok.ensures ∙ c.if-not-lengths_ok.false))
+    each_next (pair_test xs) c.loop-n.n c.loop-n.invariant (sym c.lengths_ok.ensures ∙ c.if-not-lengths_ok.false)
 
 pub returns : goal.returns
 unfolding lengths_ok
 returns c =
     let xs = c.args.lengths.now in
     let n : c.loop-n.n ≡ channels = omega arith in
-    sym (λ i. eq-eqb (length xs) length_octets c.if-lengths-ne32.false i && (ap (each_from (pair_test xs) 0) (sym n) ∙ c.loop-n.invariant.1) i)
+    sym (λ i. eq-eqb (length xs) length_octets c.if-lengths-ne32.false i && (ap (each_from (pair_test xs) 0) (sym n) ∙ c.loop-n.invariant) i)

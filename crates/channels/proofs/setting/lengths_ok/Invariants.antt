@@ -8,7 +8,4 @@ use Rattle.channels.specs.Setting.{pair_test}
 use Rattle.channels.proofs.setting.lengths_ok.Given as goal
 
 abbrev pub invariant-loop-n : goal.invariant-loop-n
-invariant-loop-n l = (l.n ≤ channels) × (each_from (pair_test l.lengths) 0 l.n ≡ true)
-
-abbrev pub decreases-loop-n : goal.decreases-loop-n
-decreases-loop-n l = channels - l.n
+invariant-loop-n l = (each_from (pair_test l.lengths) 0 l.n ≡ true)

@@ -9,17 +9,17 @@ use Rattle.channels.proofs.setting.room_for.Goals as goal
 
 pub loop-n-init : goal.loop-n-init
 unfolding room_from
-loop-n-init c = (omega arith, refl, omega arith)
+loop-n-init c = (refl, omega arith)
 
 pub loop-n-preserved : goal.loop-n-preserved
 loop-n-preserved c =
     let xs = c.args.lengths.now in
     let u = c.rounded_up.ensures in
     let v = c.rounded_up-in-loop-n.ensures in
-    (omega arith, room_next (lengths_given xs) c.loop-n.n c.loop-n.room _ _ c.loop-n.invariant.1 u.0 v.0, omega arith)
+    (room_next (lengths_given xs) c.loop-n.n c.loop-n.room _ _ c.loop-n.invariant.0 u.0 v.0, omega arith)
 
 pub returns : goal.returns
 returns c =
     let xs = c.args.lengths.now in
     let e : c.loop-n.n ≡ channels = omega arith in
-    (c.loop-n.invariant.1 ∙ ap (room_from (lengths_given xs) 0) e, omega arith)
+    (c.loop-n.invariant.0 ∙ ap (room_from (lengths_given xs) 0) e, omega arith)

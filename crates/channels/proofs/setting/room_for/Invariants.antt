@@ -7,7 +7,4 @@ use Rattle.channels.specs.Setting.{lengths_given}
 use Rattle.channels.proofs.setting.room_for.Given as goal
 
 abbrev pub invariant-loop-n : goal.invariant-loop-n
-invariant-loop-n l = (l.n ≤ channels) × (l.room ≡ room_from (lengths_given l.lengths) 0 l.n) × (l.room ≤ 512 * l.n)
-
-abbrev pub decreases-loop-n : goal.decreases-loop-n
-decreases-loop-n l = channels - l.n
+invariant-loop-n l = (l.room ≡ room_from (lengths_given l.lengths) 0 l.n) × (l.room ≤ 512 * l.n)

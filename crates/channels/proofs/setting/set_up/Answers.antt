@@ -12,19 +12,18 @@ use Rattle.channels.proofs.setting.set_up.Goals as goal
 
 pub loop-n-init : goal.loop-n-init
 unfolding set_up
-loop-n-init c = (omega arith, refl, refl)
+loop-n-init c = (refl, refl)
 
 pub loop-n-preserved : goal.loop-n-preserved
 unfolding set_up
 loop-n-preserved c =
     let n = c.loop-n.n in
     let xs = c.args.lengths.now in (
-      omega arith,
-      rw (add-one n) (c.save.ensures ∙ ap (λ (l : List ℕ). saved l n (free xs n)) c.loop-n.invariant.1),
-      ap length c.save.ensures ∙ saved_length _ n (free xs n) ∙ c.loop-n.invariant.2,
+      rw (add-one n) (c.save.ensures ∙ ap (λ (l : List ℕ). saved l n (free xs n)) c.loop-n.invariant.0),
+      ap length c.save.ensures ∙ saved_length _ n (free xs n) ∙ c.loop-n.invariant.1,
     )
 
 pub returns : goal.returns
 returns c =
     let e : c.loop-n.n ≡ channels = omega arith in
-    c.loop-n.invariant.1 ∙ ap (set_up c.args.mem.now c.args.lengths.now) e
+    c.loop-n.invariant.0 ∙ ap (set_up c.args.mem.now c.args.lengths.now) e

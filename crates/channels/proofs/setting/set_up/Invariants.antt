@@ -7,7 +7,4 @@ use Rattle.channels.specs.Setting.{set_up}
 use Rattle.channels.proofs.setting.set_up.Given as goal
 
 abbrev pub invariant-loop-n : goal.invariant-loop-n
-invariant-loop-n l = (l.n ≤ channels) × (l.mem ≡ set_up l.initial.mem l.lengths l.n) × (length l.mem ≡ length l.initial.mem)
-
-abbrev pub decreases-loop-n : goal.decreases-loop-n
-decreases-loop-n l = channels - l.n
+invariant-loop-n l = (l.mem ≡ set_up l.initial.mem l.lengths l.n) × (length l.mem ≡ length l.initial.mem)
