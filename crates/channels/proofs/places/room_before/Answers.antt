@@ -24,9 +24,3 @@ loop-k-preserved c =
           (v.0 ∙ ap (λ (x : Channel). rounded_up x.response_len) e),
       omega arith,
     )
-
-pub returns : goal.returns
-returns c =
-    let s = c.args in
-    let e : c.loop-k.k ≡ s.n = omega arith in
-    (c.loop-k.invariant.0 ∙ ap (room_from (lengths_in s.mem.now) 0) e, omega arith)

@@ -17,9 +17,3 @@ loop-n-preserved c =
     let u = c.rounded_up.ensures in
     let v = c.rounded_up-in-loop-n.ensures in
     (room_next (lengths_given xs) c.loop-n.n c.loop-n.room _ _ c.loop-n.invariant.0 u.0 v.0, omega arith)
-
-pub returns : goal.returns
-returns c =
-    let xs = c.args.lengths.now in
-    let e : c.loop-n.n ≡ channels = omega arith in
-    (c.loop-n.invariant.0 ∙ ap (room_from (lengths_given xs) 0) e, omega arith)

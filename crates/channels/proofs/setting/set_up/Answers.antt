@@ -22,8 +22,3 @@ loop-n-preserved c =
       rw (add-one n) (c.save.ensures ∙ ap (λ (l : List ℕ). saved l n (free xs n)) c.loop-n.invariant.0),
       ap length c.save.ensures ∙ saved_length _ n (free xs n) ∙ c.loop-n.invariant.1,
     )
-
-pub returns : goal.returns
-returns c =
-    let e : c.loop-n.n ≡ channels = omega arith in
-    c.loop-n.invariant.0 ∙ ap (set_up c.args.mem.now c.args.lengths.now) e
