@@ -2,9 +2,8 @@
 use Prim.Native.Nat.{ℕ}
 use mathlib.Core.Path.{◌≡◌, refl, sym, ap, subst, ◌∙◌}
 use lib.ListN.{length}
+use Rattle.std.specs.Prelude.{Option, Some, None}
 use Rattle.points.specs.declared.Point.{Point}
-use Rattle.points.specs.declared.Found.{Found}
-use Rattle.points.specs.declared.Found.TheVariants.{Hit, None}
 use Rattle.points.specs.declared.Lookup.{Lookup}
 use Rattle.points.specs.Points.{number_of, table, Stands}
 use Rattle.points.specs.Lookup.{Promised, OneAnswer}
@@ -12,19 +11,19 @@ use Rattle.points.proofs.EachOnce.{place_of, stands, each_once}
 
 -- found: this point, at this place
 abbrev pub found_at : Point → ℕ → Lookup
-found_at p k = record { found = Hit p; looked_at = k }
+found_at p k = record { found = Some p; looked_at = k }
 
 -- none found among n
 abbrev pub none_after : ℕ → Lookup
 none_after n = record { found = None; looked_at = n }
 
 -- what tells a hit from none, and which point is hit
-abbrev IsHit : Found → Type 0
-IsHit (Hit p) = Unit
+abbrev IsHit : Option Point → Type 0
+IsHit (Some p) = Unit
 IsHit None = ⊥
 
-abbrev point_in : Found → Point → Point
-point_in (Hit p) otherwise = p
+abbrev point_in : Option Point → Point → Point
+point_in (Some p) otherwise = p
 point_in None otherwise = otherwise
 
 hit_is_not_none : (p : Point) (j k : ℕ) → ¬ (found_at p j ≡ none_after k)
@@ -48,7 +47,7 @@ promised_none dsap all absent =
     }
 
 -- the point found has the number that was looked for
-pub found_number : {dsap : ℕ} {l : Lookup} {p : Point} → Promised dsap l → l.found ≡ Hit p → number_of p ≡ dsap
+pub found_number : {dsap : ℕ} {l : Lookup} {p : Point} → Promised dsap l → l.found ≡ Some p → number_of p ≡ dsap
 found_number {dsap} {l} {p} r e = ((r.hit p l.looked_at).0 (ap (λ f. record { found = f; looked_at = l.looked_at }) e)).1
 
 -- where none is found, no point has the number that was looked for
@@ -58,8 +57,8 @@ none_found r e p same = subst IsHit (sym (ap (λ m. m.found) ((r.hit p (place_of
 pub one_answer : OneAnswer
 one_answer dsap l m r s = go l.found refl
   where
-    go : (f : Found) → l.found ≡ f → l ≡ m
-    go (Hit p) e =
+    go : (f : Option Point) → l.found ≡ f → l ≡ m
+    go (Some p) e =
         let k = l.looked_at in
         let hit : l ≡ found_at p k = ap (λ f. record { found = f; looked_at = k }) e in
         hit ∙ sym ((s.hit p k).1 ((r.hit p k).0 hit))

@@ -5,29 +5,39 @@ ghost use Rattle.std.specs.Prelude.{◌≡◌};
 ghost use Rattle.points.specs.Points.{number_of, table};
 ghost use Rattle.points.specs.Lookup.{Promised};
 
-// A service access point, by its service.
-#[derive(Clone, Copy)]
+use std::fmt;
+
+// A service access point, by its service and the number that a telegram to it has as DSAP.
+#[derive(Clone, Copy, PartialEq, Eq, Debug)]
 pub enum Point {
-    ReadInputs,
-    ReadOutputs,
-    GlobalControl,
-    GetCfg,
-    SlaveDiag,
-    SetPrm,
-    ChkCfg,
+    ReadInputs = 56,
+    ReadOutputs = 57,
+    GlobalControl = 58,
+    GetCfg = 59,
+    SlaveDiag = 60,
+    SetPrm = 61,
+    ChkCfg = 62,
 }
 
-// What a lookup found.
-#[derive(Clone, Copy)]
-pub enum Found {
-    Hit(Point),
-    None,
+// By the service's name in document 01.
+impl fmt::Display for Point {
+    fn fmt<W: fmt::Write>(&self, f: &mut fmt::Formatter<W>) -> fmt::Result {
+        f.write_str(match self {
+            Point::ReadInputs => "Read_Inputs",
+            Point::ReadOutputs => "Read_Outputs",
+            Point::GlobalControl => "Global_Control",
+            Point::GetCfg => "Get_Cfg",
+            Point::SlaveDiag => "Slave_Diag",
+            Point::SetPrm => "Set_Prm",
+            Point::ChkCfg => "Chk_Cfg",
+        })
+    }
 }
 
 // What a lookup found, and at how many entries it looked.
-#[derive(Clone, Copy)]
+#[derive(Clone, Copy, PartialEq, Eq, Debug)]
 pub struct Lookup {
-    pub found: Found,
+    pub found: Option<Point>,
     pub looked_at: usize,
 }
 
@@ -46,15 +56,7 @@ const TABLE: [Point; 7] = [
 fn number_of(point: Point) -> u8
     ensures { result ≡ number_of point }
 {
-    match point {
-        Point::ReadInputs => 56,
-        Point::ReadOutputs => 57,
-        Point::GlobalControl => 58,
-        Point::GetCfg => 59,
-        Point::SlaveDiag => 60,
-        Point::SetPrm => 61,
-        Point::ChkCfg => 62,
-    }
+    point as u8
 }
 
 // The entries are those of the definition, one by one: a promise about what is found would not notice one that is never looked at.
@@ -69,19 +71,16 @@ pub fn look_up(dsap: u8) -> Lookup
     ensures { Promised dsap result }
 {
     let entries = entries();
-    let mut looked_at = 0;
-    while looked_at < entries.len() {
-        let point = entries[looked_at];
-        looked_at += 1;
+    for (i, &point) in entries.iter().enumerate() {
         if number_of(point) == dsap {
             return Lookup {
-                found: Found::Hit(point),
-                looked_at,
+                found: Some(point),
+                looked_at: i + 1,
             };
         }
     }
     Lookup {
-        found: Found::None,
-        looked_at,
+        found: None,
+        looked_at: entries.len(),
     }
 }

@@ -5,7 +5,7 @@ ghost use Rattle.rules.specs.declared.request.Service.TheVariants.{Reject};
 ghost use Rattle.rules.specs.Requests.{master_of, global_form, to_station, acts, refilled, status_by, point_of, request_of, function_service, service_of};
 
 use crate::request::{Request, Service};
-use points::{Found, Point, look_up};
+use points::{Point, look_up};
 use state::control::Control;
 use state::setup::Setup;
 use telegram::Kind;
@@ -103,12 +103,9 @@ fn asked_at(point: Point, r: Request) -> Service
 fn point_of(r: Request) -> Service
     ensures { result ≡ point_of r }
 {
-    let dsap = r.dsap;
-    let lookup = look_up(dsap);
-    let found = lookup.found;
-    match found {
-        Found::Hit(point) => asked_at(point, r),
-        Found::None => Service::Reject,
+    match look_up(r.dsap).found {
+        Some(point) => asked_at(point, r),
+        None => Service::Reject,
     }
 }
 
