@@ -4,22 +4,17 @@ use native.Mathlib.Nat.{not-suc-le-zero}
 use native.Mathlib.Omega.{arith}
 use mathlib.Core.Path.{◌≡◌, refl, ap, ◌∙◌}
 use mathlib.Core.Logic.{inl, inr}
-use mathlib.Core.Bool.{Bool, true, false, cond, ◌&&◌, false≢true}
+use mathlib.Core.Bool.{Bool, true, false, cond, ◌&&◌}
 use mathlib.Core.List.{List}
 use lib.Dec.{leb, ltb, eqb}
 use lib.ListN.{length}
 use borrow.Author.Tests.{leb-true, le-leb, ltb-true, ltb-false, eqb-true, eq-eqb, ne_eqb}
+use Rattle.std.proofs.lemmas.Bool.{and_parts}
 use Rattle.channels.specs.declared.channel.Channel.{Channel}
 use Rattle.channels.specs.Image.{channels, loaded}
 use Rattle.channels.specs.Rules.{Buffer, LengthsOk, Sound, buffer_test, lengths_test, keeps, well_at, each_from, well_channels}
 use Rattle.channels.specs.Places.{indication, response}
 use Rattle.channels.specs.Setting.{length_octets, lengths_given, pair_test, lengths_ok}
-
--- ---- tests joined
-
-pub both : (t u : Bool) → (t && u) ≡ true → (t ≡ true) × (u ≡ true)
-both true u e = (refl, e)
-both false u e = absurd (false≢true e)
 
 -- ---- of the numbers from k on
 
@@ -27,14 +22,14 @@ both false u e = absurd (false≢true e)
 pub each_at : (p : ℕ → Bool) (k j : ℕ) → each_from p k j ≡ true → (i : ℕ) → i < j → p (k + i) ≡ true
 unfolding each_from
 each_at p k zero e i h = absurd (not-suc-le-zero h)
-each_at p k (suc j) e i h = go (ltb i j) refl (each_at p k j (both (each_from p k j) (p (k + j)) e).0 i)
+each_at p k (suc j) e i h = go (ltb i j) refl (each_at p k j (and_parts (each_from p k j) (p (k + j)) e).0 i)
   where
     go : (t : Bool) → ltb i j ≡ t → (i < j → p (k + i) ≡ true) → p (k + i) ≡ true
     go true f before = before (ltb-true i j f)
     go false f before =
         let g : j ≤ i = ltb-false i j f in
         let q : i ≡ j = omega arith in
-        ap (λ (x : ℕ). p (k + x)) q ∙ (both (each_from p k j) (p (k + j)) e).1
+        ap (λ (x : ℕ). p (k + x)) q ∙ (and_parts (each_from p k j) (p (k + j)) e).1
 
 -- and where it holds of each it holds
 pub each_holds : (p : ℕ → Bool) (k j : ℕ) → ((i : ℕ) → i < j → p (k + i) ≡ true) → each_from p k j ≡ true
@@ -52,7 +47,7 @@ all_hold p j h = each_holds p 0 j (λ i g. let z : 0 + i ≡ i = omega arith in 
 -- ---- the octets of one channel
 
 buffer_ok : (n : ℕ) → buffer_test n ≡ true → Buffer n
-buffer_ok n e = let g = both (leb 4 n) (leb n 240) e in (leb-true 4 n g.0, leb-true n 240 g.1)
+buffer_ok n e = let g = and_parts (leb 4 n) (leb n 240) e in (leb-true 4 n g.0, leb-true n 240 g.1)
 
 buffer_pass : (n : ℕ) → Buffer n → buffer_test n ≡ true
 buffer_pass n h = λ i. le-leb 4 n h.0 i && le-leb n 240 h.1 i
@@ -63,7 +58,7 @@ lengths_ok_lem a b = go (eqb a 0) refl
   where
     go : (t : Bool) → eqb a 0 ≡ t → cond t (eqb b 0) (buffer_test a && buffer_test b) ≡ true → LengthsOk a b
     go true f e = inl (eqb-true a 0 f, eqb-true b 0 e)
-    go false f e = let g = both (buffer_test a) (buffer_test b) e in inr (buffer_ok a g.0, buffer_ok b g.1)
+    go false f e = let g = and_parts (buffer_test a) (buffer_test b) e in inr (buffer_ok a g.0, buffer_ok b g.1)
 
 pub lengths_pass : (a b : ℕ) → LengthsOk a b → lengths_test a b ≡ true
 lengths_pass a b (inl h) = λ i. cond (eq-eqb a 0 h.0 i) (eq-eqb b 0 h.1 i) (buffer_test a && buffer_test b)
@@ -77,8 +72,8 @@ lengths_pass a b (inr h) =
 pub keeps_sound : (c : Channel) → keeps c.indication_len c.response_len c.indication_count c.response_count ≡ true → Sound c
 unfolding keeps
 keeps_sound c e =
-    let u = both (lengths_test c.indication_len c.response_len) _ e in
-    let v = both (leb c.indication_count c.indication_len) (leb c.response_count c.response_len) u.1 in
+    let u = and_parts (lengths_test c.indication_len c.response_len) _ e in
+    let v = and_parts (leb c.indication_count c.indication_len) (leb c.response_count c.response_len) u.1 in
     record {
       lengths = lengths_ok_lem c.indication_len c.response_len u.0;
       indication_fits = leb-true c.indication_count c.indication_len v.0;
@@ -110,7 +105,7 @@ pub lengths_say : (xs : List ℕ) → lengths_ok xs ≡ true
     → (length xs ≡ length_octets) × ((n : ℕ) → n < channels → LengthsOk (lengths_given xs n indication) (lengths_given xs n response))
 unfolding lengths_ok
 lengths_say xs e =
-    let u = both (eqb (length xs) length_octets) (each_from (pair_test xs) 0 channels) e in
+    let u = and_parts (eqb (length xs) length_octets) (each_from (pair_test xs) 0 channels) e in
     (eqb-true (length xs) length_octets u.0, λ n h. lengths_ok_lem _ _ (all_at (pair_test xs) channels u.1 n h))
 
 -- and where that is so, the test holds

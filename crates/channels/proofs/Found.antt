@@ -4,11 +4,12 @@ use native.Mathlib.Nat.{not-suc-le-zero}
 use native.Mathlib.Numerals.{add-one}
 use native.Mathlib.Omega.{arith}
 use mathlib.Core.Path.{◌≡◌, refl, sym, ap, ap₂, ◌∙◌}
-use mathlib.Core.Bool.{Bool, true, false, cond, ◌&&◌, false≢true}
+use mathlib.Core.Bool.{Bool, true, false, cond, ◌&&◌, false≢true, and_assoc, and-true}
 use mathlib.Core.List.{List, [], ◌∷◌}
 use lib.Dec.{leb, eqb}
 use lib.ListN.{get_or, replicate}
 use borrow.Author.Tests.{leb-true, eq-eqb, ne_eqb}
+use Rattle.std.proofs.lemmas.Bool.{and_parts}
 use Rattle.std.specs.Prelude.{Some, None}
 use Rattle.octets.specs.Part.{part, rounded_up}
 use Rattle.octets.proofs.Parts.{part_at}
@@ -16,7 +17,7 @@ use Rattle.ranges.specs.Octets.{at_most, nothing_at}
 use Rattle.channels.specs.Image.{channels, channels_at, rows, rows_length, cell, octet_at}
 use Rattle.channels.specs.Rules.{buffer_test, lengths_test, keeps, well_at, each_from, well_channels}
 use Rattle.channels.specs.Places.{Side, indication, response, Lengths, lengths_in, room_at, room_from, room_of, surveyed}
-use Rattle.channels.proofs.Exact.{both, each_at, each_holds}
+use Rattle.channels.proofs.Exact.{each_at, each_holds}
 use Rattle.channels.proofs.Same.{octet_in}
 use Rattle.channels.proofs.Room.{room_from_small}
 
@@ -50,18 +51,10 @@ pub each_add : (p : ℕ → Bool) (k i j : ℕ) → each_from p k (i + j) ≡ (e
 unfolding each_from
 each_add p k i zero =
     let e : i + 0 ≡ i = omega arith in ap (each_from p k) e ∙ sym (and-true (each_from p k i))
-  where
-    and-true : (t : Bool) → (t && true) ≡ t
-    and-true true = refl
-    and-true false = refl
 each_add p k i (suc j) =
     let e : i + suc j ≡ suc (i + j) = omega arith in
     let f : k + (i + j) ≡ k + i + j = omega arith in
-    ap (each_from p k) e ∙ ap₂ ◌&&◌ (each_add p k i j) (ap p f) ∙ assoc (each_from p k i) (each_from p (k + i) j) (p (k + i + j))
-  where
-    assoc : (t u v : Bool) → ((t && u) && v) ≡ (t && (u && v))
-    assoc true u v = refl
-    assoc false u v = refl
+    ap (each_from p k) e ∙ ap₂ ◌&&◌ (each_add p k i j) (ap p f) ∙ and_assoc (each_from p k i) (each_from p (k + i) j) (p (k + i + j))
 
 pub room_add : (z : Lengths) (k i j : ℕ) → room_from z k (i + j) ≡ room_from z k i + room_from z (k + i) j
 unfolding room_from
@@ -141,8 +134,8 @@ zeros : (xs : List ℕ) (n i : ℕ) → at_most xs (replicate n 0) ≡ true → 
 unfolding at_most
 zeros [] n i e h = refl
 zeros (x ∷ xs) zero i e h = absurd (not-suc-le-zero h)
-zeros (x ∷ xs) (suc n) zero e h = let g : x ≤ 0 = leb-true x 0 (both (leb x 0) (at_most xs (replicate n 0)) e).0 in omega arith
-zeros (x ∷ xs) (suc n) (suc i) e h = zeros xs n i (both (leb x 0) (at_most xs (replicate n 0)) e).1 (omega arith)
+zeros (x ∷ xs) (suc n) zero e h = let g : x ≤ 0 = leb-true x 0 (and_parts (leb x 0) (at_most xs (replicate n 0)) e).0 in omega arith
+zeros (x ∷ xs) (suc n) (suc i) e h = zeros xs n i (and_parts (leb x 0) (at_most xs (replicate n 0)) e).1 (omega arith)
 
 -- nothing in the rows
 pub rows_nothing : (m : List ℕ) → at_most (part m channels_at rows_length) (replicate rows_length 0) ≡ true → Found m 0 channels 0
@@ -160,9 +153,9 @@ pub columns_nothing : (m : List ℕ) (k : ℕ)
     → (nothing_at m (channels_at + k) && (nothing_at m (channels_at + k + 16) && (nothing_at m (channels_at + k + 2 * 16) && nothing_at m (channels_at + k + 3 * 16)))) ≡ true
     → Found m k 4 0
 columns_nothing m k e =
-    let u = both (nothing_at m (channels_at + k)) _ e in
-    let v = both (nothing_at m (channels_at + k + 16)) _ u.1 in
-    let w = both (nothing_at m (channels_at + k + 2 * 16)) (nothing_at m (channels_at + k + 3 * 16)) v.1 in
+    let u = and_parts (nothing_at m (channels_at + k)) _ e in
+    let v = and_parts (nothing_at m (channels_at + k + 16)) _ u.1 in
+    let w = and_parts (nothing_at m (channels_at + k + 2 * 16)) (nothing_at m (channels_at + k + 3 * 16)) v.1 in
     found_nothing m k 4 (octet u.0 v.0 w.0 w.1)
   where
     octet : nothing_at m (channels_at + k) ≡ true → nothing_at m (channels_at + k + 16) ≡ true → nothing_at m (channels_at + k + 2 * 16) ≡ true → nothing_at m (channels_at + k + 3 * 16) ≡ true

@@ -3,12 +3,13 @@ use Prim.Native.Nat.{ℕ, zero, suc, ◌+◌, ◌*◌, ◌/◌, ◌%◌, ◌≤�
 use native.Mathlib.Omega.{arith}
 use mathlib.Core.Path.{◌≡◌, refl, sym, ap, ap₂, ◌∙◌}
 use mathlib.Core.Logic.{inl, inr}
-use mathlib.Core.Bool.{Bool, true, false, cond, ◌&&◌, and_assoc}
+use mathlib.Core.Bool.{Bool, true, false, cond, ◌&&◌, and_assoc, and_comm}
 use mathlib.Core.List.{List, ◌∷◌}
 use lib.Dec.{leb, eqb}
 use lib.ListN.{length, get_or, replicate}
 use lib.Bits.{bit_or}
 use borrow.Author.Tests.{eqb-true, le-leb}
+use Rattle.std.proofs.lemmas.Bool.{and_parts}
 use Rattle.std.specs.Prelude.{Some, None}
 use Rattle.octets.specs.Part.{part, rounded_up}
 use Rattle.ranges.specs.Octets.{number, octets, at_most, pair, paired, eighths_of, total}
@@ -16,17 +17,11 @@ use Rattle.ranges.proofs.Words.{or_zero, part_cons, octets_part}
 use Rattle.channels.specs.Image.{channels, rows_end, cell, octet_at}
 use Rattle.channels.specs.Rules.{LengthsOk, buffer_test, lengths_test, keeps, all_keep, well_at, each_from}
 use Rattle.channels.specs.Places.{Side, indication, response, Lengths, lengths_in, room_at, room_from, surveyed}
-use Rattle.channels.proofs.Exact.{both, lengths_ok_lem}
+use Rattle.channels.proofs.Exact.{lengths_ok_lem}
 use Rattle.channels.proofs.Room.{room_from_small}
 use Rattle.channels.proofs.Found.{each_add, room_add, Found}
 
 -- ---- tests joined
-
-comm : (t u : Bool) → (t && u) ≡ (u && t)
-comm true true = refl
-comm true false = refl
-comm false true = refl
-comm false false = refl
 
 swap : (t u v w : Bool) → ((t && u) && (v && w)) ≡ ((t && v) && (u && w))
 swap false u v w = refl
@@ -41,13 +36,13 @@ lengths_by a b = go (eqb a 0) refl
   where
     zeros : (u : Bool) → eqb b 0 ≡ u → (leb b 240 && u) ≡ u
     zeros true e = let z : b ≡ 0 = eqb-true b 0 e in ap (λ t. t && true) (le-leb b 240 (omega arith))
-    zeros false e = comm (leb b 240) false
+    zeros false e = and_comm (leb b 240) false
 
     go : (t : Bool) → eqb a 0 ≡ t → ((leb a 240 && leb b 240) && cond t (eqb b 0) (leb 4 a && leb 4 b)) ≡ cond t (eqb b 0) (buffer_test a && buffer_test b)
     go true e =
         let z : a ≡ 0 = eqb-true a 0 e in
         ap (λ t. (t && leb b 240) && eqb b 0) (le-leb a 240 (omega arith)) ∙ zeros (eqb b 0) refl
-    go false e = swap (leb a 240) (leb b 240) (leb 4 a) (leb 4 b) ∙ ap₂ ◌&&◌ (comm (leb a 240) (leb 4 a)) (comm (leb b 240) (leb 4 b))
+    go false e = swap (leb a 240) (leb b 240) (leb 4 a) (leb 4 b) ∙ ap₂ ◌&&◌ (and_comm (leb a 240) (leb 4 a)) (and_comm (leb b 240) (leb 4 b))
 
 keeps_by : (a b c d : ℕ) → ((((leb a 240 && leb b 240) && pair a b) && leb c a) && leb d b) ≡ keeps a b c d
 unfolding keeps
@@ -146,7 +141,7 @@ rows_keep m h k (suc j) g =
 -- a channel that keeps them has short buffers
 well_short : (m : List ℕ) (n r : ℕ) → r < 2 → well_at m n ≡ true → octet_at m r n ≤ 248
 unfolding well_at keeps
-well_short m n r l e = go r l (lengths_ok_lem (octet_at m 0 n) (octet_at m 1 n) (both (lengths_test (octet_at m 0 n) (octet_at m 1 n)) _ e).0)
+well_short m n r l e = go r l (lengths_ok_lem (octet_at m 0 n) (octet_at m 1 n) (and_parts (lengths_test (octet_at m 0 n) (octet_at m 1 n)) _ e).0)
   where
     go : (r : ℕ) → r < 2 → LengthsOk (octet_at m 0 n) (octet_at m 1 n) → octet_at m r n ≤ 248
     go zero l (inl h) = let z = h.0 in omega arith
@@ -160,7 +155,7 @@ pub rows_short : (m : List ℕ) → rows_end ≤ length m → (r k j : ℕ) → 
 unfolding at_most
 rows_short m h r k zero l g e = refl
 rows_short m h r k (suc j) l g e =
-    let (first, others) = both (well_at m k) (each_from (well_at m) (k + 1) j) (sym (each_first (well_at m) k j) ∙ e) in
+    let (first, others) = and_parts (well_at m k) (each_from (well_at m) (k + 1) j) (sym (each_first (well_at m) k j) ∙ e) in
     ap (λ xs. at_most xs (replicate (suc j) 248)) (row_first m r k j (omega arith))
     ∙ (λ i. le-leb (octet_at m r k) 248 (well_short m k r l first) i && rows_short m h r (k + 1) j l (omega arith) others i)
 
@@ -234,9 +229,9 @@ groups_keep p a b c d e f g h =
 pub group_keeps : (p : ℕ → Bool) → each_from p 0 channels ≡ true
     → (each_from p 0 4 ≡ true) × (each_from p 4 4 ≡ true) × (each_from p 8 4 ≡ true) × (each_from p 12 4 ≡ true)
 group_keeps p e =
-    let u = both (each_from p 0 12) (each_from p 12 4) (sym (each_add p 0 12 4) ∙ e) in
-    let v = both (each_from p 0 8) (each_from p 8 4) (sym (each_add p 0 8 4) ∙ u.0) in
-    let w = both (each_from p 0 4) (each_from p 4 4) (sym (each_add p 0 4 4) ∙ v.0) in
+    let u = and_parts (each_from p 0 12) (each_from p 12 4) (sym (each_add p 0 12 4) ∙ e) in
+    let v = and_parts (each_from p 0 8) (each_from p 8 4) (sym (each_add p 0 8 4) ∙ u.0) in
+    let w = and_parts (each_from p 0 4) (each_from p 4 4) (sym (each_add p 0 4 4) ∙ v.0) in
     (w.0, w.1, v.1, u.1)
 
 pub groups_room : (z : Lengths) (a b c d : ℕ) → 8 * a ≡ room_from z 0 4 → 8 * b ≡ room_from z 4 4 → 8 * c ≡ room_from z 8 4 → 8 * d ≡ room_from z 12 4
@@ -254,8 +249,8 @@ first_found m u v w =
     let p = well_at m in
     let z = lengths_in m in
     let t : each_from p 0 channels ≡ each_from p 0 4 =
-    each_add p 0 12 4 ∙ ap₂ ◌&&◌ (each_add p 0 8 4 ∙ ap₂ ◌&&◌ (each_add p 0 4 4 ∙ ap (λ t. each_from p 0 4 && t) u.0 ∙ comm (each_from p 0 4) true) v.0 ∙ comm (each_from p 0 4) true) w.0
-    ∙ comm (each_from p 0 4) true in
+    each_add p 0 12 4 ∙ ap₂ ◌&&◌ (each_add p 0 8 4 ∙ ap₂ ◌&&◌ (each_add p 0 4 4 ∙ ap (λ t. each_from p 0 4 && t) u.0 ∙ and_comm (each_from p 0 4) true) v.0 ∙ and_comm (each_from p 0 4) true) w.0
+    ∙ and_comm (each_from p 0 4) true in
     let a = room_add z 0 4 4 in
     let b = room_add z 0 8 4 in
     let c = room_add z 0 12 4 in

@@ -3,7 +3,8 @@ ghost use Rattle.std.specs.Prelude.{◌≡◌, ◌<◌, ◌≤◌, length};
 ghost use Rattle.channels.specs.Image.{channels, rows_end, loaded, saved};
 
 // The lengths of both buffers, 0 and 0 for a channel that is not set up, and how many octets of each are in use, 0 for none.
-#[derive(Clone, Copy, PartialEq, Eq, Debug)]
+// By default it is not set up.
+#[derive(Clone, Copy, PartialEq, Eq, Default, Debug)]
 pub struct Channel {
     pub indication_len: u8,
     pub response_len: u8,

@@ -1,7 +1,7 @@
 // What becomes of a channel. A request is open, so that the channel is occupied, exactly if the indication's count is not 0.
 ghost use Rattle.std.specs.Prelude.{◌≡◌, ◌+◌, ◌<◌, ◌≤◌, length};
 ghost use Rattle.channels.specs.Image.{channels, rows_end};
-ghost use Rattle.channels.specs.Deeds.{is_open, is_given, takes_response, is_set_up, filled, responded, freed, no_channel, channel_in, filled_in, freed_in, responded_in, emptied};
+ghost use Rattle.channels.specs.Deeds.{is_open, is_given, takes_response, is_set_up, filled, responded, freed, channel_in, filled_in, freed_in, responded_in, emptied};
 
 use crate::channel::{CHANNELS, Channel, INDICATION_COUNTS, load, save};
 use octets::{clear_at, copy_at};
@@ -60,30 +60,20 @@ fn freed(mut c: Channel) -> Channel
     c
 }
 
-// What a channel is whose number is above 15.
-fn no_channel() -> Channel
-    ensures { result ≡ no_channel }
-{
-    Channel {
-        indication_len: 0,
-        response_len: 0,
-        indication_count: 0,
-        response_count: 0,
-    }
-}
-
-// Channel n, where there is one of that number.
+// Channel n, where there is one of that number, and else one that is not set up.
 pub fn channel_in(mem: &[u8], n: u8) -> Channel
     requires { rows_end ≤ length mem.now }
     ensures { result ≡ channel_in mem.now n }
 {
     if n < 16 {
-        return load(mem, n as usize);
+        load(mem, n as usize)
+    } else {
+        Channel::default()
     }
-    no_channel()
 }
 
 // A request of so many octets, which stand in its buffer, fills channel n.
+// Not one function that takes the change as a closure, for this and `free`: its contract would be longer than both.
 pub fn fill(mem: &mut [u8], n: u8, count: u8)
     requires { rows_end ≤ length mem.old }
     ensures { mem.new ≡ filled_in mem.old n count }

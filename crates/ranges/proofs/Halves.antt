@@ -4,15 +4,12 @@ use native.Mathlib.Nat.{add-mul-mod_self_left, div-add-mod}
 use mathlib.Core.Bool.{false≢true}
 use lib.Bits.{bit_and, bit_or, and_block, or_block, or_lt, and_lt, and_le_l, and_le_r, and_zero_r, and_mask, and_high, and_shr, or_shr, or_add_and}
 use borrow.Author.Tests.{eqb-false}
+use Rattle.std.proofs.lemmas.Bool.{and_parts}
 use Rattle.ranges.specs.Octets.{number, octets, at_most, pair, paired, eighths_of, total}
 use Rattle.ranges.proofs.Words.{shifted}
 use Rattle.ranges.proofs.Limits.{rep}
 
 -- ---- one octet more
-
-both : (t u : Bool) → (t && u) ≡ true → (t ≡ true) × (u ≡ true)
-both true u e = (refl, e)
-both false u e = absurd (false≢true e)
 
 octet< : (x : ℕ) → x % 256 < 256
 octet< x = mod-lt x (zero-lt-suc 255)
@@ -256,7 +253,7 @@ pair_clear a b p q = go (eqb a 0) refl
         let le = and_le_l (reach₁ 127 (bit_or a b)) (255 - bit_and F G) in
         omega arith
     go false e f =
-        let (u, v) = both (leb 4 a) (leb 4 b) f in
+        let (u, v) = and_parts (leb 4 a) (leb 4 b) f in
         let a4 : 4 ≤ a = leb-true 4 a u in
         let b4 : 4 ≤ b = leb-true 4 b v in
         let high = and_tops F G (reach_high 124 a (omega arith)) (reach_octet 124 a (omega arith) p) (reach_high 124 b (omega arith)) (reach_octet 124 b (omega arith) q) in
@@ -376,7 +373,7 @@ pub most_word : (k d x : ℕ) → x ≤ rep k 255 → at_most (octets k x) (repl
 unfolding rep octets at_most
 most_word zero d x p h = p
 most_word (suc k) d x p h =
-    let (first, others) = both (leb (x % 256) d) (at_most (octets k (x / 256)) (replicate k d)) h in
+    let (first, others) = and_parts (leb (x % 256) d) (at_most (octets k (x / 256)) (replicate k d)) h in
     let up = most_word k d (x / 256) (omega arith) others in
     let low = leb-true (x % 256) d first in
     omega arith
@@ -385,7 +382,7 @@ pub eighths_are : (k x : ℕ) → at_most (octets k x) (replicate k 248) ≡ tru
 unfolding rep octets at_most number eighths_of
 eighths_are zero x h = and_zero_r ((x + 0) / 8)
 eighths_are (suc k) x h =
-    let (first, others) = both (leb (x % 256) 248) (at_most (octets k (x / 256)) (replicate k 248)) h in
+    let (first, others) = and_parts (leb (x % 256) 248) (at_most (octets k (x / 256)) (replicate k 248)) h in
     let low : x % 256 ≤ 248 = leb-true (x % 256) 248 first in
     let y = x / 256 + rep k 7 in
     let r = (y % 8) * 32 + (x % 256 + 7) / 8 in

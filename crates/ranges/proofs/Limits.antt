@@ -3,6 +3,7 @@ use Rattle.std.proofs.Common.{◌≡◌, ℕ, zero, suc, ◌+◌, ◌-◌, ◌*�
 use mathlib.Core.Bool.{false≢true}
 use lib.Bits.{bit_and, bit_or, and_block, or_block, or_lt, and_le_r, and_zero_r, and_mask, and_high, and_mod, or_mod, or_shr}
 use borrow.Author.Tests.{lt-leb}
+use Rattle.std.proofs.lemmas.Bool.{and_parts}
 use Rattle.ranges.specs.Octets.{octets, at_most, lows}
 use Rattle.ranges.proofs.Words.{shifted, or_zero}
 
@@ -128,14 +129,9 @@ above_is (suc k) x y h =
 lowest : (k x y : ℕ) → at_most (octets (suc k) x) (lows (octets (suc k) y)) ≡ true
     → (x % 256 < 128) × (at_most (octets k (x / 256)) (lows (octets k (y / 256))) ≡ true)
 unfolding octets lows at_most
-lowest k x y h = go (leb (x % 256) (y % 256 % 128)) refl h
-  where
-    rest : Bool
-    rest = at_most (octets k (x / 256)) (lows (octets k (y / 256)))
-
-    go : (t : Bool) → leb (x % 256) (y % 256 % 128) ≡ t → (t && rest) ≡ true → (x % 256 < 128) × (rest ≡ true)
-    go true e g = (omega (arith, leb-true (x % 256) (y % 256 % 128) e), g)
-    go false e g = absurd (false≢true g)
+lowest k x y h =
+    let (first, others) = and_parts (leb (x % 256) (y % 256 % 128)) (at_most (octets k (x / 256)) (lows (octets k (y / 256)))) h in
+    (omega (arith, leb-true (x % 256) (y % 256 % 128) first), others)
 
 -- so the whole word is at most that of 127 in each octet
 low_word : (k x y : ℕ) → x ≤ rep k 255 → at_most (octets k x) (lows (octets k y)) ≡ true → x ≤ rep k 127

@@ -1,5 +1,5 @@
 -- `channels::places::room_before` meets its contract.
-use Prim.Native.Nat.{◌*◌, ◌-◌, ◌≤◌}
+use Prim.Native.Nat.{◌*◌, ◌≤◌}
 use mathlib.Core.Path.{◌≡◌}
 use Rattle.channels.specs.Places.{lengths_in, room_from}
 use Rattle.channels.proofs.places.room_before.Given as goal

@@ -1,8 +1,6 @@
 -- `channels::setting::lengths_ok` meets its contract.
-use Prim.Native.Nat.{◌-◌, ◌≤◌}
 use mathlib.Core.Path.{◌≡◌}
 use mathlib.Core.Bool.{true}
-use Rattle.channels.specs.Image.{channels}
 use Rattle.channels.specs.Rules.{each_from}
 use Rattle.channels.specs.Setting.{pair_test}
 use Rattle.channels.proofs.setting.lengths_ok.Given as goal

@@ -1,7 +1,6 @@
 -- `channels::setting::room_for` meets its contract.
 use native.Mathlib.Omega.{arith}
-use mathlib.Core.Path.{◌≡◌, refl, ap, ◌∙◌}
-use Rattle.channels.specs.Image.{channels}
+use mathlib.Core.Path.{refl}
 use Rattle.channels.specs.Places.{room_from}
 use Rattle.channels.specs.Setting.{lengths_given}
 use Rattle.channels.proofs.Found.{room_next}

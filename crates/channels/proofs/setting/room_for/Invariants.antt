@@ -1,7 +1,6 @@
 -- `channels::setting::room_for` meets its contract.
-use Prim.Native.Nat.{◌*◌, ◌-◌, ◌≤◌}
+use Prim.Native.Nat.{◌*◌, ◌≤◌}
 use mathlib.Core.Path.{◌≡◌}
-use Rattle.channels.specs.Image.{channels}
 use Rattle.channels.specs.Places.{room_from}
 use Rattle.channels.specs.Setting.{lengths_given}
 use Rattle.channels.proofs.setting.room_for.Given as goal

@@ -1,11 +1,10 @@
 -- `channels::setting::set_up` meets its contract.
 use Prim.Native.Nat.{ℕ}
 use native.Mathlib.Numerals.{add-one}
-use native.Mathlib.Omega.{arith}
-use mathlib.Core.Path.{◌≡◌, refl, ap, ◌∙◌}
+use mathlib.Core.Path.{refl, ap, ◌∙◌}
 use mathlib.Core.List.{List}
 use lib.ListN.{length}
-use Rattle.channels.specs.Image.{channels, saved}
+use Rattle.channels.specs.Image.{saved}
 use Rattle.channels.specs.Setting.{free, set_up}
 use Rattle.channels.proofs.Columns.{saved_length}
 use Rattle.channels.proofs.setting.set_up.Goals as goal

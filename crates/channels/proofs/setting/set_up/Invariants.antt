@@ -1,8 +1,6 @@
 -- `channels::setting::set_up` meets its contract.
-use Prim.Native.Nat.{◌-◌, ◌≤◌}
 use mathlib.Core.Path.{◌≡◌}
 use lib.ListN.{length}
-use Rattle.channels.specs.Image.{channels}
 use Rattle.channels.specs.Setting.{set_up}
 use Rattle.channels.proofs.setting.set_up.Given as goal
 

@@ -1,5 +1,4 @@
 -- `channels::survey::first_four` meets its contract.
-use native.Mathlib.Omega.{arith}
 use mathlib.Core.Path.{sym, ◌∙◌}
 use borrow.Author.Tests.{eq-eqb, ne_eqb}
 use Rattle.channels.specs.Places.{surveyed}

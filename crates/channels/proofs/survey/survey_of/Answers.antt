@@ -1,6 +1,6 @@
 -- `channels::survey::survey_of` meets its contract.
 use mathlib.Core.Path.{sym, ◌∙◌}
-use Rattle.channels.proofs.Exact.{both}
+use Rattle.std.proofs.lemmas.Bool.{and_parts}
 use Rattle.channels.proofs.Found.{columns_nothing}
 use Rattle.channels.proofs.Fours.{first_found}
 use Rattle.channels.proofs.survey.survey_of.Goals as goal
@@ -11,7 +11,7 @@ returns c =
     let x = c.nothing_across in
     let y = c.nothing_across-2 in
     let z = c.nothing_across-3 in
-    let (q, r) = both y.result z.result (c.if-not-nothing_across-2.false) in
+    let (q, r) = and_parts y.result z.result (c.if-not-nothing_across-2.false) in
     c.first_four.ensures
     ∙ first_found m
     (columns_nothing m 4 (sym x.ensures ∙ c.if-not-nothing_across.false))
