@@ -9,7 +9,7 @@ ghost use Rattle.state.specs.Well.{all, lengths_tests};
 
 use crate::{layout, load, well};
 use channels::channel::CHANNELS_AT;
-use channels::survey::{Survey, survey_of};
+use channels::survey::survey_of;
 use ranges::checks;
 
 // The lengths, and whether the buffers end in the memory where no channel has any. Of short lengths, and in a memory that has room for all,
@@ -42,16 +42,13 @@ fn channels_fit(mem: &[u8], bound: usize) -> bool
     requires { (state_length ≤ length mem.now) × (end_of (unpacked mem.now).setup ≤ bound) × (bound ≤ 65536) }
     ensures { result ≡ (well_channels mem.now && leb (last_end (lengths_in mem.now) (unpacked mem.now).setup) (length mem.now)) }
 {
-    let found = survey_of(mem);
-    match found {
-        Survey::Damaged => false,
-        Survey::Room(room) => {
-            if bound + room <= mem.len() {
-                return true;
-            }
-            layout::end_of(load::setup(mem)) + room <= mem.len()
-        }
+    let Some(room) = survey_of(mem) else {
+        return false;
+    };
+    if bound + room <= mem.len() {
+        return true;
     }
+    layout::end_of(load::setup(mem)) + room <= mem.len()
 }
 
 // The lengths, the channels and the room of a station that has channels. It calls `channels_fit` in two places: a function with two callers the
