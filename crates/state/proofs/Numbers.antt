@@ -1,4 +1,4 @@
--- Every case of the state's enums comes back from its number, and every number up to the last from its case.
+-- Every number up to the last comes back from its case.
 use Prim.Native.Nat.{ℕ, ◌≤◌}
 use mathlib.Core.Path.{◌≡◌, refl}
 use Rattle.state.proofs.Count.{Counts, counted, count_le}
@@ -12,24 +12,8 @@ use Rattle.state.specs.declared.control.Phase.{Phase}
 use Rattle.state.specs.declared.control.Phase.TheVariants as phase
 use Rattle.state.specs.declared.state.Drawn.{Drawn}
 use Rattle.state.specs.declared.state.Drawn.TheVariants as drawn
+use Rattle.state.specs.NumberLaws.{reading_back, kind_back, stage_back, phase_back, drawn_back}
 use Rattle.state.specs.Number.{reading_number, reading_cases, reading_numbered, kind_number, kind_cases, kind_numbered, stage_number, stage_cases, stage_numbered, phase_number, phase_cases, phase_numbered, drawn_number, drawn_cases, drawn_numbered}
-
--- a reader's phase comes back from its number
-pub reading_back : (a : Reading) → reading_numbered (reading_number a) ≡ a
-unfolding reading_numbered
-reading_back reading.Start = refl
-reading_back reading.Le = refl
-reading_back reading.LeAgain = refl
-reading_back reading.SdAgain = refl
-reading_back reading.Da = refl
-reading_back reading.Sa = refl
-reading_back reading.Fc = refl
-reading_back reading.Dsap = refl
-reading_back reading.Ssap = refl
-reading_back reading.Body = refl
-reading_back reading.End = refl
-reading_back reading.Done = refl
-reading_back reading.Off = refl
 
 -- its numbers count the cases
 reading_counts : Counts reading_cases reading.Off reading_number
@@ -45,14 +29,6 @@ reading_counted = counted reading_counts
 pub reading_le : (a : Reading) → reading_number a ≤ 12
 reading_le = count_le reading_counts
 
--- a telegram's kind comes back from its number
-pub kind_back : (a : Kind) → kind_numbered (kind_number a) ≡ a
-unfolding kind_numbered
-kind_back kind.Sd1 = refl
-kind_back kind.Sd2 = refl
-kind_back kind.Sd3 = refl
-kind_back kind.Sd4 = refl
-
 -- its numbers count the cases
 kind_counts : Counts kind_cases kind.Sd4 kind_number
 unfolding kind_numbered
@@ -66,21 +42,6 @@ kind_counted = counted kind_counts
 -- and none is greater
 pub kind_le : (a : Kind) → kind_number a ≤ 3
 kind_le = count_le kind_counts
-
--- a sender's stage comes back from its number
-pub stage_back : (a : Stage) → stage_numbered (stage_number a) ≡ a
-unfolding stage_numbered
-stage_back stage.Start = refl
-stage_back stage.Le = refl
-stage_back stage.LeAgain = refl
-stage_back stage.SdAgain = refl
-stage_back stage.Da = refl
-stage_back stage.Sa = refl
-stage_back stage.Fc = refl
-stage_back stage.Body = refl
-stage_back stage.End = refl
-stage_back stage.Single = refl
-stage_back stage.Empty = refl
 
 -- its numbers count the cases
 stage_counts : Counts stage_cases stage.Empty stage_number
@@ -96,13 +57,6 @@ stage_counted = counted stage_counts
 pub stage_le : (a : Stage) → stage_number a ≤ 10
 stage_le = count_le stage_counts
 
--- the station's phase comes back from its number
-pub phase_back : (a : Phase) → phase_numbered (phase_number a) ≡ a
-unfolding phase_numbered
-phase_back phase.WaitPrm = refl
-phase_back phase.WaitCfg = refl
-phase_back phase.DataExch = refl
-
 -- its numbers count the cases
 phase_counts : Counts phase_cases phase.DataExch phase_number
 unfolding phase_numbered
@@ -116,19 +70,6 @@ phase_counted = counted phase_counts
 -- and none is greater
 pub phase_le : (a : Phase) → phase_number a ≤ 2
 phase_le = count_le phase_counts
-
--- what a telegram draws comes back from its number
-pub drawn_back : (a : Drawn) → drawn_numbered (drawn_number a) ≡ a
-unfolding drawn_numbered
-drawn_back drawn.Nothing = refl
-drawn_back drawn.Acknowledge = refl
-drawn_back drawn.Status = refl
-drawn_back drawn.Rejected = refl
-drawn_back drawn.Exchange = refl
-drawn_back drawn.Inputs = refl
-drawn_back drawn.Outputs = refl
-drawn_back drawn.Configuration = refl
-drawn_back drawn.Diagnosis = refl
 
 -- its numbers count the cases
 drawn_counts : Counts drawn_cases drawn.Diagnosis drawn_number

@@ -19,7 +19,8 @@ use Rattle.state.specs.Image.{bit_of, low_word, high_word, double_octets, flags_
 use Rattle.state.specs.Unpack.{word_at, double_at, setup_in, flags_in, reader_in, sender_in, unpacked}
 use Rattle.state.specs.Sound.{Sound}
 use Rattle.state.specs.Well.{all, length_tests, lengths_tests, count_tests, line_tests, code_tests, image_tests, well_image}
-use Rattle.state.proofs.Numbers.{reading_back, reading_counted, reading_le, kind_back, kind_counted, kind_le, stage_back, stage_counted, stage_le, phase_back, phase_counted, phase_le, drawn_back, drawn_counted, drawn_le}
+use Rattle.state.specs.NumberLaws.{reading_back, kind_back, stage_back, phase_back, drawn_back}
+use Rattle.state.proofs.Numbers.{reading_counted, reading_le, kind_counted, kind_le, stage_counted, stage_le, phase_counted, phase_le, drawn_counted, drawn_le}
 use Rattle.state.proofs.Asking.{tests_ranged, lengths_hold}
 use Rattle.state.proofs.Tests.{all_at, all_behind, within_true, within_holds, none_or_true, none_or_holds, set_counts_true, set_counts_holds}
 use Rattle.state.proofs.LineCounts.{reading_before, reading_numbered_lem, stage_before, stage_numbered_lem, part_true, part_holds}

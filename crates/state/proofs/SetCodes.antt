@@ -16,7 +16,8 @@ use Rattle.state.specs.Number.{drawn_number, drawn_numbered}
 use Rattle.state.specs.Image.{bit_of, modes_of, marks_of, inputs_code}
 use Rattle.state.specs.Unpack.{odd, bit_at, modes_in, outputs_in, inputs_in}
 use Rattle.state.specs.Chain.{chain_of, no_chain, fcb_in, drawn_in}
-use Rattle.state.proofs.Numbers.{drawn_back, drawn_le}
+use Rattle.state.specs.NumberLaws.{drawn_back}
+use Rattle.state.proofs.Numbers.{drawn_le}
 use Rattle.state.proofs.Bits.{bit_le, bit_in, odd_bit, marked, sum_marks}
 
 -- ---- the number of the roles

@@ -35,6 +35,10 @@ abbrev pub wrote : List ℕ → ℕ → List ℕ → List ℕ
 wrote m i [] = m
 wrote m i (x ∷ xs) = wrote (set m i x) (suc i) xs
 
+-- the octets of an array of two, read one by one
+abbrev pub two : List ℕ → List ℕ
+two r = get_or r 0 0 ∷ get_or r 1 0 ∷ []
+
 -- the octets of an array of four, read one by one
 abbrev pub four : List ℕ → List ℕ
 four r = get_or r 0 0 ∷ get_or r 1 0 ∷ get_or r 2 0 ∷ get_or r 3 0 ∷ []

@@ -1,4 +1,5 @@
 pub mod Number
+pub mod NumberLaws
 pub mod Image
 pub mod Unpack
 pub mod With

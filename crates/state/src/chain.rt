@@ -3,8 +3,7 @@
 ghost use Rattle.std.specs.Prelude.{◌≡◌};
 ghost use Rattle.state.specs.Chain.{chain_of, no_chain, fcb_in, drawn_in};
 
-use crate::image::bit;
-use crate::number::{drawn_number, drawn_numbered};
+use crate::number::Numbered;
 use crate::state::Drawn;
 
 #[derive(Clone, Copy)]
@@ -20,20 +19,22 @@ impl Chain {
     pub const NO_MASTER: u8 = 127;
 
     // A request of this master, with this frame count bit, that drew this.
-    pub fn new(master: u8, fcb: bool, drawn: Drawn) -> Chain
+    pub fn new(master: u8, fcb: bool, drawn: Drawn) -> Self
         ensures { result ≡ chain_of master fcb drawn }
     {
-        let code = 2 * drawn_number(drawn) + bit(fcb);
-        Chain { code, master }
+        Self {
+            code: 2 * drawn.number() + u8::from(fcb),
+            master,
+        }
     }
 
     // No request that a telegram could repeat.
-    pub fn none() -> Chain
+    pub fn none() -> Self
         ensures { result ≡ no_chain }
     {
-        Chain {
+        Self {
             code: 0,
-            master: Chain::NO_MASTER,
+            master: Self::NO_MASTER,
         }
     }
 
@@ -48,6 +49,6 @@ impl Chain {
     pub fn drawn(self) -> Drawn
         ensures { result ≡ drawn_in self }
     {
-        drawn_numbered(self.code / 2)
+        Drawn::numbered(self.code / 2)
     }
 }

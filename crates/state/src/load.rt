@@ -5,12 +5,10 @@ ghost use Rattle.state.specs.Layout.{image_length};
 ghost use Rattle.state.specs.Unpack.{word_at, double_at, setup_in, flags_in, modes_in, sets_in, reader_in, sender_in, header_in, unpacked};
 
 use crate::chain::Chain;
-use crate::control::{Control, Diagnosis, Flags, Modes, Watchdog};
-use crate::number::{
-    drawn_numbered, kind_numbered, phase_numbered, reading_number, reading_numbered, stage_numbered,
-};
+use crate::control::{Control, Diagnosis, Flags, Modes, Phase, Watchdog};
+use crate::number::Numbered;
 use crate::setup::Setup;
-use crate::state::{Header, Incoming, Outputs, Reply, Sets, State};
+use crate::state::{Drawn, Header, Incoming, Outputs, Reply, Sets, State};
 use buffers::events::Events;
 use buffers::quad::Quad;
 use buffers::triple::Triple;
@@ -19,19 +17,12 @@ use telegram::reader::Reader;
 use telegram::sender::{Sender, Stage};
 use telegram::{Kind, reader};
 
-// An octet as a word.
-fn wide(octet: u8) -> u16
-    ensures { (result ≡ octet) × (result < 256) }
-{
-    octet as u16
-}
-
 // The word at i, its low octet first.
 fn word_at(mem: &[u8], i: usize) -> u16
     requires { i + 1 < length mem.now }
     ensures { result ≡ word_at mem.now i }
 {
-    wide(mem[i]) + 256 * wide(mem[i + 1])
+    u16::from_le_bytes([mem[i], mem[i + 1]])
 }
 
 // The double word at i, its low octet first, by one load.
@@ -111,8 +102,9 @@ pub fn events(mem: &[u8]) -> Events
     requires { image_length ≤ length mem.now }
     ensures { result ≡ (unpacked mem.now).control.events }
 {
-    let word = word_at(mem, 4);
-    Events { word }
+    Events {
+        word: word_at(mem, 4),
+    }
 }
 
 // Whether a clear is noted.
@@ -142,7 +134,7 @@ pub fn control(mem: &[u8]) -> Control
     let remaining = double_at(mem, 44);
     let reload = double_at(mem, 64);
     Control {
-        phase: phase_numbered(mem[21]),
+        phase: Phase::numbered(mem[21]),
         owner: mem[0],
         group: mem[1],
         stored: mem[2],
@@ -240,7 +232,7 @@ pub fn incoming(mem: &[u8]) -> Incoming
     ensures { result ≡ (unpacked mem.now).incoming }
 {
     Incoming {
-        reader: reader_in(mem, reading_numbered(mem[31]), kind_numbered(mem[30])),
+        reader: reader_in(mem, reader::Phase::numbered(mem[31]), Kind::numbered(mem[30])),
         first: mem[40],
         second: mem[41],
     }
@@ -251,7 +243,7 @@ pub fn takes_data(mem: &[u8]) -> bool
     requires { image_length ≤ length mem.now }
     ensures { result ≡ takes_data (unpacked mem.now).incoming.reader }
 {
-    (mem[31] == reading_number(reader::Phase::Body)) & (mem[33] < mem[32])
+    (mem[31] == reader::Phase::Body.number()) & (mem[33] < mem[32])
 }
 
 // The sender at a stage.
@@ -290,8 +282,8 @@ pub fn reply(mem: &[u8]) -> Reply
     ensures { result ≡ (unpacked mem.now).reply }
 {
     Reply {
-        drawn: drawn_numbered(mem[18]),
-        sender: sender_in(mem, stage_numbered(mem[17]), kind_numbered(mem[16])),
+        drawn: Drawn::numbered(mem[18]),
+        sender: sender_in(mem, Stage::numbered(mem[17]), Kind::numbered(mem[16])),
         place: mem[19],
         header: header_in(mem),
     }

@@ -7,8 +7,8 @@ ghost use Rattle.state.specs.With.{with_control_but_chain, with_standing, with_e
 
 use crate::chain::Chain;
 use crate::control::Control;
-use crate::image::{bit, double_octets, flags, high, inputs_code, low, modes, output_marks};
-use crate::number::{drawn_number, kind_number, phase_number, reading_number, stage_number};
+use crate::image::{double_octets, flags, inputs_code, modes, output_marks, word_octets};
+use crate::number::Numbered;
 use crate::state::{Incoming, Outputs, Reply, Sets};
 use buffers::events::Events;
 use buffers::triple::Triple;
@@ -20,10 +20,8 @@ pub fn save_incoming(i: Incoming, mem: &mut [u8])
     ensures { Changes mem.old mem.new (λ s. with_incoming s i) }
 {
     let reader = i.reader;
-    let phase = reader.phase;
-    let kind = reader.kind;
-    mem[30] = kind_number(kind);
-    mem[31] = reading_number(phase);
+    mem[30] = reader.kind.number();
+    mem[31] = reader.phase.number();
     mem[32] = reader.count;
     mem[33] = reader.at;
     mem[34] = reader.da;
@@ -60,10 +58,8 @@ pub fn save_sender(sender: Sender, mem: &mut [u8])
     requires { image_length ≤ length mem.old }
     ensures { Changes mem.old mem.new (λ s. with_sender s sender) }
 {
-    let stage = sender.stage;
-    let kind = sender.kind;
-    mem[16] = kind_number(kind);
-    mem[17] = stage_number(stage);
+    mem[16] = sender.kind.number();
+    mem[17] = sender.stage.number();
     mem[10] = sender.da;
     mem[11] = sender.sa;
     mem[12] = sender.fc;
@@ -77,8 +73,7 @@ fn save_outline(reply: Reply, mem: &mut [u8])
     requires { image_length ≤ length mem.old }
     ensures { Changes mem.old mem.new (λ s. with_outline s reply) }
 {
-    let drawn = reply.drawn;
-    mem[18] = drawn_number(drawn);
+    mem[18] = reply.drawn.number();
     mem[19] = reply.place;
     mem[6] = reply.header.status1;
     mem[7] = reply.header.status2;
@@ -100,8 +95,9 @@ pub fn save_events(events: Events, mem: &mut [u8])
     requires { image_length ≤ length mem.old }
     ensures { Changes mem.old mem.new (λ s. with_event_word s events) }
 {
-    mem[4] = low(events.word);
-    mem[5] = high(events.word);
+    let octets = word_octets(events.word);
+    mem[4] = octets[0];
+    mem[5] = octets[1];
 }
 
 // The ticks that remain of the watchdog: octets 44 to 47.
@@ -130,11 +126,10 @@ fn save_standing(control: Control, mem: &mut [u8])
     requires { image_length ≤ length mem.old }
     ensures { Changes mem.old mem.new (λ s. with_standing s control) }
 {
-    let phase = control.phase;
     let packed = flags(control.flags, control.noted);
     let packed_modes = modes(control.modes);
     let reload = double_octets(control.watchdog.reload);
-    mem[21] = phase_number(phase);
+    mem[21] = control.phase.number();
     mem[64] = reload[0];
     mem[65] = reload[1];
     mem[66] = reload[2];
@@ -202,5 +197,5 @@ pub fn save_swapped(swapped: bool, mem: &mut [u8])
     requires { image_length ≤ length mem.old }
     ensures { Changes mem.old mem.new (λ s. with_swapped s swapped) }
 {
-    mem[28] = bit(swapped);
+    mem[28] = u8::from(swapped);
 }

@@ -10,4 +10,4 @@ pub returns : goal.returns
 unfolding image
 returns c =
     let m = c.args.mem.now in
-    c.copy.ensures ∙ ap (λ (l : List ℕ). l ++ drop (length l) m) c.octets-a.ensures
+    c.copy.ensures ∙ ap (λ (l : List ℕ). l ++ drop (length l) m) c.octets.ensures

@@ -9,7 +9,7 @@ returns c =
     let m = c.args.mem.now in
     λ i.
     record {
-      phase = c.phase_numbered.ensures i;
+      phase = c.numbered.ensures i;
       owner = get_or m 0 0;
       group = get_or m 1 0;
       stored = get_or m 2 0;

@@ -6,4 +6,4 @@ use Rattle.state.proofs.load.events.Goals as goal
 
 pub returns : goal.returns
 unfolding unpacked
-returns c = ap (λ (w : ℕ). record { word = w }) c.word_at-word.ensures
+returns c = ap (λ (w : ℕ). record { word = w }) c.word_at.ensures

@@ -8,5 +8,5 @@ pub returns : goal.returns
 unfolding unpacked
 returns c =
     let m = c.args.mem.now in
-    let e = c.reader_in.ensures ∙ (λ j. reader_in m (c.reading_numbered.ensures j) (c.kind_numbered.ensures j)) in
+    let e = c.reader_in.ensures ∙ (λ j. reader_in m (c.numbered.ensures j) (c.numbered-2.ensures j)) in
     λ i. record { reader = e i; first = get_or m 40 0; second = get_or m 41 0 }

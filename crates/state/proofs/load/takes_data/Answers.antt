@@ -13,4 +13,4 @@ unfolding unpacked takes_data
 returns c =
     let m = c.args.mem.now in
     ap (λ (t : Bool). t && ltb (get_or m 33 0) (get_or m 32 0))
-    (ap (eqb (get_or m 31 0)) c.reading_number.ensures ∙ body_numbered (get_or m 31 0))
+    (ap (eqb (get_or m 31 0)) c.number.ensures ∙ body_numbered (get_or m 31 0))

@@ -6,4 +6,4 @@ use Rattle.state.proofs.saving.save_incoming.Goals as goal
 
 pub returns : goal.returns
 returns c =
-    let m = c.args.mem.now in let i = c.args.i in λ s e. (λ j. wrote m 30 (c.kind_number.ensures j ∷ c.reading_number.ensures j ∷ i.reader.count ∷ i.reader.at ∷ i.reader.da ∷ i.reader.sa ∷ i.reader.fc ∷ i.reader.dsap ∷ i.reader.ssap ∷ i.reader.sum ∷ i.first ∷ i.second ∷ [])) ∙ incoming_saved m s e _
+    let m = c.args.mem.now in let i = c.args.i in λ s e. (λ j. wrote m 30 (c.number.ensures j ∷ c.number-2.ensures j ∷ i.reader.count ∷ i.reader.at ∷ i.reader.da ∷ i.reader.sa ∷ i.reader.fc ∷ i.reader.dsap ∷ i.reader.ssap ∷ i.reader.sum ∷ i.first ∷ i.second ∷ [])) ∙ incoming_saved m s e _

@@ -6,4 +6,4 @@ use Rattle.state.proofs.saving.save_outline.Goals as goal
 
 pub returns : goal.returns
 returns c =
-    let m = c.args.mem.now in let i = c.args.reply in λ s e. (λ j. wrote (wrote m 18 (c.drawn_number.ensures j ∷ i.place ∷ [])) 6 (i.header.status1 ∷ i.header.status2 ∷ i.header.status3 ∷ i.header.master ∷ [])) ∙ outline_saved m s e i
+    let m = c.args.mem.now in let i = c.args.reply in λ s e. (λ j. wrote (wrote m 18 (c.number.ensures j ∷ i.place ∷ [])) 6 (i.header.status1 ∷ i.header.status2 ∷ i.header.status3 ∷ i.header.master ∷ [])) ∙ outline_saved m s e i

@@ -13,7 +13,7 @@ returns c =
     wrote
     (wrote
     (wrote
-    (wrote (wrote m 21 (c.phase_number.ensures j ∷ [])) 64 (four (c.double_octets-reload.ensures j)))
+    (wrote (wrote m 21 (c.number.ensures j ∷ [])) 64 (four (c.double_octets-reload.ensures j)))
     0 (x.owner ∷ x.group ∷ x.stored ∷ c.flags-packed.ensures j ∷ []))
     26 (x.diagnosis.delayed_flags ∷ c.modes-packed_modes.ensures j ∷ []))
     56 (x.diagnosis.count ∷ x.diagnosis.delayed_count ∷ []))

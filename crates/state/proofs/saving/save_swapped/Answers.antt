@@ -6,4 +6,4 @@ use Rattle.state.proofs.saving.save_swapped.Goals as goal
 
 pub returns : goal.returns
 returns c =
-    let m = c.args.mem.now in λ s e. (λ j. wrote m 28 (c.bit.ensures.0 j ∷ [])) ∙ swapped_saved m s e _
+    let m = c.args.mem.now in λ s e. (λ j. wrote m 28 (c.from.ensures j ∷ [])) ∙ swapped_saved m s e _
