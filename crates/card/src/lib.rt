@@ -14,7 +14,9 @@ ghost use Rattle.window.specs.Calls.{entered_by, entered};
 ghost use Rattle.card.specs.Exports.{Returns};
 
 use state::answer::code;
+use state::setup::Given;
 use station::calls;
+use station::start::start;
 use window::command::Command;
 use window::order::Order;
 
@@ -33,8 +35,7 @@ pub fn dp_start(
 ) -> i64
     ensures { Returns (started memory.old (given address ident output_len input_len parameter_len configuration_len diagnosis_len (length get_cfg.now)) get_cfg.now channels.now) result memory.new }
 {
-    code(station::start::start(
-        memory,
+    let given = Given {
         address,
         ident,
         output_len,
@@ -42,9 +43,8 @@ pub fn dp_start(
         parameter_len,
         configuration_len,
         diagnosis_len,
-        get_cfg,
-        channels,
-    ))
+    };
+    code(start(memory, given, get_cfg, channels))
 }
 
 // The bus's octet. bad: 0 for one that was well received, any other value flags it.

@@ -10,6 +10,7 @@ use Rattle.channels.specs.Setting as channel
 use Rattle.telegram.specs.Reading.{off}
 use Rattle.telegram.specs.Sending.{empty}
 use Rattle.state.specs.declared.setup.Setup.{Setup}
+use Rattle.state.specs.declared.setup.Given.{Given}
 use Rattle.state.specs.declared.control.Control.{Control}
 use Rattle.state.specs.declared.control.Phase.TheVariants.{WaitPrm}
 use Rattle.state.specs.declared.state.State.{State}
@@ -36,6 +37,10 @@ given address ident outputs inputs parameters configuration diagnosis n =
       diagnosis_len = diagnosis;
       get_cfg_len = n;
     }
+
+-- the same of the numbers in one
+abbrev pub given_by : Given → ℕ → Setup
+given_by g n = given g.address g.ident g.output_len g.input_len g.parameter_len g.configuration_len g.diagnosis_len n
 
 -- all lengths are in their ranges, and not both of outputs and inputs 0
 unfoldable pub lengths_ok : Setup → Bool

@@ -11,14 +11,14 @@ pub enum Phase {
 }
 
 // Ticks of 1 ms: what the watchdog is refilled to, 0 where it is off, and how many remain. 10 × 255 × 255 do not fit a word of 16 bits.
-#[derive(Clone, Copy)]
+#[derive(Clone, Copy, Default)]
 pub struct Watchdog {
     pub reload: u32,
     pub remaining: u32,
 }
 
 // The flags that diagnosis shows, Diag_Flag, and whether the parameters were judged good.
-#[derive(Clone, Copy)]
+#[derive(Clone, Copy, Default)]
 pub struct Flags {
     pub prm_fault: bool,
     pub cfg_fault: bool,
@@ -30,7 +30,7 @@ pub struct Flags {
 }
 
 // Sync and freeze: whether each mode is on, and whether Set_Prm allowed it.
-#[derive(Clone, Copy)]
+#[derive(Clone, Copy, Default)]
 pub struct Modes {
     pub sync: bool,
     pub freeze: bool,
@@ -39,7 +39,7 @@ pub struct Modes {
 }
 
 // How many octets diagnosis has, and a new diagnosis that is delayed: its count, 0 where none is, and its flags.
-#[derive(Clone, Copy)]
+#[derive(Clone, Copy, Default)]
 pub struct Diagnosis {
     pub count: u8,
     pub delayed_count: u8,

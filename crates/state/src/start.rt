@@ -2,12 +2,13 @@
 ghost use Rattle.std.specs.Prelude.{◌≡◌, ◌≤◌, length};
 ghost use Rattle.channels.specs.Setting.{length_octets, lengths_given};
 ghost use Rattle.state.specs.Layout.{end_of, last_end};
-ghost use Rattle.state.specs.Start.{given, lengths_ok, asked, first_control, no_sets, no_reply, initial_state, wiped, laid_out};
+ghost use Rattle.state.specs.Sound.{Ranged};
+ghost use Rattle.state.specs.Start.{given_by, lengths_ok, asked, first_control, no_sets, no_reply, initial_state, wiped, laid_out};
 
 use crate::answer::Refusal;
 use crate::chain::Chain;
 use crate::control::{Control, Diagnosis, Flags, Modes, Phase, Watchdog};
-use crate::setup::Setup;
+use crate::setup::{Given, Setup};
 use crate::state::{Drawn, Header, Incoming, Outputs, Reply, Sets, State};
 use crate::{image, layout};
 use buffers::events::Events;
@@ -18,65 +19,47 @@ use telegram::reader::Reader;
 use telegram::sender::Sender;
 
 // The ranges of the lengths and of the slice's, and that not both of outputs and inputs are 0.
-fn lengths_ok(
-    outputs: u32,
-    inputs: u32,
-    parameters: u32,
-    configuration: u32,
-    diagnosis: u32,
-    get_cfg: usize,
-) -> bool
-    ensures { result ≡ lengths_ok (given 0 0 outputs inputs parameters configuration diagnosis get_cfg) }
+#[tactic(auto, unfolding(crate::specs::Start::lengths_ok))]
+fn lengths_ok(given: Given, get_cfg: usize) -> bool
+    ensures { result ≡ lengths_ok (given_by given get_cfg) }
 {
-    !((outputs == 0) & (inputs == 0))
-        & (outputs <= 244)
-        & (inputs <= 244)
-        & ((7 <= parameters) & (parameters <= 244))
-        & ((1 <= configuration) & (configuration <= 244))
-        & ((6 <= diagnosis) & (diagnosis <= 244))
+    !((given.output_len == 0) & (given.input_len == 0))
+        & (given.output_len <= 244)
+        & (given.input_len <= 244)
+        & ((7 <= given.parameter_len) & (given.parameter_len <= 244))
+        & ((1 <= given.configuration_len) & (given.configuration_len <= 244))
+        & ((6 <= given.diagnosis_len) & (given.diagnosis_len <= 244))
         & ((1 <= get_cfg) & (get_cfg <= 244))
 }
 
-// The setup from the numbers that Start is given, or which of them is refused.
-pub fn setup_of(
-    address: u32,
-    ident: u16,
-    outputs: u32,
-    inputs: u32,
-    parameters: u32,
-    configuration: u32,
-    diagnosis: u32,
-    get_cfg: usize,
-    channels: &[u8],
-) -> Result<Setup, Refusal>
-    ensures { result ≡ asked (given address ident outputs inputs parameters configuration diagnosis get_cfg) channels.now }
+// The numbers as they are kept.
+fn narrowed(given: Given, get_cfg: usize) -> Setup
+    requires { Ranged (given_by given get_cfg) }
+    ensures { result ≡ given_by given get_cfg }
 {
-    if 126 < address {
+    Setup {
+        address: given.address as u8,
+        ident: given.ident,
+        output_len: given.output_len as u8,
+        input_len: given.input_len as u8,
+        parameter_len: given.parameter_len as u8,
+        configuration_len: given.configuration_len as u8,
+        diagnosis_len: given.diagnosis_len as u8,
+        get_cfg_len: get_cfg as u8,
+    }
+}
+
+// The setup from the numbers that Start is given, or which of them is refused. get_cfg: how many octets Get_Cfg sends.
+pub fn setup_of(given: Given, get_cfg: usize, channels: &[u8]) -> Result<Setup, Refusal>
+    ensures { result ≡ asked (given_by given get_cfg) channels.now }
+{
+    if 126 < given.address {
         return Err(Refusal::Address);
     }
-    if !lengths_ok(
-        outputs,
-        inputs,
-        parameters,
-        configuration,
-        diagnosis,
-        get_cfg,
-    ) {
+    if !(lengths_ok(given, get_cfg) & setting::lengths_ok(channels)) {
         return Err(Refusal::Length);
     }
-    if !setting::lengths_ok(channels) {
-        return Err(Refusal::Length);
-    }
-    Ok(Setup {
-        address: address as u8,
-        ident,
-        output_len: outputs as u8,
-        input_len: inputs as u8,
-        parameter_len: parameters as u8,
-        configuration_len: configuration as u8,
-        diagnosis_len: diagnosis as u8,
-        get_cfg_len: get_cfg as u8,
-    })
+    Ok(narrowed(given, get_cfg))
 }
 
 // WAIT_PRM, no owner, no flags, no events, diagnosis count 6, no chain.
@@ -88,32 +71,15 @@ fn first_control() -> Control
         owner: Control::NO_OWNER,
         group: 0,
         stored: 0,
-        watchdog: Watchdog {
-            reload: 0,
-            remaining: 0,
-        },
-        flags: Flags {
-            prm_fault: false,
-            cfg_fault: false,
-            ext_diag: false,
-            stat_diag: false,
-            overflow: false,
-            diag_flag: false,
-            parameters_good: false,
-        },
+        watchdog: Watchdog::default(),
+        flags: Flags::default(),
         events: Events::none(),
         noted: false,
         diagnosis: Diagnosis {
             count: 6,
-            delayed_count: 0,
-            delayed_flags: 0,
+            ..Diagnosis::default()
         },
-        modes: Modes {
-            sync: false,
-            freeze: false,
-            sync_allowed: false,
-            freeze_allowed: false,
-        },
+        modes: Modes::default(),
         chain: Chain::none(),
     }
 }
@@ -137,12 +103,7 @@ pub fn no_reply() -> Reply
         drawn: Drawn::Nothing,
         sender: Sender::empty(),
         place: 0,
-        header: Header {
-            status1: 0,
-            status2: 0,
-            status3: 0,
-            master: 0,
-        },
+        header: Header::default(),
     }
 }
 

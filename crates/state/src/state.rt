@@ -50,7 +50,7 @@ pub enum Drawn {
 }
 
 // The first diagnosis octets as they were when the reply was drawn: the three status octets and the master's address.
-#[derive(Clone, Copy)]
+#[derive(Clone, Copy, Default)]
 pub struct Header {
     pub status1: u8,
     pub status2: u8,

@@ -2,12 +2,12 @@
 ghost use Rattle.std.specs.Prelude.{◌≡◌, length};
 ghost use Rattle.channels.specs.Setting.{length_octets};
 ghost use Rattle.state.specs.Answer.{Meets};
-ghost use Rattle.state.specs.Start.{given};
+ghost use Rattle.state.specs.Start.{given_by};
 ghost use Rattle.steps.specs.Calls.{started_in, started};
 
 use crate::memory::length_ok;
 use state::answer::{Answer, Refusal};
-use state::setup::Setup;
+use state::setup::{Given, Setup};
 use state::start::{last_end, lay_out, setup_of};
 
 // A setup that was accepted is laid out, if its buffers and those of the channels have room.
@@ -24,37 +24,12 @@ fn start_in(mem: &mut [u8], setup: Setup, get_cfg: &[u8], channels: &[u8]) -> An
 }
 
 // Start.
-pub fn start(
-    mem: &mut [u8],
-    address: u32,
-    ident: u16,
-    output_len: u32,
-    input_len: u32,
-    parameter_len: u32,
-    configuration_len: u32,
-    diagnosis_len: u32,
-    get_cfg: &[u8],
-    channels: &[u8],
-) -> Answer
-    ensures { Meets
-        (started mem.old
-        (given address ident output_len input_len parameter_len configuration_len diagnosis_len (length get_cfg.now))
-        get_cfg.now channels.now)
-        result mem.new }
+pub fn start(mem: &mut [u8], given: Given, get_cfg: &[u8], channels: &[u8]) -> Answer
+    ensures { Meets (started mem.old (given_by given (length get_cfg.now)) get_cfg.now channels.now) result mem.new }
 {
     if !length_ok(mem.len()) {
         return Err(Refusal::MemoryLength);
     }
-    let setup = setup_of(
-        address,
-        ident,
-        output_len,
-        input_len,
-        parameter_len,
-        configuration_len,
-        diagnosis_len,
-        get_cfg.len(),
-        channels,
-    )?;
+    let setup = setup_of(given, get_cfg.len(), channels)?;
     start_in(mem, setup, get_cfg, channels)
 }
