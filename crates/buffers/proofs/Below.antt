@@ -1,8 +1,9 @@
 -- What holds of each number below k, one by one, holds of every number below k.
 use Prim.Native.Nat.{ℕ, zero, suc, ◌<◌}
 use native.Mathlib.Nat.{not-suc-le-zero, le_of_suc-le-suc}
-use mathlib.Core.Path.{◌≡◌, refl}
-use mathlib.Core.Bool.{Bool, true, false, ◌&&◌, false≢true}
+use mathlib.Core.Path.{◌≡◌}
+use mathlib.Core.Bool.{Bool, true, ◌&&◌}
+use Rattle.std.proofs.lemmas.Bool.{and_parts}
 
 -- P holds of 0, of 1, and so on up to k - 1
 abbrev pub Each : ℕ → (ℕ → Type 0) → Type 0
@@ -22,13 +23,8 @@ abbrev pub all_below : ℕ → (ℕ → Bool) → Bool
 all_below zero p = true
 all_below (suc k) p = p zero && all_below k (λ n. p (suc n))
 
--- both of two tests that pass
-pub both : (a b : Bool) → (a && b) ≡ true → (a ≡ true) × (b ≡ true)
-both true b h = (refl, h)
-both false b h = absurd (false≢true h)
-
 -- from each one to all
 pub passes_below : (k : ℕ) (p : ℕ → Bool) → all_below k p ≡ true → (n : ℕ) → n < k → p n ≡ true
 passes_below zero p e n h = absurd (not-suc-le-zero h)
-passes_below (suc k) p e zero h = (both (p zero) (all_below k (λ n. p (suc n))) e).0
-passes_below (suc k) p e (suc n) h = passes_below k (λ m. p (suc m)) (both (p zero) (all_below k (λ n. p (suc n))) e).1 n (le_of_suc-le-suc h)
+passes_below (suc k) p e zero h = (and_parts (p zero) (all_below k (λ n. p (suc n))) e).0
+passes_below (suc k) p e (suc n) h = passes_below k (λ m. p (suc m)) (and_parts (p zero) (all_below k (λ n. p (suc n))) e).1 n (le_of_suc-le-suc h)

@@ -1,11 +1,13 @@
 -- The bits of a word after the operations on words, at every width.
-use Prim.Native.Nat.{ℕ, zero, suc, ◌/◌, ◌%◌, ◌^◌}
+use Prim.Native.Nat.{ℕ, zero, suc, ◌-◌, ◌<◌, ◌/◌, ◌%◌, ◌^◌}
+use native.Mathlib.Omega.{arith}
 use native.Mathlib.Nat.{mod-lt, zero-lt-suc, div-one, zero-div, div-eq_of_lt, mul-div-mul_right, mul-mod_left, pow-suc}
 use mathlib.Core.Path.{◌≡◌, refl, sym, ap, ap₂, ◌∙◌}
 use mathlib.Core.Bool.{Bool, true, false, not, cond, ◌&&◌, ◌||◌}
 use lib.Dec.{eqb, eqb-zero-suc, eqb-suc-zero, eqb-suc-suc}
 use lib.Pow.{pow-lt}
-use lib.Bits.{bit_and, bit_or, bit_xor, and_shr, or_shr, xor_shr, and_mod, or_mod, xor_mod}
+use lib.Bits.{bit_and, bit_or, bit_xor, and_comm, and_self, xor_add_and, and_shr, or_shr, xor_shr, and_mod, or_mod, xor_mod}
+use Rattle.std.proofs.lemmas.Nat.{and-not, and_assoc}
 use Rattle.buffers.specs.Events.{bit, without}
 use Rattle.buffers.proofs.Below.{Each, below}
 
@@ -50,6 +52,16 @@ unlike_and false t = refl
 pub bit_without : (w mask n : ℕ) → bit (without w mask) n ≡ (bit w n && not (bit mask n))
 bit_without w mask n =
     bit_xor_lem w (bit_and w mask) n ∙ ap (unlike (bit w n)) (bit_and_lem w mask n) ∙ unlike_and (bit w n) (bit mask n)
+
+-- the bits of the complement are those that the mask has not
+pub and_complement : (w mask : ℕ) → w < 65536 → mask < 65536 → bit_and w (65535 - mask) ≡ without w mask
+and_complement w mask hw hm =
+    let split = and-not 16 mask w hm hw in
+    let both = xor_add_and w (bit_and w mask) in
+    let same : bit_and w (bit_and w mask) ≡ bit_and w mask = sym (and_assoc mask w w) ∙ ap (λ x. bit_and x mask) (and_self w) in
+    let turned = and_comm w (65535 - mask) in
+    let turned2 = and_comm w mask in
+    omega (arith, split, both, same, turned, turned2)
 
 -- no bit of 0 is set
 pub bit_zero : (n : ℕ) → bit 0 n ≡ false

@@ -3,7 +3,6 @@ pub mod Roles
 pub mod Triples
 pub mod Quads
 pub mod Numbers
-pub mod Flag
 pub mod Bits
 pub mod Word
 pub mod Pending

@@ -2,14 +2,18 @@
 use Prim.Native.Nat.{ℕ, zero, suc, ◌-◌, ◌%◌, ◌<◌, ◌≤◌}
 use native.Mathlib.Omega.{arith}
 use mathlib.Core.Path.{◌≡◌, refl, sym, ap, subst, ◌∙◌}
-use mathlib.Core.Bool.{Bool, true, false, cond, ◌&&◌, false≢true}
+use mathlib.Core.Bool.{Bool, true, false, cond, ◌&&◌}
 use mathlib.Core.List.{List, [], ◌∷◌}
 use lib.ListN.{length, get_or}
 use borrow.Author.Tests.{eqb-true, ne_eqb}
 use lib.Dec.{eqb, ltb}
 use Rattle.buffers.specs.Roles.{fill_of, next_of, held_of, back_of, Permutation}
 use Rattle.buffers.specs.Number.{before, number_of, permutations, places_of, number_of4, permutations4, places_of4}
-use Rattle.buffers.proofs.Below.{all_below, both, passes_below}
+use lib.Pointwise.{pointwise}
+use Rattle.std.specs.Cmp.Lexicographic.{same_text}
+use Rattle.std.proofs.lemmas.List.{get_or_past}
+use Rattle.std.proofs.lemmas.Bool.{and_parts}
+use Rattle.buffers.proofs.Below.{all_below, passes_below}
 use Rattle.buffers.proofs.Roles.{permutes, tested}
 
 -- a flag adds one at most
@@ -19,21 +23,6 @@ before_le x y = go (ltb x y)
     go : (t : Bool) → cond t 1 0 ≤ 1
     go true = omega arith
     go false = omega arith
-
--- two lists are the same
-abbrev same : List ℕ → List ℕ → Bool
-same [] [] = true
-same [] (y ∷ ys) = false
-same (x ∷ xs) [] = false
-same (x ∷ xs) (y ∷ ys) = eqb x y && same xs ys
-
-same_true : (l r : List ℕ) → same l r ≡ true → l ≡ r
-same_true [] [] h = refl
-same_true [] (y ∷ ys) h = absurd (false≢true h)
-same_true (x ∷ xs) [] h = absurd (false≢true h)
-same_true (x ∷ xs) (y ∷ ys) h =
-    let b = both (eqb x y) (same xs ys) h in
-    λ i. eqb-true x y b.0 i ∷ same_true xs ys b.1 i
 
 -- a permutation by its tests
 abbrev is_permutation : ℕ → List ℕ → Bool
@@ -57,10 +46,15 @@ listed : (w : ℕ) (table : List (List ℕ)) → all_in (is_permutation w) table
     → Permutation w (get_or table n none)
 listed w [] h n none e t = tested w none e t
 listed w (l ∷ table) h zero none e t =
-    let q = (both (is_permutation w l) (all_in (is_permutation w) table) h).0 in
-    let r = both (eqb (length l) w) (permutes w l) q in
+    let q = (and_parts (is_permutation w l) (all_in (is_permutation w) table) h).0 in
+    let r = and_parts (eqb (length l) w) (permutes w l) q in
     tested w l (eqb-true (length l) w r.0) r.1
-listed w (l ∷ table) h (suc n) none e t = listed w table (both (is_permutation w l) (all_in (is_permutation w) table) h).1 n none e t
+listed w (l ∷ table) h (suc n) none e t = listed w table (and_parts (is_permutation w l) (all_in (is_permutation w) table) h).1 n none e t
+
+-- where what stands for none is the first, it is given at 0 and past the end
+pub first_listed : (table : List (List ℕ)) (n : ℕ) (none : List ℕ) → get_or table 0 none ≡ none → (n < length table → n ≡ 0) → get_or table n none ≡ none
+first_listed table zero none first only = first
+first_listed table (suc n) none first only = get_or_past table (suc n) none (grind (arith, only))
 
 -- ---- three roles
 
@@ -89,7 +83,7 @@ three (a ∷ b ∷ c ∷ d ∷ l) e = absurd (omega (arith, e))
 -- three places that differ come back from their number
 abbrev come_back : ℕ → ℕ → ℕ → Bool
 come_back a b c =
-    cond (eqb a b) true (cond (eqb a c) true (cond (eqb b c) true (same (places_of (number_of (a ∷ b ∷ c ∷ []))) (a ∷ b ∷ c ∷ []))))
+    cond (eqb a b) true (cond (eqb a c) true (cond (eqb b c) true (pointwise eqb (places_of (number_of (a ∷ b ∷ c ∷ []))) (a ∷ b ∷ c ∷ []))))
 
 all_come_back : (a b c : ℕ) → a < 3 → b < 3 → c < 3 → come_back a b c ≡ true
 unfolding places_of
@@ -102,11 +96,11 @@ all_come_back a b c ha hb hc =
 pub places_number : (l : List ℕ) → Permutation 3 l → places_of (number_of l) ≡ l
 places_number l p =
     subst (λ x. places_of (number_of x) ≡ x) (three l p.long)
-    (same_true _ _
+    (same_text _ _ (sym
     (skip (differ p 1 2 (omega arith) (omega arith))
     (skip (differ p 0 2 (omega arith) (omega arith))
     (skip (differ p 0 1 (omega arith) (omega arith))
-    (all_come_back (fill_of l) (next_of l) (held_of l) (p.within 0 (omega arith)) (p.within 1 (omega arith)) (p.within 2 (omega arith)))))))
+    (all_come_back (fill_of l) (next_of l) (held_of l) (p.within 0 (omega arith)) (p.within 1 (omega arith)) (p.within 2 (omega arith))))))))
 
 -- ---- four roles
 
@@ -144,7 +138,7 @@ come_back4 a b c d =
     (cond (eqb a d) true
     (cond (eqb b c) true
     (cond (eqb b d) true
-    (cond (eqb c d) true (same (places_of4 (number_of4 (a ∷ b ∷ c ∷ d ∷ []))) (a ∷ b ∷ c ∷ d ∷ [])))))))
+    (cond (eqb c d) true (pointwise eqb (places_of4 (number_of4 (a ∷ b ∷ c ∷ d ∷ []))) (a ∷ b ∷ c ∷ d ∷ [])))))))
 
 all_come_back4 : (a b c d : ℕ) → a < 4 → b < 4 → c < 4 → d < 4 → come_back4 a b c d ≡ true
 unfolding places_of4
@@ -158,11 +152,11 @@ all_come_back4 a b c d ha hb hc hd =
 pub places4_number : (l : List ℕ) → Permutation 4 l → places_of4 (number_of4 l) ≡ l
 places4_number l p =
     subst (λ x. places_of4 (number_of4 x) ≡ x) (four l p.long)
-    (same_true _ _
+    (same_text _ _ (sym
     (skip (differ p 2 3 (omega arith) (omega arith))
     (skip (differ p 1 3 (omega arith) (omega arith))
     (skip (differ p 1 2 (omega arith) (omega arith))
     (skip (differ p 0 3 (omega arith) (omega arith))
     (skip (differ p 0 2 (omega arith) (omega arith))
     (skip (differ p 0 1 (omega arith) (omega arith))
-    (all_come_back4 (fill_of l) (next_of l) (held_of l) (back_of l) (p.within 0 (omega arith)) (p.within 1 (omega arith)) (p.within 2 (omega arith)) (p.within 3 (omega arith))))))))))
+    (all_come_back4 (fill_of l) (next_of l) (held_of l) (back_of l) (p.within 0 (omega arith)) (p.within 1 (omega arith)) (p.within 2 (omega arith)) (p.within 3 (omega arith)))))))))))

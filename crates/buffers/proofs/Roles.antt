@@ -8,7 +8,7 @@ use mathlib.Core.List.{List, [], ◌∷◌}
 use lib.ListN.{length, get_or}
 use lib.Dec.{eqb, ltb}
 use borrow.Author.Tests.{eqb-true, eqb-false, eq-eqb, ltb-true}
-use Rattle.buffers.proofs.Below.{both}
+use Rattle.std.proofs.lemmas.Bool.{and_parts}
 use Rattle.buffers.specs.Roles.{Permutation, places_by, across, exchanged}
 
 -- ---- the places by a function
@@ -101,16 +101,16 @@ differs x y h = go (eqb x y) refl h
 
 absent_at : (x : ℕ) (l : List ℕ) (j : ℕ) → j < length l → absent x l ≡ true → ¬ (x ≡ get_or l j 0)
 absent_at x [] j h t = absurd (not-suc-le-zero h)
-absent_at x (y ∷ ys) zero h t = differs x y (both (not (eqb x y)) (absent x ys) t).0
-absent_at x (y ∷ ys) (suc j) h t = absent_at x ys j (le_of_suc-le-suc h) (both (not (eqb x y)) (absent x ys) t).1
+absent_at x (y ∷ ys) zero h t = differs x y (and_parts (not (eqb x y)) (absent x ys) t).0
+absent_at x (y ∷ ys) (suc j) h t = absent_at x ys j (le_of_suc-le-suc h) (and_parts (not (eqb x y)) (absent x ys) t).1
 
 -- what the test says of those behind the first
 behind : (n x : ℕ) (xs : List ℕ) → permutes n (x ∷ xs) ≡ true → (absent x xs ≡ true) × (permutes n xs ≡ true)
-behind n x xs t = both (absent x xs) (permutes n xs) (both (ltb x n) (absent x xs && permutes n xs) t).1
+behind n x xs t = and_parts (absent x xs) (permutes n xs) (and_parts (ltb x n) (absent x xs && permutes n xs) t).1
 
 within_at : (n : ℕ) (l : List ℕ) (i : ℕ) → i < length l → permutes n l ≡ true → get_or l i 0 < n
 within_at n [] i h t = absurd (not-suc-le-zero h)
-within_at n (x ∷ xs) zero h t = ltb-true x n (both (ltb x n) (absent x xs && permutes n xs) t).0
+within_at n (x ∷ xs) zero h t = ltb-true x n (and_parts (ltb x n) (absent x xs && permutes n xs) t).0
 within_at n (x ∷ xs) (suc i) h t = within_at n xs i (le_of_suc-le-suc h) (behind n x xs t).1
 
 apart_at : (n : ℕ) (l : List ℕ) (i j : ℕ) → i < length l → j < length l → permutes n l ≡ true → ¬ (i ≡ j) → ¬ (get_or l i 0 ≡ get_or l j 0)

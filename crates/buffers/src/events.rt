@@ -3,7 +3,7 @@ ghost use Rattle.std.specs.Prelude.{◌≡◌};
 ghost use Rattle.buffers.specs.Events.{only, no_events, raised, cleared, acknowledged, pending_of};
 
 // The events that are set: event n is bit n of the word.
-#[derive(Clone, Copy)]
+#[derive(Clone, Copy, PartialEq, Eq, Debug)]
 pub struct Events {
     pub word: u16,
 }
@@ -49,19 +49,16 @@ impl Events {
     pub fn raise(mut self, number: u8) -> Self
         ensures { result ≡ raised self number }
     {
-        let one = Self::of(number);
-        let word = self.word | one.word;
-        self.word = word;
+        self.word |= Self::of(number).word;
         self
     }
 
     // The event is not set any more.
+    #[tactic(auto, using(crate::proofs::Bits::and_complement))]
     pub fn clear(mut self, number: u8) -> Self
         ensures { result ≡ cleared self number }
     {
-        let one = Self::of(number);
-        let word = self.word ^ (self.word & one.word);
-        self.word = word;
+        self.word &= !Self::of(number).word;
         self
     }
 
@@ -69,9 +66,8 @@ impl Events {
     pub fn acknowledge(mut self, mask: u16) -> Self
         ensures { result ≡ acknowledged self mask }
     {
-        let ends = mask ^ (mask & Self::KEPT);
-        let word = self.word ^ (self.word & ends);
-        self.word = word;
+        let ends = mask & !Self::KEPT;
+        self.word &= !ends;
         self
     }
 
@@ -79,6 +75,6 @@ impl Events {
     pub fn pending(self) -> u8
         ensures { result ≡ pending_of self }
     {
-        u16::trailing_zeros(self.word) as u8
+        self.word.trailing_zeros() as u8
     }
 }

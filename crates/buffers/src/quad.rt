@@ -6,7 +6,8 @@ ghost use Rattle.buffers.specs.Number.{number_of4, places_of4, numbered4};
 
 // One value holding its roles: the places of fill, next, held and back in this order, whether next is new, and whether back holds
 // outputs that sync holds back.
-#[derive(Clone, Copy)]
+// Not one Set<N> with Triple: the reason stands there.
+#[derive(Clone, Copy, PartialEq, Eq, Debug)]
 pub struct Quad {
     pub place: [u8; 4],
     pub fresh: bool,
@@ -18,9 +19,8 @@ impl Quad {
     pub fn new() -> Self
         ensures { result ≡ initial }
     {
-        let place = [0, 1, 2, 3];
         Self {
-            place,
+            place: [0, 1, 2, 3],
             fresh: false,
             withheld: false,
         }
@@ -51,8 +51,7 @@ impl Quad {
     pub fn publish(mut self) -> Self
         ensures { result ≡ published self }
     {
-        let place = [self.place[1], self.place[0], self.place[2], self.place[3]];
-        self.place = place;
+        self.place.swap(0, 1);
         self.fresh = true;
         self
     }
@@ -61,8 +60,7 @@ impl Quad {
     pub fn take(mut self) -> Self
         ensures { result ≡ taken self }
     {
-        let place = [self.place[0], self.place[2], self.place[1], self.place[3]];
-        self.place = place;
+        self.place.swap(1, 2);
         self.fresh = false;
         self
     }
@@ -71,8 +69,7 @@ impl Quad {
     pub fn hold_back(mut self) -> Self
         ensures { result ≡ held_back self }
     {
-        let place = [self.place[3], self.place[1], self.place[2], self.place[0]];
-        self.place = place;
+        self.place.swap(0, 3);
         self.withheld = true;
         self
     }
@@ -81,8 +78,7 @@ impl Quad {
     pub fn release(mut self) -> Self
         ensures { result ≡ released self }
     {
-        let place = [self.place[0], self.place[3], self.place[2], self.place[1]];
-        self.place = place;
+        self.place.swap(1, 3);
         self.fresh = true;
         self.withheld = false;
         self
@@ -103,16 +99,15 @@ impl Quad {
     {
         let behind = self.place[0] < self.place[1];
         let later = self.place[3] < self.place[2];
-        6 * (self.place[0] % 4) + 2 * ((self.place[1] - (behind as u8)) % 3) + (later as u8)
+        6 * (self.place[0] % 4) + 2 * ((self.place[1] - u8::from(behind)) % 3) + u8::from(later)
     }
 
     // The set whose roles have that number.
     pub fn numbered(n: u8, fresh: bool, withheld: bool) -> Self
         ensures { result ≡ numbered4 n fresh withheld }
     {
-        let place = places(n);
         Self {
-            place,
+            place: places(n),
             fresh,
             withheld,
         }
@@ -120,6 +115,7 @@ impl Quad {
 }
 
 // The places of fill, next, held and back that have that number; past the last number those of the first.
+// A match and no table: this is one load of a word, and a row of a table is one for each octet on Cortex-M0.
 #[tactic(auto, unfolding(crate::specs::Number::places_of4))]
 fn places(n: u8) -> [u8; 4]
     ensures { result ≡ places_of4 n }

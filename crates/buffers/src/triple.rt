@@ -5,7 +5,8 @@ ghost use Rattle.buffers.specs.Triple.{initial, published, taken, handed_over, b
 ghost use Rattle.buffers.specs.Number.{number_of, places_of, numbered};
 
 // One value holding its roles: the places of fill, next and held in this order, and whether next is new.
-#[derive(Clone, Copy)]
+// Not one Set<N> with Quad: document 01 names the [u8; 3], and each method that the two share would ask that N be 3 or more.
+#[derive(Clone, Copy, PartialEq, Eq, Debug)]
 pub struct Triple {
     pub place: [u8; 3],
     pub fresh: bool,
@@ -16,9 +17,8 @@ impl Triple {
     pub fn new() -> Self
         ensures { result ≡ initial }
     {
-        let place = [0, 1, 2];
         Self {
-            place,
+            place: [0, 1, 2],
             fresh: false,
         }
     }
@@ -48,8 +48,7 @@ impl Triple {
     pub fn publish(mut self) -> Self
         ensures { result ≡ published self }
     {
-        let place = [self.place[1], self.place[0], self.place[2]];
-        self.place = place;
+        self.place.swap(0, 1);
         self.fresh = true;
         self
     }
@@ -58,8 +57,7 @@ impl Triple {
     pub fn take(mut self) -> Self
         ensures { result ≡ taken self }
     {
-        let place = [self.place[0], self.place[2], self.place[1]];
-        self.place = place;
+        self.place.swap(1, 2);
         self.fresh = false;
         self
     }
@@ -68,8 +66,7 @@ impl Triple {
     pub fn hand_over(mut self) -> Self
         ensures { result ≡ handed_over self }
     {
-        let place = [self.place[0], self.place[2], self.place[1]];
-        self.place = place;
+        self.place.swap(1, 2);
         self.fresh = true;
         self
     }
@@ -78,8 +75,7 @@ impl Triple {
     pub fn bring(mut self) -> Self
         ensures { result ≡ brought self }
     {
-        let place = [self.place[1], self.place[0], self.place[2]];
-        self.place = place;
+        self.place.swap(0, 1);
         self.fresh = false;
         self
     }
@@ -88,8 +84,7 @@ impl Triple {
     pub fn show(mut self) -> Self
         ensures { result ≡ shown self }
     {
-        let place = [self.place[2], self.place[1], self.place[0]];
-        self.place = place;
+        self.place.swap(0, 2);
         self
     }
 
@@ -106,19 +101,22 @@ impl Triple {
         ensures { result ≡ number_of self.place }
     {
         let later = self.place[2] < self.place[1];
-        2 * (self.place[0] % 3) + (later as u8)
+        2 * (self.place[0] % 3) + u8::from(later)
     }
 
     // The set whose roles have that number.
     pub fn numbered(n: u8, fresh: bool) -> Self
         ensures { result ≡ numbered n fresh }
     {
-        let place = places(n);
-        Self { place, fresh }
+        Self {
+            place: places(n),
+            fresh,
+        }
     }
 }
 
 // The places of fill, next and held that have that number; past the last number those of the first.
+// A match and no table: this is one load of a word, and a row of a table is one for each octet on Cortex-M0.
 #[tactic(auto, unfolding(crate::specs::Number::places_of))]
 fn places(n: u8) -> [u8; 3]
     ensures { result ≡ places_of n }
