@@ -16,10 +16,10 @@ use Rattle.octets.proofs.Parts.{part_at}
 use Rattle.ranges.specs.Octets.{at_most, nothing_at}
 use Rattle.channels.specs.Image.{channels, channels_at, rows, rows_length, cell, octet_at}
 use Rattle.channels.specs.Rules.{buffer_test, lengths_test, keeps, well_at, each_from, well_channels}
-use Rattle.channels.specs.Places.{Side, indication, response, Lengths, lengths_in, room_at, room_from, room_of, surveyed}
+use Rattle.channels.specs.Places.{indication, response, Lengths, lengths_in, room_at, room_from, room_of, surveyed}
 use Rattle.channels.proofs.Exact.{each_at, each_holds}
 use Rattle.channels.proofs.Same.{octet_in}
-use Rattle.channels.proofs.Room.{room_from_small}
+use Rattle.channels.proofs.Room.{rooms_small}
 
 -- ---- the octets of one channel
 
@@ -105,13 +105,9 @@ says_found m k j x e = told_room (each_from (well_at m) k j) (room_from (lengths
 -- the room is small where the octets are
 found_small : (m : List ℕ) (k j x : ℕ) → ((i : ℕ) → get_or m i 0 < 256) → Found m k j x → x ≤ 512 * j
 found_small m k j x small h =
-    let u = room_from_small (lengths_in m) k j (λ i g. each (k + i)) in
+    let u = rooms_small m k j small in
     let v : x ≡ room_from (lengths_in m) k j = h.1 in
     omega arith
-  where
-    each : (n : ℕ) (s : Side) → lengths_in m n s < 256
-    each n indication = small (cell 0 n)
-    each n response = small (cell 1 n)
 
 -- ---- channels whose octets are all 0
 

@@ -16,9 +16,9 @@ use Rattle.ranges.specs.Octets.{number, octets, at_most, pair, paired, eighths_o
 use Rattle.ranges.proofs.Words.{or_zero, part_cons, octets_part}
 use Rattle.channels.specs.Image.{channels, rows_end, cell, octet_at}
 use Rattle.channels.specs.Rules.{LengthsOk, buffer_test, lengths_test, keeps, all_keep, well_at, each_from}
-use Rattle.channels.specs.Places.{Side, indication, response, Lengths, lengths_in, room_at, room_from, surveyed}
+use Rattle.channels.specs.Places.{Lengths, lengths_in, room_at, room_from, surveyed}
 use Rattle.channels.proofs.Exact.{lengths_ok_lem}
-use Rattle.channels.proofs.Room.{room_from_small}
+use Rattle.channels.proofs.Room.{rooms_small}
 use Rattle.channels.proofs.Found.{each_add, room_add, Found}
 
 -- ---- tests joined
@@ -209,12 +209,8 @@ eighths_room m h small k a b x y r g ea eb ex ey er =
     let e : r ≡ total (eighths_of (row m 0 k 4)) + total (eighths_of (row m 1 k 4)) =
     er ∙ (λ i. total (octets 4 (ex i + ey i))) ∙ sum_rows 4 a b ∙ (λ i. total (eighths_of (p i)) + total (eighths_of (q i))) in
     let f : 8 * r ≡ room_from (lengths_in m) k 4 = ap (λ n. 8 * n) e ∙ rows_room m h k 4 g in
-    let u = room_from_small (lengths_in m) k 4 (λ i l. each (k + i)) in
+    let u = rooms_small m k 4 small in
     (f, omega arith)
-  where
-    each : (n : ℕ) (s : Side) → lengths_in m n s < 256
-    each n indication = small (cell 0 n)
-    each n response = small (cell 1 n)
 
 -- ---- groups of four, one behind the other
 

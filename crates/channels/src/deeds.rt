@@ -79,7 +79,7 @@ pub fn fill(mem: &mut [u8], n: u8, count: u8)
     ensures { mem.new ≡ filled_in mem.old n count }
 {
     if n < 16 {
-        let c = load(&mem[..], n as usize);
+        let c = load(mem, n as usize);
         save(filled(c, count), n as usize, mem);
     }
 }
@@ -90,7 +90,7 @@ pub fn free(mem: &mut [u8], n: u8)
     ensures { mem.new ≡ freed_in mem.old n }
 {
     if n < 16 {
-        let c = load(&mem[..], n as usize);
+        let c = load(mem, n as usize);
         save(freed(c), n as usize, mem);
     }
 }
@@ -100,7 +100,7 @@ pub fn respond(mem: &mut [u8], n: usize, at: usize, response: &[u8])
     requires { (n < channels) × (rows_end ≤ length mem.old) × (at + length response.now ≤ length mem.old) × (length response.now ≤ 255) }
     ensures { mem.new ≡ responded_in mem.old n at response.now }
 {
-    let c = load(&mem[..], n);
+    let c = load(mem, n);
     copy_at(mem, at, response);
     save(responded(c, response.len() as u8), n, mem);
 }

@@ -2,6 +2,8 @@
 ghost use Rattle.std.specs.Prelude.{◌≡◌, ◌≤◌, length};
 ghost use Rattle.channels.specs.Image.{poll_end, poll_in, poll_saved};
 
+use crate::channel::{CHANNELS, RESPONSE_COUNTS};
+
 // The channel, which is the poll's DSAP, and its SSAP. The reply to it, and to its repeat, is formed by them.
 #[derive(Clone, Copy, PartialEq, Eq, Debug)]
 pub struct Poll {
@@ -9,14 +11,17 @@ pub struct Poll {
     pub ssap: u8,
 }
 
+// Where it lies: behind the rows.
+const POLL_AT: usize = RESPONSE_COUNTS + CHANNELS;
+
 // The poll of a memory.
 pub fn load_poll(mem: &[u8]) -> Poll
     requires { poll_end ≤ length mem.now }
     ensures { result ≡ poll_in mem.now }
 {
     Poll {
-        channel: mem[192],
-        ssap: mem[193],
+        channel: mem[POLL_AT],
+        ssap: mem[POLL_AT + 1],
     }
 }
 
@@ -25,6 +30,6 @@ pub fn save_poll(p: Poll, mem: &mut [u8])
     requires { poll_end ≤ length mem.old }
     ensures { mem.new ≡ poll_saved mem.old p }
 {
-    mem[192] = p.channel;
-    mem[193] = p.ssap;
+    mem[POLL_AT] = p.channel;
+    mem[POLL_AT + 1] = p.ssap;
 }

@@ -10,7 +10,8 @@ use crate::channel::{
 };
 use ranges::{checks, word};
 
-// Both lengths of a channel: 0 and 0, or each 4 to 240. Comparisons joined by &, which no branch parts, not a range's `contains`.
+// Both lengths of a channel: 0 and 0, or each 4 to 240.
+// Not a range's `contains`: the check of the library's module knows no generic function's name (cross/widths.awk).
 pub fn lengths_ok(a: u8, b: u8) -> bool
     ensures { result ≡ lengths_test a b }
 {
@@ -84,7 +85,7 @@ fn all_eighths(mem: &[u8]) -> u32
     eighths_at(mem, 0) + eighths_at(mem, 4) + eighths_at(mem, 8) + eighths_at(mem, 12)
 }
 
-// The same of all channels. Not one function for some groups of four: in a loop over the groups the compiler makes no vectors.
+// The same of all channels. Not one function for some groups of four: its loop takes a quarter more instructions on Cortex-M0+.
 fn all(mem: &[u8]) -> Option<usize>
     requires { rows_end ≤ length mem.now }
     ensures { result ≡ surveyed mem.now 0 channels }
