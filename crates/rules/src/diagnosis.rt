@@ -1,59 +1,45 @@
 // The diagnosis octets that the station makes, and a new diagnosis of the user's.
-ghost use Rattle.std.specs.Prelude.{◌≤◌, ◌≡◌};
-ghost use Rattle.rules.specs.Diagnosis.{one, status1, status2, status3, header_of, present_flags, is_delayed, diagnosed, delaying, caught_up};
+ghost use Rattle.std.specs.Prelude.{◌≡◌};
+ghost use Rattle.rules.specs.Diagnosis.{status1, status2, status3, header_of, present_flags, is_delayed, diagnosed, delaying, caught_up};
 
+use crate::bits::bit;
 use crate::phases::{in_exchange, in_wait_prm};
 use buffers::events::Events;
 use state::control::{Control, Diagnosis, Flags};
 use state::state::Header;
 
-// A flag's value in an octet.
-fn one(flag: bool) -> u8
-    ensures { (result ≡ one flag) × (result ≤ 1) }
-{
-    if flag {
-        return 1;
-    }
-    0
-}
-
 // Octet 0: bit 1 not DATA_EXCH, 2 Cfg_Fault, 3 Ext_Diag, 6 Prm_Fault; bit 4, Not_Supported, is never set.
 fn status1(control: Control) -> u8
     ensures { result ≡ status1 control }
 {
-    let phase = control.phase;
     let flags = control.flags;
-    let exchanging = in_exchange(phase);
-    2 * one(!exchanging)
-        + 4 * one(flags.cfg_fault)
-        + 8 * one(flags.ext_diag)
-        + 64 * one(flags.prm_fault)
+    2 * u8::from(!in_exchange(control.phase))
+        + 4 * u8::from(flags.cfg_fault)
+        + 8 * u8::from(flags.ext_diag)
+        + 64 * u8::from(flags.prm_fault)
 }
 
 // Octet 1: bit 0 WAIT_PRM, 1 Stat_Diag, 2 always set, 3 watchdog on, 4 freeze, 5 sync.
 fn status2(control: Control) -> u8
     ensures { result ≡ status2 control }
 {
-    let phase = control.phase;
-    let flags = control.flags;
-    let on = control.watchdog.reload != 0;
-    one(in_wait_prm(phase))
-        + 2 * one(flags.stat_diag)
+    u8::from(in_wait_prm(control.phase))
+        + 2 * u8::from(control.flags.stat_diag)
         + 4
-        + 8 * one(on)
-        + 16 * one(control.modes.freeze)
-        + 32 * one(control.modes.sync)
+        + 8 * u8::from(control.watchdog.reload != 0)
+        + 16 * u8::from(control.modes.freeze)
+        + 32 * u8::from(control.modes.sync)
 }
 
 // Octet 2: bit 7 overflow.
 fn status3(control: Control) -> u8
     ensures { result ≡ status3 control }
 {
-    let flags = control.flags;
-    128 * one(flags.overflow)
+    128 * u8::from(control.flags.overflow)
 }
 
 // Octets 0 to 3; octet 3 is the owner or FF.
+#[tactic(auto, unfolding(crate::specs::Diagnosis::header_of))]
 pub fn header_of(control: Control) -> Header
     ensures { result ≡ header_of control }
 {
@@ -69,7 +55,7 @@ pub fn header_of(control: Control) -> Header
 pub fn present_flags(flags: Flags) -> u8
     ensures { result ≡ present_flags flags }
 {
-    one(flags.ext_diag) + 2 * one(flags.stat_diag) + 4 * one(flags.overflow)
+    u8::from(flags.ext_diag) + 2 * u8::from(flags.stat_diag) + 4 * u8::from(flags.overflow)
 }
 
 // A new diagnosis is delayed.
@@ -80,28 +66,25 @@ pub fn is_delayed(diagnosis: Diagnosis) -> bool
 }
 
 // A new diagnosis takes effect: its count and flags, Diag_Flag, event 12; nothing is delayed any more.
+#[tactic(auto, unfolding(crate::specs::Diagnosis::diagnosed))]
 pub fn diagnosed(mut control: Control, count: u8, flags: u8) -> Control
     ensures { result ≡ diagnosed control count flags }
 {
-    let ext_diag = flags % 2 == 1;
-    let stat_diag = flags / 2 % 2 == 1;
-    let overflow = flags / 4 % 2 == 1;
-    control.flags.ext_diag = ext_diag;
-    control.flags.stat_diag = stat_diag;
-    control.flags.overflow = overflow;
+    control.flags.ext_diag = bit(flags, 0);
+    control.flags.stat_diag = bit(flags, 1);
+    control.flags.overflow = bit(flags, 2);
     control.flags.diag_flag = true;
-    let diagnosis = Diagnosis {
+    control.diagnosis = Diagnosis {
         count,
         delayed_count: 0,
         delayed_flags: 0,
     };
-    control.diagnosis = diagnosis;
-    let events = control.events.raise(Events::DIAGNOSIS);
-    control.events = events;
+    control.events = control.events.raise(Events::DIAGNOSIS);
     control
 }
 
 // While a Slave_Diag reply is unfinished all of it waits.
+#[tactic(auto, unfolding(crate::specs::Diagnosis::delaying))]
 pub fn delaying(mut control: Control, count: u8, flags: u8) -> Control
     ensures { result ≡ delaying control count flags }
 {

@@ -43,33 +43,29 @@ pub fn clear_noted(busy: bool, control: Control) -> Outcome
 pub fn counts(control: Control) -> bool
     ensures { result ≡ counts control }
 {
-    let phase = control.phase;
-    let waits = in_wait_prm(phase);
-    !waits & (control.watchdog.reload != 0)
+    !in_wait_prm(control.phase) & (control.watchdog.reload != 0)
 }
 
 // The watchdog at 0: event 3 and a clear.
 fn expired(busy: bool, mut control: Control) -> Outcome
     ensures { result ≡ clear_on busy (raise (with_remaining control 0) watchdog_event) }
 {
-    let events = control.events.raise(Events::WATCHDOG);
-    control.events = events;
+    control.events = control.events.raise(Events::WATCHDOG);
     control.watchdog.remaining = 0;
     clear_on(busy, control)
 }
 
 // A Tick where no clear is noted: the watchdog counts down.
+#[tactic(auto, unfolding(crate::specs::Line::ticked))]
 pub fn ticked(busy: bool, mut control: Control) -> Outcome
     ensures { result ≡ ticked busy control }
 {
-    let remaining = control.watchdog.remaining;
     if !counts(control) {
         return drawing(control, Drawn::Nothing);
     }
-    if remaining <= 1 {
+    if control.watchdog.remaining <= 1 {
         return expired(busy, control);
     }
-    let less = remaining - 1;
-    control.watchdog.remaining = less;
+    control.watchdog.remaining -= 1;
     drawing(control, Drawn::Nothing)
 }

@@ -1,7 +1,8 @@
 // Sync and freeze: what the modes make of a Data_Exchange, what Global_Control commands, and where they end.
-ghost use Rattle.std.specs.Prelude.{◌≡◌};
-ghost use Rattle.rules.specs.Modes.{ended_modes, allowed_modes, exchange_outputs, exchange_inputs, switched, commanded_modes, commands_sync, commands_freeze, commanded_outputs, commanded_inputs, announced};
+ghost use Rattle.std.specs.Prelude.{◌≡◌, ◌&&◌, ◌||◌};
+ghost use Rattle.rules.specs.Modes.{ended_modes, allowed_modes, exchange_outputs, exchange_inputs, switched, commanded_modes, commanded_outputs, commanded_inputs, announced};
 
+use crate::bits::bit;
 use crate::outcome::{InputsDeed, OutputsDeed};
 use buffers::events::Events;
 use state::control::Modes;
@@ -13,8 +14,7 @@ pub fn ended(m: Modes) -> Modes
     Modes {
         sync: false,
         freeze: false,
-        sync_allowed: m.sync_allowed,
-        freeze_allowed: m.freeze_allowed,
+        ..m
     }
 }
 
@@ -23,10 +23,9 @@ pub fn allowed(m: Modes, status: u8) -> Modes
     ensures { result ≡ allowed_modes m status }
 {
     Modes {
-        sync: m.sync,
-        freeze: m.freeze,
-        sync_allowed: status / 32 % 2 == 1,
-        freeze_allowed: status / 16 % 2 == 1,
+        sync_allowed: bit(status, 5),
+        freeze_allowed: bit(status, 4),
+        ..m
     }
 }
 
@@ -70,40 +69,28 @@ fn switched(allowed: bool, on: bool, ending: bool, beginning: bool) -> bool
 pub fn commanded(m: Modes, first: u8) -> Modes
     ensures { result ≡ commanded_modes m first }
 {
-    let unsyncs = first / 16 % 2 == 1;
-    let syncs = first / 32 % 2 == 1;
-    let unfreezes = first / 4 % 2 == 1;
-    let freezes = first / 8 % 2 == 1;
     Modes {
-        sync: switched(m.sync_allowed, m.sync, unsyncs, syncs),
-        freeze: switched(m.freeze_allowed, m.freeze, unfreezes, freezes),
-        sync_allowed: m.sync_allowed,
-        freeze_allowed: m.freeze_allowed,
+        sync: switched(m.sync_allowed, m.sync, bit(first, 4), bit(first, 5)),
+        freeze: switched(m.freeze_allowed, m.freeze, bit(first, 2), bit(first, 3)),
+        ..m
     }
 }
 
-// Sync or unsync, where allowed.
-fn commands_sync(m: Modes, first: u8) -> bool
-    ensures { result ≡ commands_sync m first }
+// Whether a mode is commanded by its pair of bits, where it is allowed.
+fn commands(allowed: bool, ending: bool, beginning: bool) -> bool
+    ensures { result ≡ (allowed && (beginning || ending)) }
 {
-    m.sync_allowed & ((first / 32 % 2 == 1) | (first / 16 % 2 == 1))
-}
-
-// Freeze or unfreeze, where allowed.
-fn commands_freeze(m: Modes, first: u8) -> bool
-    ensures { result ≡ commands_freeze m first }
-{
-    m.freeze_allowed & ((first / 8 % 2 == 1) | (first / 4 % 2 == 1))
+    allowed & (beginning | ending)
 }
 
 // Global_Control: clear publishes zeros; else sync and unsync publish what is held back, if something is.
 pub fn commanded_outputs(m: Modes, withheld: bool, first: u8) -> OutputsDeed
     ensures { result ≡ commanded_outputs m withheld first }
 {
-    if first / 2 % 2 == 1 {
+    if bit(first, 1) {
         return OutputsDeed::Zeros;
     }
-    if commands_sync(m, first) & withheld {
+    if commands(m.sync_allowed, bit(first, 4), bit(first, 5)) & withheld {
         return OutputsDeed::Release;
     }
     OutputsDeed::Keep
@@ -113,7 +100,7 @@ pub fn commanded_outputs(m: Modes, withheld: bool, first: u8) -> OutputsDeed
 pub fn commanded_inputs(m: Modes, first: u8) -> InputsDeed
     ensures { result ≡ commanded_inputs m first }
 {
-    if commands_freeze(m, first) {
+    if commands(m.freeze_allowed, bit(first, 2), bit(first, 3)) {
         return InputsDeed::Bring;
     }
     InputsDeed::Keep
@@ -124,10 +111,9 @@ pub fn announced(deed: OutputsDeed, events: Events) -> Events
     ensures { result ≡ announced deed events }
 {
     match deed {
-        OutputsDeed::Keep => events,
-        OutputsDeed::Publish => events.raise(Events::OUTPUTS),
-        OutputsDeed::HoldBack => events,
-        OutputsDeed::Release => events.raise(Events::OUTPUTS),
-        OutputsDeed::Zeros => events.raise(Events::OUTPUTS),
+        OutputsDeed::Keep | OutputsDeed::HoldBack => events,
+        OutputsDeed::Publish | OutputsDeed::Release | OutputsDeed::Zeros => {
+            events.raise(Events::OUTPUTS)
+        }
     }
 }

@@ -27,32 +27,12 @@ pub fn replies_e5(setup: Setup, control: Control) -> bool
 pub fn is_exchange(drawn: Drawn) -> bool
     ensures { result ≡ is_exchange drawn }
 {
-    match drawn {
-        Drawn::Nothing => false,
-        Drawn::Acknowledge => false,
-        Drawn::Status => false,
-        Drawn::Rejected => false,
-        Drawn::Exchange => true,
-        Drawn::Inputs => false,
-        Drawn::Outputs => false,
-        Drawn::Configuration => false,
-        Drawn::Diagnosis => false,
-    }
+    drawn == Drawn::Exchange
 }
 
 // A Slave_Diag's.
 pub fn is_diagnosis(drawn: Drawn) -> bool
     ensures { result ≡ diagnoses drawn }
 {
-    match drawn {
-        Drawn::Nothing => false,
-        Drawn::Acknowledge => false,
-        Drawn::Status => false,
-        Drawn::Rejected => false,
-        Drawn::Exchange => false,
-        Drawn::Inputs => false,
-        Drawn::Outputs => false,
-        Drawn::Configuration => false,
-        Drawn::Diagnosis => true,
-    }
+    drawn == Drawn::Diagnosis
 }

@@ -2,8 +2,9 @@
 ghost use Rattle.std.specs.Prelude.{◌≡◌, cond, not, eqb};
 ghost use Rattle.points.specs.Points.{number_of};
 ghost use Rattle.rules.specs.declared.request.Service.TheVariants.{Reject};
-ghost use Rattle.rules.specs.Requests.{master_of, global_form, to_station, acts, refilled, status_by, point_of, request_of, function_service, service_of};
+ghost use Rattle.rules.specs.Requests.{master_of, wants_none, global_form, to_station, acts, refilled, status_by, point_of, request_of, function_service, service_of};
 
+use crate::bits::bit;
 use crate::request::{Request, Service};
 use points::{Point, look_up};
 use state::control::Control;
@@ -17,12 +18,19 @@ pub fn master_of(r: Request) -> u8
     r.sa % 128
 }
 
-// The form of Global_Control: functions 4 and 6, an extension, the service points.
+// Functions 4 and 6: send without acknowledgement.
+pub fn wants_none(r: Request) -> bool
+    ensures { result ≡ wants_none r }
+{
+    let function = r.fc % 16;
+    (function == 4) | (function == 6)
+}
+
+// The form of Global_Control: its function, an extension, the service points.
 fn global_form(r: Request) -> bool
     ensures { result ≡ global_form r }
 {
-    let function = r.fc % 16;
-    ((function == 4) | (function == 6)) & (128 <= r.da) & (r.dsap == 58) & (r.ssap == 62)
+    wants_none(r) & (128 <= r.da) & (r.dsap == 58) & (r.ssap == 62)
 }
 
 // To this station alone.
@@ -36,26 +44,19 @@ fn to_station(setup: Setup, r: Request) -> bool
 pub fn acts(setup: Setup, r: Request) -> bool
     ensures { result ≡ acts setup r }
 {
-    let here = to_station(setup, r);
-    let global = global_form(r);
-    let master = master_of(r);
-    (here | ((r.da % 128 == 127) & global))
-        & (master <= 126)
-        & !(r.fc / 128 % 2 == 1)
-        & (r.fc / 64 % 2 == 1)
+    (to_station(setup, r) | ((r.da % 128 == 127) & global_form(r)))
+        & (master_of(r) <= 126)
+        & !bit(r.fc, 7)
+        & bit(r.fc, 6)
 }
 
 // The watchdog is refilled by each acting telegram of the owner to this address.
+#[tactic(auto, unfolding(crate::specs::Requests::refilled))]
 pub fn refilled(setup: Setup, mut control: Control, r: Request) -> Control
     ensures { result ≡ refilled setup control r }
 {
-    let acting = acts(setup, r);
-    let here = to_station(setup, r);
-    let master = master_of(r);
-    if acting & here & (control.owner == master) {
-        let reload = control.watchdog.reload;
-        control.watchdog.remaining = reload;
-        return control;
+    if acts(setup, r) & to_station(setup, r) & (control.owner == master_of(r)) {
+        control.watchdog.remaining = control.watchdog.reload;
     }
     control
 }
@@ -66,9 +67,7 @@ fn status_by(kind: Kind) -> Service
 {
     match kind {
         Kind::Sd1 => Service::Status,
-        Kind::Sd2 => Service::Nothing,
-        Kind::Sd3 => Service::Nothing,
-        Kind::Sd4 => Service::Nothing,
+        _ => Service::Nothing,
     }
 }
 
@@ -87,14 +86,13 @@ fn asked_at(point: Point, r: Request) -> Service
     requires { number_of point ≡ r.dsap }
     ensures { result ≡ point_of r }
 {
-    let count = r.count;
     match point {
         Point::SetPrm => Service::SetPrm,
         Point::ChkCfg => Service::ChkCfg,
-        Point::SlaveDiag => without_data(count, Service::SlaveDiag),
-        Point::GetCfg => without_data(count, Service::GetCfg),
-        Point::ReadInputs => without_data(count, Service::ReadInputs),
-        Point::ReadOutputs => without_data(count, Service::ReadOutputs),
+        Point::SlaveDiag => without_data(r.count, Service::SlaveDiag),
+        Point::GetCfg => without_data(r.count, Service::GetCfg),
+        Point::ReadInputs => without_data(r.count, Service::ReadInputs),
+        Point::ReadOutputs => without_data(r.count, Service::ReadOutputs),
         Point::GlobalControl => Service::Reject,
     }
 }
@@ -113,12 +111,10 @@ fn point_of(r: Request) -> Service
 fn request_of(r: Request) -> Service
     ensures { result ≡ request_of r }
 {
-    let da = r.da;
-    let ssap = r.ssap;
-    if da < 128 {
+    if r.da < 128 {
         return Service::DataExchange;
     }
-    if ssap != 62 {
+    if r.ssap != 62 {
         return Service::Reject;
     }
     point_of(r)
@@ -128,27 +124,22 @@ fn request_of(r: Request) -> Service
 pub fn function_service(r: Request) -> Service
     ensures { result ≡ function_service r }
 {
-    let function = r.fc % 16;
-    if function == 9 {
-        let kind = r.kind;
-        return status_by(kind);
-    }
-    if (function == 3) | (function == 5) {
-        return Service::Reject;
-    }
-    if (function == 4) | (function == 6) {
-        if global_form(r) {
-            return Service::GlobalControl;
+    match r.fc % 16 {
+        9 => status_by(r.kind),
+        3 | 5 => Service::Reject,
+        4 | 6 => {
+            if global_form(r) {
+                return Service::GlobalControl;
+            }
+            Service::Nothing
         }
-        return Service::Nothing;
+        12 | 13 => request_of(r),
+        _ => Service::Nothing,
     }
-    if (function == 12) | (function == 13) {
-        return request_of(r);
-    }
-    Service::Nothing
 }
 
 // What a telegram asks of the station.
+#[tactic(auto, unfolding(crate::specs::Requests::service_of))]
 pub fn service_of(setup: Setup, r: Request) -> Service
     ensures { result ≡ service_of setup r }
 {

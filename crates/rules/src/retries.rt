@@ -1,12 +1,13 @@
 // Retries: which telegrams are requests, which of them repeat the request before, and what a repeat does.
 ghost use Rattle.std.specs.Prelude.{◌≡◌};
-ghost use Rattle.rules.specs.Retries.{asks, same, repeats, chain_by, drew, chained, repeated};
+ghost use Rattle.rules.specs.Retries.{asks, repeats, chain_by, drew, chained, repeated};
 
+use crate::bits::bit;
 use crate::outcome::Outcome;
 use crate::phases::drawing;
 use crate::replies::{is_exchange, replies_e5};
 use crate::request::Request;
-use crate::requests::{acts, master_of, refilled};
+use crate::requests::{acts, master_of, refilled, wants_none};
 use state::chain::Chain;
 use state::control::Control;
 use state::setup::Setup;
@@ -16,37 +17,28 @@ use state::state::Drawn;
 pub fn asks(r: Request) -> bool
     ensures { result ≡ asks r }
 {
-    let function = r.fc % 16;
-    !((function == 4) | (function == 6))
-}
-
-// Both set, or neither.
-fn same(a: bool, b: bool) -> bool
-    ensures { result ≡ same a b }
-{
-    if a { b } else { !b }
+    !wants_none(r)
 }
 
 // A request with bit 4 set, the master and the frame count bit of the last one.
 pub fn repeats(chain: Chain, r: Request) -> bool
     ensures { result ≡ repeats chain r }
 {
-    let master = master_of(r);
-    if !same(r.fc / 32 % 2 == 1, chain.fcb()) {
+    if bit(r.fc, 5) != chain.fcb() {
         return false;
     }
-    if master != chain.master {
+    if master_of(r) != chain.master {
         return false;
     }
-    asks(r) & (r.fc / 16 % 2 == 1)
+    asks(r) & bit(r.fc, 4)
 }
 
 // What a later request is compared with after one that is no repeat: itself, or nothing where bit 4 is clear.
 pub fn chain_by(r: Request, drawn: Drawn) -> Chain
     ensures { result ≡ chain_by r drawn }
 {
-    if r.fc / 16 % 2 == 1 {
-        return Chain::new(master_of(r), r.fc / 32 % 2 == 1, drawn);
+    if bit(r.fc, 4) {
+        return Chain::new(master_of(r), bit(r.fc, 5), drawn);
     }
     Chain::none()
 }
@@ -55,11 +47,10 @@ pub fn chain_by(r: Request, drawn: Drawn) -> Chain
 fn drew(setup: Setup, o: Outcome) -> Drawn
     ensures { result ≡ drew setup o }
 {
-    let drawn = o.drawn;
-    if is_exchange(drawn) & replies_e5(setup, o.control) {
+    if is_exchange(o.drawn) & replies_e5(setup, o.control) {
         return Drawn::Acknowledge;
     }
-    drawn
+    o.drawn
 }
 
 // An outcome with the chain after it: what is no request leaves the chain as it is.
@@ -67,11 +58,7 @@ pub fn chained(setup: Setup, r: Request, mut o: Outcome) -> Outcome
     ensures { result ≡ chained setup r o }
 {
     if acts(setup, r) & asks(r) {
-        let chain = chain_by(r, drew(setup, o));
-        let mut control = o.control;
-        control.chain = chain;
-        o.control = control;
-        return o;
+        o.control.chain = chain_by(r, drew(setup, o));
     }
     o
 }
@@ -80,6 +67,5 @@ pub fn chained(setup: Setup, r: Request, mut o: Outcome) -> Outcome
 pub fn repeated(setup: Setup, control: Control, r: Request) -> Outcome
     ensures { result ≡ repeated setup control r }
 {
-    let chain = control.chain;
-    drawing(refilled(setup, control, r), chain.drawn())
+    drawing(refilled(setup, control, r), control.chain.drawn())
 }

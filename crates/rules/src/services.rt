@@ -1,30 +1,26 @@
 // The services: what comes of each, on the control part. opened: a set of that kind is open.
-ghost use Rattle.std.specs.Prelude.{◌≤◌, ◌≡◌};
-ghost use Rattle.rules.specs.Phases.{entering_wait_prm};
+ghost use Rattle.std.specs.Prelude.{◌≡◌, cond};
+ghost use Rattle.state.specs.declared.state.Drawn.TheVariants.{Rejected};
+ghost use Rattle.rules.specs.Control.{in_exchange};
+ghost use Rattle.rules.specs.Phases.{drawing, entering_wait_prm};
 ghost use Rattle.rules.specs.Requests.{service_of};
 ghost use Rattle.rules.specs.Services.{other_owns, other_ident, prm_fault, showing, parametrized, good_prm, set_prm, cfg_fault, good_cfg, chk_cfg, exchanges, good_exchange, data_exchange, slave_diag, read_inputs, read_outputs, controls, storing, obeyed, global_control, serve, outcome_by};
 
+use crate::bits::bit;
 use crate::modes::{
     allowed, announced, commanded, commanded_inputs, commanded_outputs, exchange_inputs,
     exchange_outputs,
 };
-use crate::outcome::{InputsDeed, Outcome, SetDeed};
+use crate::outcome::{Outcome, SetDeed};
 use crate::phases::{drawing, entering_wait_prm, in_exchange, wait_cfg, zeros_if_left};
 use crate::request::{Data, Occupied, Prm, Request, Service};
 use crate::requests::{acts, master_of, refilled};
 use crate::retries::{chained, repeated, repeats};
 use crate::watchdog::{bad_watchdog, ticks_of};
 use buffers::events::Events;
-use state::control::{Control, Watchdog};
+use state::control::{Control, Flags, Watchdog};
 use state::setup::Setup;
 use state::state::Drawn;
-
-// An octet as a wider number.
-fn wide(x: u8) -> u16
-    ensures { (result ≡ x) × (result ≤ 255) }
-{
-    x as u16
-}
 
 // Set_Prm: another master owns.
 fn other_owns(control: Control, master: u8) -> bool
@@ -37,7 +33,7 @@ fn other_owns(control: Control, master: u8) -> bool
 fn other_ident(setup: Setup, p: Prm) -> bool
     ensures { result ≡ other_ident setup p }
 {
-    256 * wide(p.ident_high) + wide(p.ident_low) != setup.ident
+    u16::from_be_bytes([p.ident_high, p.ident_low]) != setup.ident
 }
 
 // Set_Prm, fault: E5, Prm_Fault, WAIT_PRM.
@@ -60,36 +56,30 @@ fn showing(events: Events, opened: bool, event: u8) -> Events
 
 // Good Set_Prm: owner, WAIT_CFG, the fault bits and parameter OK cleared, group, watchdog, the events of the sets, sync and freeze
 // allowed or not.
+#[tactic(auto, unfolding(crate::specs::Services::parametrized))]
 fn parametrized(control: Control, opened: bool, r: Request, p: Prm) -> Control
     ensures { result ≡ parametrized control opened r p }
 {
     let entered = wait_cfg(control);
     let dropped = entered.events.clear(Events::CONFIGURATION);
-    let events = showing(dropped, opened, Events::PARAMETERS);
     let ticks = ticks_of(r.count, p);
-    let watchdog = Watchdog {
-        reload: ticks,
-        remaining: ticks,
-    };
-    let mut flags = control.flags;
-    flags.prm_fault = false;
-    flags.cfg_fault = false;
-    flags.parameters_good = false;
-    let phase = entered.phase;
-    let diagnosis = control.diagnosis;
-    let chain = control.chain;
     Control {
-        phase,
+        phase: entered.phase,
         owner: master_of(r),
         group: p.group,
-        stored: control.stored,
-        watchdog,
-        flags,
-        events,
-        noted: control.noted,
-        diagnosis,
+        watchdog: Watchdog {
+            reload: ticks,
+            remaining: ticks,
+        },
+        flags: Flags {
+            prm_fault: false,
+            cfg_fault: false,
+            parameters_good: false,
+            ..control.flags
+        },
+        events: showing(dropped, opened, Events::PARAMETERS),
         modes: allowed(entered.modes, p.status),
-        chain,
+        ..control
     }
 }
 
@@ -97,36 +87,30 @@ fn parametrized(control: Control, opened: bool, r: Request, p: Prm) -> Control
 fn good_prm(control: Control, opened: bool, r: Request, p: Prm) -> Outcome
     ensures { result ≡ good_prm control opened r p }
 {
-    let outputs = zeros_if_left(control);
-    let changed = parametrized(control, opened, r, p);
     Outcome {
-        control: changed,
-        outputs,
-        inputs: InputsDeed::Keep,
+        outputs: zeros_if_left(control),
         parameters: SetDeed::Receive,
         configuration: SetDeed::Drop,
-        drawn: Drawn::Acknowledge,
+        ..drawing(parametrized(control, opened, r, p), Drawn::Acknowledge)
     }
 }
 
 // Set_Prm, DSAP 61, its tests in order.
+#[tactic(auto, unfolding(crate::specs::Services::set_prm))]
 pub fn set_prm(setup: Setup, control: Control, opened: bool, r: Request, p: Prm) -> Outcome
     ensures { result ≡ set_prm setup control opened r p }
 {
-    let master = master_of(r);
-    let other = other_owns(control, master);
     let fits = (7 <= r.count) & (r.count <= setup.parameter_len);
-    let status = p.status;
-    if other {
+    if other_owns(control, master_of(r)) {
         return drawing(control, Drawn::Rejected);
     }
     if !fits {
         return prm_fault(control);
     }
-    if status / 64 % 2 == 1 {
+    if bit(p.status, 6) {
         return entering_wait_prm(control, Drawn::Acknowledge);
     }
-    if !(status / 128 % 2 == 1) {
+    if !bit(p.status, 7) {
         return drawing(control, Drawn::Acknowledge);
     }
     if other_ident(setup, p) | bad_watchdog(p) {
@@ -147,28 +131,22 @@ fn cfg_fault(mut control: Control, drawn: Drawn) -> Outcome
 fn good_cfg(control: Control, opened: bool) -> Outcome
     ensures { result ≡ good_cfg control opened }
 {
-    let outputs = zeros_if_left(control);
     let mut entered = wait_cfg(control);
-    let events = showing(entered.events, opened, Events::CONFIGURATION);
-    entered.events = events;
+    entered.events = showing(entered.events, opened, Events::CONFIGURATION);
     Outcome {
-        control: entered,
-        outputs,
-        inputs: InputsDeed::Keep,
-        parameters: SetDeed::Keep,
+        outputs: zeros_if_left(control),
         configuration: SetDeed::Receive,
-        drawn: Drawn::Acknowledge,
+        ..drawing(entered, Drawn::Acknowledge)
     }
 }
 
 // Chk_Cfg, DSAP 62.
+#[tactic(auto, unfolding(crate::specs::Services::chk_cfg))]
 pub fn chk_cfg(setup: Setup, control: Control, opened: bool, r: Request) -> Outcome
     ensures { result ≡ chk_cfg setup control opened r }
 {
-    let master = master_of(r);
-    let owns = control.owner == master;
     let fits = (1 <= r.count) & (r.count <= setup.configuration_len);
-    if !owns {
+    if control.owner != master_of(r) {
         return drawing(control, Drawn::Rejected);
     }
     if !fits {
@@ -181,10 +159,7 @@ pub fn chk_cfg(setup: Setup, control: Control, opened: bool, r: Request) -> Outc
 pub fn exchanges(control: Control, r: Request) -> bool
     ensures { result ≡ exchanges control r }
 {
-    let master = master_of(r);
-    let phase = control.phase;
-    let exchanging = in_exchange(phase);
-    (control.owner == master) & exchanging
+    (control.owner == master_of(r)) & in_exchange(control.phase)
 }
 
 // The data is published, event 13, or held back in sync; new inputs come unless frozen; the reply to it is drawn.
@@ -192,75 +167,68 @@ fn good_exchange(mut control: Control) -> Outcome
     ensures { result ≡ good_exchange control }
 {
     let outputs = exchange_outputs(control.modes);
-    let inputs = exchange_inputs(control.modes);
-    let events = announced(outputs, control.events);
-    control.events = events;
+    control.events = announced(outputs, control.events);
     Outcome {
-        control,
         outputs,
-        inputs,
-        parameters: SetDeed::Keep,
-        configuration: SetDeed::Keep,
-        drawn: Drawn::Exchange,
+        inputs: exchange_inputs(control.modes),
+        ..drawing(control, Drawn::Exchange)
     }
 }
 
 // Data_Exchange, functions 12 and 13 without extension.
+#[tactic(auto, unfolding(crate::specs::Services::data_exchange))]
 pub fn data_exchange(setup: Setup, control: Control, r: Request) -> Outcome
     ensures { result ≡ data_exchange setup control r }
 {
-    let exchanging = exchanges(control, r);
-    let fits = r.count == setup.output_len;
-    if !exchanging {
+    if !exchanges(control, r) {
         return drawing(control, Drawn::Rejected);
     }
-    if !fits {
+    if r.count != setup.output_len {
         return cfg_fault(control, Drawn::Rejected);
     }
     good_exchange(control)
 }
 
 // Slave_Diag, DSAP 60: the owner's clears Diag_Flag unless Stat_Diag.
+#[tactic(auto, unfolding(crate::specs::Services::slave_diag))]
 pub fn slave_diag(mut control: Control, r: Request) -> Outcome
     ensures { result ≡ slave_diag control r }
 {
-    let master = master_of(r);
-    let ends = (control.owner == master) & !control.flags.stat_diag;
-    if ends {
+    if (control.owner == master_of(r)) & !control.flags.stat_diag {
         control.flags.diag_flag = false;
-        return drawing(control, Drawn::Diagnosis);
     }
     drawing(control, Drawn::Diagnosis)
+}
+
+// The reply of Read_Inputs or Read_Outputs, RS outside DATA_EXCH.
+fn reading(control: Control, drawn: Drawn) -> Outcome
+    ensures { result ≡ cond (in_exchange control) (drawing control drawn) (drawing control Rejected) }
+{
+    if in_exchange(control.phase) {
+        return drawing(control, drawn);
+    }
+    drawing(control, Drawn::Rejected)
 }
 
 // Read_Inputs, DSAP 56: RS outside DATA_EXCH.
 pub fn read_inputs(control: Control) -> Outcome
     ensures { result ≡ read_inputs control }
 {
-    let phase = control.phase;
-    if in_exchange(phase) {
-        return drawing(control, Drawn::Inputs);
-    }
-    drawing(control, Drawn::Rejected)
+    reading(control, Drawn::Inputs)
 }
 
 // Read_Outputs, DSAP 57: RS outside DATA_EXCH.
 pub fn read_outputs(control: Control) -> Outcome
     ensures { result ≡ read_outputs control }
 {
-    let phase = control.phase;
-    if in_exchange(phase) {
-        return drawing(control, Drawn::Outputs);
-    }
-    drawing(control, Drawn::Rejected)
+    reading(control, Drawn::Outputs)
 }
 
 // Global_Control: two octets, from the owner in DATA_EXCH, octet 1 zero or sharing a bit with the group.
 fn controls(control: Control, r: Request, second: u8) -> bool
     ensures { result ≡ controls control r second }
 {
-    let exchanging = exchanges(control, r);
-    exchanging & (r.count == 2) & ((second == 0) | ((second & control.group) != 0))
+    exchanges(control, r) & (r.count == 2) & ((second == 0) | ((second & control.group) != 0))
 }
 
 // Global_Control: octet 0 is stored if it differs from the last one, event 8.
@@ -270,9 +238,8 @@ fn storing(mut control: Control, first: u8) -> Control
     if first == control.stored {
         return control;
     }
-    let events = control.events.raise(Events::CONTROL);
     control.stored = first;
-    control.events = events;
+    control.events = control.events.raise(Events::CONTROL);
     control
 }
 
@@ -281,23 +248,18 @@ fn obeyed(control: Control, withheld: bool, first: u8) -> Outcome
     ensures { result ≡ obeyed control withheld first }
 {
     let outputs = commanded_outputs(control.modes, withheld, first);
-    let inputs = commanded_inputs(control.modes, first);
     let mut stored = storing(control, first);
-    let events = announced(outputs, stored.events);
-    let modes = commanded(control.modes, first);
-    stored.events = events;
-    stored.modes = modes;
+    stored.events = announced(outputs, stored.events);
+    stored.modes = commanded(control.modes, first);
     Outcome {
-        control: stored,
         outputs,
-        inputs,
-        parameters: SetDeed::Keep,
-        configuration: SetDeed::Keep,
-        drawn: Drawn::Nothing,
+        inputs: commanded_inputs(control.modes, first),
+        ..drawing(stored, Drawn::Nothing)
     }
 }
 
 // Global_Control, DSAP 58, functions 4 and 6.
+#[tactic(auto, unfolding(crate::specs::Services::global_control))]
 pub fn global_control(
     control: Control,
     withheld: bool,

@@ -2,8 +2,8 @@
 ghost use Rattle.std.specs.Prelude.{◌≡◌};
 ghost use Rattle.rules.specs.User.{changing_sets, judged_parameters, judged_configuration};
 
-use crate::outcome::{InputsDeed, Outcome, OutputsDeed, SetDeed};
-use crate::phases::{data_exch, entering_wait_prm};
+use crate::outcome::{Outcome, SetDeed};
+use crate::phases::{data_exch, drawing, entering_wait_prm};
 use buffers::events::Events;
 use state::control::Control;
 use state::state::Drawn;
@@ -13,25 +13,22 @@ fn changing_sets(control: Control, parameters: SetDeed, configuration: SetDeed) 
     ensures { result ≡ changing_sets control parameters configuration }
 {
     Outcome {
-        control,
-        outputs: OutputsDeed::Keep,
-        inputs: InputsDeed::Keep,
         parameters,
         configuration,
-        drawn: Drawn::Nothing,
+        ..drawing(control, Drawn::Nothing)
     }
 }
 
 // Judge parameters: a newer set that waits is shown instead; else the set is closed, and bad: Prm_Fault, WAIT_PRM, good:
 // parameter OK.
+#[tactic(auto, unfolding(crate::specs::User::judged_parameters))]
 pub fn judged_parameters(mut control: Control, waits: bool, good: bool) -> Outcome
     ensures { result ≡ judged_parameters control waits good }
 {
     if waits {
         return changing_sets(control, SetDeed::Advance, SetDeed::Keep);
     }
-    let events = control.events.clear(Events::PARAMETERS);
-    control.events = events;
+    control.events = control.events.clear(Events::PARAMETERS);
     if good {
         control.flags.parameters_good = true;
         return changing_sets(control, SetDeed::Drop, SetDeed::Keep);
@@ -41,14 +38,14 @@ pub fn judged_parameters(mut control: Control, waits: bool, good: bool) -> Outco
 }
 
 // Judge configuration: likewise; bad: Cfg_Fault, WAIT_PRM, good: DATA_EXCH.
+#[tactic(auto, unfolding(crate::specs::User::judged_configuration))]
 pub fn judged_configuration(mut control: Control, waits: bool, good: bool) -> Outcome
     ensures { result ≡ judged_configuration control waits good }
 {
     if waits {
         return changing_sets(control, SetDeed::Keep, SetDeed::Advance);
     }
-    let events = control.events.clear(Events::CONFIGURATION);
-    control.events = events;
+    control.events = control.events.clear(Events::CONFIGURATION);
     if good {
         return changing_sets(data_exch(control), SetDeed::Keep, SetDeed::Drop);
     }

@@ -1,7 +1,0 @@
-use Rattle.rules.proofs.services.read_inputs.Goals as goal
-
-pub returns-then-in_exchange : goal.returns-then-in_exchange
-returns-then-in_exchange c = rw (← c.in_exchange.ensures, c.if-in_exchange.true, c.drawing.ensures)
-
-pub returns : goal.returns
-returns c = rw (← c.in_exchange.ensures, c.if-in_exchange.false, c.drawing-2.ensures)
