@@ -95,20 +95,18 @@ module _ (m : List ℕ) (s : State) (o : Outcome) (count : ℕ) (h : Holds m s) 
         channels = safe.channels;
       })
 
-  -- then the sets, each as it is read from the memory
-  pub carried_over : (n₁ n₂ n₃ n₄ n₅ : List ℕ) (outputs : Outputs) (inputs : Triple) (parameters configuration : Sets)
-      → n₁ ≡ on_memory o.outputs (unpacked n₀) n₀ → outputs ≡ (unpacked n₁).outputs
-      → ((t : State) → t.outputs ≡ outputs → n₁ ≡ kept t n₁ → n₂ ≡ kept (with_outputs t (on_outputs o.outputs outputs)) n₁)
-      → inputs ≡ (unpacked n₂).inputs
-      → ((t : State) → t.inputs ≡ inputs → n₂ ≡ kept t n₂ → n₃ ≡ kept (with_inputs t (on_inputs o.inputs inputs)) n₂)
-      → parameters ≡ (unpacked n₃).parameters
-      → ((t : State) → t.parameters ≡ parameters → n₃ ≡ kept t n₃ → n₄ ≡ kept (with_parameters t (on_sets o.parameters parameters count)) n₃)
-      → configuration ≡ (unpacked n₄).configuration
-      → ((t : State) → t.configuration ≡ configuration → n₄ ≡ kept t n₄
-      → n₅ ≡ kept (with_configuration t (on_sets o.configuration configuration count)) n₄)
+  -- then the sets, one after the other
+  pub carried_over : (n₁ n₂ n₃ n₄ n₅ : List ℕ)
+      → n₁ ≡ on_memory o.outputs (unpacked n₀) n₀
+      → ((t : State) → t.outputs ≡ (unpacked n₁).outputs → n₁ ≡ kept t n₁ → n₂ ≡ kept (with_outputs t (on_outputs o.outputs t.outputs)) n₁)
+      → ((t : State) → t.inputs ≡ (unpacked n₂).inputs → n₂ ≡ kept t n₂ → n₃ ≡ kept (with_inputs t (on_inputs o.inputs t.inputs)) n₂)
+      → ((t : State) → t.parameters ≡ (unpacked n₃).parameters → n₃ ≡ kept t n₃
+      → n₄ ≡ kept (with_parameters t (on_sets o.parameters t.parameters count)) n₃)
+      → ((t : State) → t.configuration ≡ (unpacked n₄).configuration → n₄ ≡ kept t n₄
+      → n₅ ≡ kept (with_configuration t (on_sets o.configuration t.configuration count)) n₄)
       → n₅ ≡ packed_after (carried s m (on_chain o s.control.chain) count)
   unfolding carried
-  carried_over n₁ n₂ n₃ n₄ n₅ outputs inputs parameters configuration e ro p₂ ri p₃ rp p₄ rc p₅ =
+  carried_over n₁ n₂ n₃ n₄ n₅ e p₂ p₃ p₄ p₅ =
       let safe = still_safe in
       let zeroed : n₁ ≡ on_memory o.outputs s n₀ =
       e ∙ ap (λ (t : State). on_memory o.outputs t n₀) rest ∙ buffers_apart o.outputs s (unpacked n₀).control n₀ in
@@ -118,32 +116,15 @@ module _ (m : List ℕ) (s : State) (o : Outcome) (count : ℕ) (h : Holds m s) 
       sym (take-append-drop image_length n₁)
       ∙ ap (λ (l : List ℕ). l ++ behind n₁)
       (ap (take image_length) zeroed ∙ buffers_front o.outputs s n₀ safe ∙ ap (take image_length) e₀ ∙ kept_take s₀ m) in
-      let eo : outputs ≡ s.outputs = ro ∙ outputs_read s s₀ n₁ h.sound refl e₁ in
-      let s₂ : State = with_outputs s₀ (on_outputs o.outputs outputs) in
-      let e₂ : n₂ ≡ kept s₂ n₁ = p₂ s₀ (sym eo) e₁ in
+      let s₂ : State = with_outputs s₀ (on_outputs o.outputs s.outputs) in
+      let e₂ : n₂ ≡ kept s₂ n₁ = p₂ s₀ (sym (outputs_read s s₀ n₁ h.sound refl e₁)) e₁ in
       let f₂ : n₂ ≡ kept s₂ n₂ = again n₁ n₂ s₂ e₂ in
-      let ei : inputs ≡ s.inputs = ri ∙ inputs_read s s₂ n₂ h.sound refl f₂ in
-      let s₃ : State = with_inputs s₂ (on_inputs o.inputs inputs) in
-      let e₃ : n₃ ≡ kept s₃ n₁ = onto n₁ n₂ n₃ s₂ s₃ e₂ (p₃ s₂ (sym ei) f₂) in
+      let s₃ : State = with_inputs s₂ (on_inputs o.inputs s.inputs) in
+      let e₃ : n₃ ≡ kept s₃ n₁ = onto n₁ n₂ n₃ s₂ s₃ e₂ (p₃ s₂ (sym (inputs_read s s₂ n₂ h.sound refl f₂)) f₂) in
       let f₃ : n₃ ≡ kept s₃ n₃ = again n₁ n₃ s₃ e₃ in
-      let ep : parameters ≡ s.parameters = rp ∙ parameters_read s s₃ n₃ h.sound refl f₃ in
-      let s₄ : State = with_parameters s₃ (on_sets o.parameters parameters count) in
-      let e₄ : n₄ ≡ kept s₄ n₁ = onto n₁ n₃ n₄ s₃ s₄ e₃ (p₄ s₃ (sym ep) f₃) in
+      let s₄ : State = with_parameters s₃ (on_sets o.parameters s.parameters count) in
+      let e₄ : n₄ ≡ kept s₄ n₁ = onto n₁ n₃ n₄ s₃ s₄ e₃ (p₄ s₃ (sym (parameters_read s s₃ n₃ h.sound refl f₃)) f₃) in
       let f₄ : n₄ ≡ kept s₄ n₄ = again n₁ n₄ s₄ e₄ in
-      let ec : configuration ≡ s.configuration = rc ∙ configuration_read s s₄ n₄ h.sound refl f₄ in
-      let e₅ : n₅ ≡ kept (with_configuration s₄ (on_sets o.configuration configuration count)) n₁ = onto n₁ n₄ n₅ s₄ _ e₄ (p₅ s₄ (sym ec) f₄) in
-      e₅
-      ∙ (λ i.
-      image
-      (record {
-        setup = s.setup;
-        control = with_chain o.control s.control.chain;
-        outputs = on_outputs o.outputs (eo i);
-        inputs = on_inputs o.inputs (ei i);
-        parameters = on_sets o.parameters (ep i) count;
-        configuration = on_sets o.configuration (ec i) count;
-        swapped = s.swapped;
-        incoming = s.incoming;
-        reply = s.reply;
-      })
-      ++ body i)
+      let s₅ : State = with_configuration s₄ (on_sets o.configuration s.configuration count) in
+      let e₅ : n₅ ≡ kept s₅ n₁ = onto n₁ n₄ n₅ s₄ s₅ e₄ (p₅ s₄ (sym (configuration_read s s₄ n₄ h.sound refl f₄)) f₄) in
+      e₅ ∙ ap (λ (l : List ℕ). image s₅ ++ l) body

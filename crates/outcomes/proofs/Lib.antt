@@ -1,2 +1,3 @@
+pub mod NextRoom
 pub mod CarriedOver
 pub mod Settled

@@ -1,8 +1,12 @@
 // An outcome of the rules carried out on the state and the buffers, and what waits for the end of the line's business.
-ghost use Rattle.std.specs.Prelude.{◌≡◌};
+#![tactic(auto, using(crate::proofs::NextRoom::next_room, steps::proofs::KeepsSafe::safe_after_reply, steps::proofs::NothingWaits::unsettled), unfolding(steps::specs::Outcome::carried, steps::specs::Outcome::after_reply, steps::specs::Outcome::settle))]
+ghost use Rattle.std.specs.Prelude.{◌+◌, ◌≤◌, ◌≡◌, length, replicate};
+ghost use Rattle.octets.specs.Part.{pasted};
+ghost use Rattle.buffers.specs.Roles.{next_of};
+ghost use Rattle.state.specs.Layout.{outputs_at};
 ghost use Rattle.steps.specs.Safe.{Safe};
 ghost use Rattle.steps.specs.Stepped.{Steps};
-ghost use Rattle.steps.specs.Outcome.{is_open, on_outputs, on_inputs, received_set, on_sets, on_state, on_memory, carried, diagnosis_changed, after_reply, settle};
+ghost use Rattle.steps.specs.Outcome.{is_open, on_outputs, on_inputs, received_set, on_sets, on_state, carried, diagnosis_changed, after_reply, settle};
 
 use crate::line::{busy, diagnosis_leaves};
 use buffers::triple::Triple;
@@ -11,13 +15,14 @@ use rules::line::clear_noted;
 use rules::outcome::{InputsDeed, Outcome, OutputsDeed, SetDeed};
 use state::control::Control;
 use state::layout::outputs_at;
+use state::setup::Setup;
 use state::state::{Outputs, Sets, State};
 
 // A set is open.
 pub fn is_open(s: Sets) -> bool
     ensures { result ≡ is_open s }
 {
-    !(s.shown == 0)
+    s.shown != 0
 }
 
 pub fn on_outputs(deed: OutputsDeed, o: Outputs) -> Outputs
@@ -31,7 +36,7 @@ pub fn on_outputs(deed: OutputsDeed, o: Outputs) -> Outputs
         },
         OutputsDeed::HoldBack => Outputs {
             set: o.set.hold_back(),
-            zeros: o.zeros,
+            ..o
         },
         OutputsDeed::Release => Outputs {
             set: o.set.release(),
@@ -44,22 +49,12 @@ pub fn on_outputs(deed: OutputsDeed, o: Outputs) -> Outputs
     }
 }
 
-// New inputs come to the buffer that is sent from.
-fn bring_new(t: Triple) -> Triple
-    ensures { result ≡ on_inputs InputsDeed.Bring t }
-{
-    if t.fresh {
-        return t.bring();
-    }
-    t
-}
-
 pub fn on_inputs(deed: InputsDeed, t: Triple) -> Triple
     ensures { result ≡ on_inputs deed t }
 {
     match deed {
-        InputsDeed::Keep => t,
-        InputsDeed::Bring => bring_new(t),
+        InputsDeed::Bring if t.fresh => t.bring(),
+        _ => t,
     }
 }
 
@@ -70,14 +65,14 @@ fn received_set(s: Sets, count: u8) -> Sets
     if is_open(s) {
         return Sets {
             set: s.set.publish(),
-            shown: s.shown,
             waiting: count,
+            ..s
         };
     }
     Sets {
         set: s.set.show(),
         shown: count,
-        waiting: s.waiting,
+        ..s
     }
 }
 
@@ -104,34 +99,23 @@ pub fn on_sets(deed: SetDeed, s: Sets, count: u8) -> Sets
 fn on_state(s: State, o: Outcome, count: u8) -> State
     ensures { result ≡ on_state s o count }
 {
-    let setup = s.setup;
-    let control = o.control;
-    let outputs = o.outputs;
-    let inputs = o.inputs;
-    let parameters = o.parameters;
-    let configuration = o.configuration;
-    let incoming = s.incoming;
-    let reply = s.reply;
     State {
-        setup,
-        control,
-        outputs: on_outputs(outputs, s.outputs),
-        inputs: on_inputs(inputs, s.inputs),
-        parameters: on_sets(parameters, s.parameters, count),
-        configuration: on_sets(configuration, s.configuration, count),
-        swapped: s.swapped,
-        incoming,
-        reply,
+        control: o.control,
+        outputs: on_outputs(o.outputs, s.outputs),
+        inputs: on_inputs(o.inputs, s.inputs),
+        parameters: on_sets(o.parameters, s.parameters, count),
+        configuration: on_sets(o.configuration, s.configuration, count),
+        ..s
     }
 }
 
 // Zeros in the outputs' next buffer.
-fn clear_next(s: State, mem: &mut [u8])
-    requires { Safe s mem.old }
-    ensures { mem.new ≡ on_memory OutputsDeed.Zeros s mem.old }
+pub(crate) fn clear_next(setup: Setup, outputs: Outputs, mem: &mut [u8])
+    requires { outputs_at setup (next_of outputs.set.place) + setup.output_len ≤ length mem.old }
+    ensures { mem.new ≡ pasted mem.old (outputs_at setup (next_of outputs.set.place)) (replicate setup.output_len 0) }
 {
-    let from = outputs_at(s.setup, s.outputs.set.next());
-    octets::clear_at(mem, from, s.setup.output_len as usize);
+    let from = outputs_at(setup, outputs.set.next());
+    octets::clear_at(mem, from, setup.output_len as usize);
 }
 
 // An outcome carried out: the buffers first, where the deed asks for it, then the state.
@@ -139,17 +123,10 @@ pub fn carry_out(s: State, mem: &mut [u8], o: Outcome, count: u8) -> State
     requires { Safe s mem.old }
     ensures { Steps (carried s mem.old o count) result mem.new }
 {
-    let outputs = o.outputs;
-    match outputs {
-        OutputsDeed::Keep => on_state(s, o, count),
-        OutputsDeed::Publish => on_state(s, o, count),
-        OutputsDeed::HoldBack => on_state(s, o, count),
-        OutputsDeed::Release => on_state(s, o, count),
-        OutputsDeed::Zeros => {
-            clear_next(s, mem);
-            on_state(s, o, count)
-        }
+    if o.outputs == OutputsDeed::Zeros {
+        clear_next(s.setup, s.outputs, mem);
     }
+    on_state(s, o, count)
 }
 
 // The two diagnosis buffers change, with that control part.
@@ -185,9 +162,8 @@ pub fn settle(s: State, mem: &mut [u8]) -> State
     requires { Safe s mem.old }
     ensures { Steps (settle s mem.old) result mem.new }
 {
-    let waits = is_delayed(s.control.diagnosis) | s.control.noted;
-    if !waits {
-        return s;
+    if is_delayed(s.control.diagnosis) | s.control.noted {
+        return settle_waiting(s, mem);
     }
-    settle_waiting(s, mem)
+    s
 }

@@ -1,51 +1,45 @@
 // The line as the state has it: what is busy, and what waits for its end.
-ghost use Rattle.std.specs.Prelude.{◌≤◌, ◌||◌, ◌≡◌, length};
+ghost use Rattle.std.specs.Prelude.{◌≤◌, ◌&&◌, ◌||◌, ◌≡◌, length};
+ghost use Rattle.telegram.specs.Reading.{status};
+ghost use Rattle.telegram.specs.Sending.{left};
 ghost use Rattle.state.specs.Layout.{image_length};
 ghost use Rattle.state.specs.Unpack.{unpacked};
 ghost use Rattle.rules.specs.Diagnosis.{delayed};
+ghost use Rattle.rules.specs.Replies.{diagnoses};
 ghost use Rattle.steps.specs.Line.{is_inside, begun, busy, diagnosis_leaves};
 
 use rules::diagnosis::is_delayed;
 use rules::replies::is_diagnosis;
 use state::load;
-use state::state::State;
-use telegram::reader::Status;
+use state::state::{Reply, State};
+use telegram::reader::{Reader, Status};
+use telegram::sender::Sender;
 
 pub fn is_inside(status: Status) -> bool
     ensures { result ≡ is_inside status }
 {
-    match status {
-        Status::Fresh => false,
-        Status::Inside => true,
-        Status::Complete => false,
-        Status::Broken => false,
-    }
+    status == Status::Inside
 }
 
 // A telegram is begun and unfinished.
 pub fn begun(s: State) -> bool
     ensures { result ≡ begun s }
 {
-    let reader = s.incoming.reader;
-    is_inside(reader.status())
+    is_inside(s.incoming.reader.status())
 }
 
-// A busy line: a telegram is begun or a reply is unfinished.
+// A telegram is begun or a reply is unfinished.
+fn occupied(reader: Reader, sender: Sender) -> bool
+    ensures { result ≡ is_inside (status reader) || left sender }
+{
+    is_inside(reader.status()) | sender.left()
+}
+
+// A busy line.
 pub fn busy(s: State) -> bool
     ensures { result ≡ busy s }
 {
-    let sender = s.reply.sender;
-    begun(s) | sender.left()
-}
-
-// A Slave_Diag reply is unfinished.
-pub fn diagnosis_leaves(s: State) -> bool
-    ensures { result ≡ diagnosis_leaves s }
-{
-    let reply = s.reply;
-    let drawn = reply.drawn;
-    let sender = reply.sender;
-    is_diagnosis(drawn) & sender.left()
+    occupied(s.incoming.reader, s.reply.sender)
 }
 
 // The same over the memory.
@@ -53,22 +47,29 @@ pub fn busy_in(mem: &[u8]) -> bool
     requires { image_length ≤ length mem.now }
     ensures { result ≡ busy (unpacked mem.now) }
 {
-    let incoming = load::incoming(mem);
-    let reader = incoming.reader;
-    let reply = load::reply(mem);
-    let sender = reply.sender;
-    is_inside(reader.status()) | sender.left()
+    occupied(load::incoming(mem).reader, load::reply(mem).sender)
 }
 
-// A Slave_Diag reply is unfinished, over the memory.
+// An unfinished reply is one to Slave_Diag.
+fn tells_diagnosis(reply: Reply) -> bool
+    ensures { result ≡ diagnoses reply.drawn && left reply.sender }
+{
+    is_diagnosis(reply.drawn) & reply.sender.left()
+}
+
+// A Slave_Diag reply is unfinished.
+pub fn diagnosis_leaves(s: State) -> bool
+    ensures { result ≡ diagnosis_leaves s }
+{
+    tells_diagnosis(s.reply)
+}
+
+// The same over the memory.
 pub fn diagnosis_leaves_in(mem: &[u8]) -> bool
     requires { image_length ≤ length mem.now }
     ensures { result ≡ diagnosis_leaves (unpacked mem.now) }
 {
-    let reply = load::reply(mem);
-    let drawn = reply.drawn;
-    let sender = reply.sender;
-    is_diagnosis(drawn) & sender.left()
+    tells_diagnosis(load::reply(mem))
 }
 
 // Whether a diagnosis is delayed or a clear noted.

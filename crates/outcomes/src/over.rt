@@ -10,87 +10,59 @@ ghost use Rattle.steps.specs.Safe.{Safe};
 ghost use Rattle.steps.specs.Stepped.{packed_after};
 ghost use Rattle.steps.specs.Outcome.{on_outputs, on_inputs, on_sets, on_memory, carried};
 
-use crate::carry::{on_inputs, on_outputs, on_sets};
-use buffers::triple::Triple;
+use crate::carry::{clear_next, on_inputs, on_outputs, on_sets};
 use rules::outcome::{InputsDeed, Outcome, OutputsDeed, SetDeed};
-use state::layout::outputs_at;
 use state::load;
 use state::saving::{save_configuration, save_control, save_inputs, save_outputs, save_parameters};
-use state::state::{Outputs, Sets};
-
-// Zeros in the outputs' next buffer.
-fn clear_next(mem: &mut [u8])
-    requires { Safe (unpacked mem.old) mem.old }
-    ensures { mem.new ≡ on_memory OutputsDeed.Zeros (unpacked mem.old) mem.old }
-{
-    let setup = load::setup(&mem[..]);
-    let outputs = load::outputs(&mem[..]);
-    let from = outputs_at(setup, outputs.set.next());
-    octets::clear_at(mem, from, setup.output_len as usize);
-}
 
 // The buffers, where the deed asks for it.
+#[tactic(auto, using(crate::proofs::NextRoom::next_room, steps::proofs::Behind::safe_long))]
 fn carry_buffers(deed: OutputsDeed, mem: &mut [u8])
     requires { Safe (unpacked mem.old) mem.old }
     ensures { mem.new ≡ on_memory deed (unpacked mem.old) mem.old }
 {
-    match deed {
-        OutputsDeed::Keep => {}
-        OutputsDeed::Publish => {}
-        OutputsDeed::HoldBack => {}
-        OutputsDeed::Release => {}
-        OutputsDeed::Zeros => clear_next(mem),
+    if deed == OutputsDeed::Zeros {
+        clear_next(load::setup(&mem[..]), load::outputs(&mem[..]), mem);
     }
 }
 
-// What becomes of the output set, which was `outputs`.
-fn put_outputs(deed: OutputsDeed, outputs: Outputs, mem: &mut [u8])
+// What becomes of the output set.
+fn put_outputs(deed: OutputsDeed, mem: &mut [u8])
     requires { image_length ≤ length mem.old }
-    ensures { (s : State) → s.outputs ≡ outputs → mem.old ≡ kept s mem.old → mem.new ≡ kept (with_outputs s (on_outputs deed outputs)) mem.old }
+    ensures { (s : State) → s.outputs ≡ (unpacked mem.old).outputs → mem.old ≡ kept s mem.old → mem.new ≡ kept (with_outputs s (on_outputs deed s.outputs)) mem.old }
 {
-    match deed {
-        OutputsDeed::Keep => {}
-        OutputsDeed::Publish => save_outputs(on_outputs(OutputsDeed::Publish, outputs), mem),
-        OutputsDeed::HoldBack => save_outputs(on_outputs(OutputsDeed::HoldBack, outputs), mem),
-        OutputsDeed::Release => save_outputs(on_outputs(OutputsDeed::Release, outputs), mem),
-        OutputsDeed::Zeros => save_outputs(on_outputs(OutputsDeed::Zeros, outputs), mem),
+    if deed != OutputsDeed::Keep {
+        save_outputs(on_outputs(deed, load::outputs(&mem[..])), mem);
     }
 }
 
-// Of the input set, which was `inputs`.
-fn put_inputs(deed: InputsDeed, inputs: Triple, mem: &mut [u8])
+// Of the input set.
+fn put_inputs(deed: InputsDeed, mem: &mut [u8])
     requires { image_length ≤ length mem.old }
-    ensures { (s : State) → s.inputs ≡ inputs → mem.old ≡ kept s mem.old → mem.new ≡ kept (with_inputs s (on_inputs deed inputs)) mem.old }
+    ensures { (s : State) → s.inputs ≡ (unpacked mem.old).inputs → mem.old ≡ kept s mem.old → mem.new ≡ kept (with_inputs s (on_inputs deed s.inputs)) mem.old }
 {
-    match deed {
-        InputsDeed::Keep => {}
-        InputsDeed::Bring => save_inputs(on_inputs(InputsDeed::Bring, inputs), mem),
+    if deed != InputsDeed::Keep {
+        save_inputs(on_inputs(deed, load::inputs(&mem[..])), mem);
     }
 }
 
-// Of the parameters received, which were `sets`.
-fn put_parameters(deed: SetDeed, sets: Sets, count: u8, mem: &mut [u8])
+// Of the parameters received.
+fn put_parameters(deed: SetDeed, count: u8, mem: &mut [u8])
     requires { image_length ≤ length mem.old }
-    ensures { (s : State) → s.parameters ≡ sets → mem.old ≡ kept s mem.old → mem.new ≡ kept (with_parameters s (on_sets deed sets count)) mem.old }
+    ensures { (s : State) → s.parameters ≡ (unpacked mem.old).parameters → mem.old ≡ kept s mem.old → mem.new ≡ kept (with_parameters s (on_sets deed s.parameters count)) mem.old }
 {
-    match deed {
-        SetDeed::Keep => {}
-        SetDeed::Receive => save_parameters(on_sets(SetDeed::Receive, sets, count), mem),
-        SetDeed::Advance => save_parameters(on_sets(SetDeed::Advance, sets, count), mem),
-        SetDeed::Drop => save_parameters(on_sets(SetDeed::Drop, sets, count), mem),
+    if deed != SetDeed::Keep {
+        save_parameters(on_sets(deed, load::parameters(&mem[..]), count), mem);
     }
 }
 
-// Of the configuration received, which was `sets`.
-fn put_configuration(deed: SetDeed, sets: Sets, count: u8, mem: &mut [u8])
+// Of the configuration received.
+fn put_configuration(deed: SetDeed, count: u8, mem: &mut [u8])
     requires { image_length ≤ length mem.old }
-    ensures { (s : State) → s.configuration ≡ sets → mem.old ≡ kept s mem.old → mem.new ≡ kept (with_configuration s (on_sets deed sets count)) mem.old }
+    ensures { (s : State) → s.configuration ≡ (unpacked mem.old).configuration → mem.old ≡ kept s mem.old → mem.new ≡ kept (with_configuration s (on_sets deed s.configuration count)) mem.old }
 {
-    match deed {
-        SetDeed::Keep => {}
-        SetDeed::Receive => save_configuration(on_sets(SetDeed::Receive, sets, count), mem),
-        SetDeed::Advance => save_configuration(on_sets(SetDeed::Advance, sets, count), mem),
-        SetDeed::Drop => save_configuration(on_sets(SetDeed::Drop, sets, count), mem),
+    if deed != SetDeed::Keep {
+        save_configuration(on_sets(deed, load::configuration(&mem[..]), count), mem);
     }
 }
 
@@ -101,14 +73,10 @@ pub fn carry_over(mem: &mut [u8], o: Outcome, count: u8)
     requires { Holds mem.old (unpacked mem.old) }
     ensures { mem.new ≡ packed_after (carried (unpacked mem.old) mem.old (on_chain o (unpacked mem.old).control.chain) count) }
 {
-    let on_outputs = o.outputs;
-    let on_inputs = o.inputs;
-    let on_parameters = o.parameters;
-    let on_configuration = o.configuration;
     save_control(o.control, mem);
-    carry_buffers(on_outputs, mem);
-    put_outputs(on_outputs, load::outputs(&mem[..]), mem);
-    put_inputs(on_inputs, load::inputs(&mem[..]), mem);
-    put_parameters(on_parameters, load::parameters(&mem[..]), count, mem);
-    put_configuration(on_configuration, load::configuration(&mem[..]), count, mem);
+    carry_buffers(o.outputs, mem);
+    put_outputs(o.outputs, mem);
+    put_inputs(o.inputs, mem);
+    put_parameters(o.parameters, count, mem);
+    put_configuration(o.configuration, count, mem);
 }

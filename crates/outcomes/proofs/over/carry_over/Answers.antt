@@ -15,13 +15,8 @@ returns c =
     c.put_inputs.new.mem
     c.put_parameters.new.mem
     c.put_configuration.new.mem
-    _ _ _ _
     c.carry_buffers.ensures
-    c.outputs.ensures
     c.put_outputs.ensures
-    c.inputs.ensures
     c.put_inputs.ensures
-    c.parameters.ensures
     c.put_parameters.ensures
-    c.configuration.ensures
     c.put_configuration.ensures
