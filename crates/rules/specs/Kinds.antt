@@ -2,6 +2,16 @@
 -- 5 the user's diagnosis buffer (document 01, User calls).
 use Rattle.std.specs.Prelude.{ℕ, Bool, cond, ◌&&◌, ◌||◌, eqb, leb, ltb}
 use Rattle.state.specs.declared.setup.Setup.{Setup}
+use Rattle.rules.specs.declared.kinds.Octets.{Octets}
+use Rattle.rules.specs.declared.kinds.Octets.TheVariants.{Outputs, Parameters, Configuration, Inputs, Diagnosis}
+
+-- the number of a kind
+abbrev pub kind_number : Octets → ℕ
+kind_number Outputs = 1
+kind_number Parameters = 2
+kind_number Configuration = 3
+kind_number Inputs = 4
+kind_number Diagnosis = 5
 
 -- what each kind is set to hold at most; 0 where there is no such kind
 abbrev pub kind_length : Setup → ℕ → ℕ
