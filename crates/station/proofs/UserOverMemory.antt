@@ -1,8 +1,10 @@
 -- The calls of the vat program over the memory, with the parts of the state as the code read them and wrote them again.
-use Rattle.std.specs.Prelude.{Ok}
-use Rattle.std.proofs.Common.{◌≡◌, ℕ, Bool, true, false, cond, not, ◌&&◌, eqb, leb, List, sym, refl, ap, ◌∙◌}
+use Rattle.std.specs.Prelude.{Ok, Err}
+use Rattle.std.proofs.Common.{◌≡◌, ℕ, ◌+◌, ◌<◌, Bool, true, false, cond, not, ◌&&◌, eqb, leb, List, length, get_or, set, sym, refl, ap, ◌∙◌}
+use Rattle.std.proofs.Math.Bool.{and-false}
 use Rattle.buffers.specs.declared.quad.Quad.{Quad}
 use Rattle.buffers.specs.Quad.{taken}
+use Rattle.state.specs.declared.answer.Refusal.TheVariants.{Range, Absent}
 use Rattle.state.specs.declared.control.Control.{Control}
 use Rattle.state.specs.declared.setup.Setup.{Setup}
 use Rattle.state.specs.declared.state.Outputs.{Outputs}
@@ -15,15 +17,18 @@ use Rattle.state.specs.With.{with_control, with_control_but_chain, with_outputs}
 use Rattle.rules.specs.declared.outcome.Outcome.{Outcome}
 use Rattle.rules.specs.Control.{with_chain}
 use Rattle.rules.specs.Diagnosis.{delayed, diagnosed, delaying}
+use Rattle.rules.specs.Kinds.{in_range, writable}
 use Rattle.rules.specs.Line.{clear_on}
 use Rattle.rules.specs.User.{judged_parameters, judged_configuration}
 use Rattle.rules.specs.Retries.{on_chain}
 use Rattle.rules.proofs.Served.{Quiet, clear_quiet, parameters_quiet, configuration_quiet, chain_stays}
-use Rattle.steps.specs.Stepped.{packed_after, told, told_of}
+use Rattle.steps.specs.Safe.{Safe}
+use Rattle.steps.specs.Stepped.{packed_after, told, told_of, Tells}
 use Rattle.steps.specs.Line.{busy, diagnosis_leaves}
 use Rattle.steps.specs.Outcome.{is_open, diagnosis_changed, carried}
 use Rattle.steps.specs.Step.{packed}
-use Rattle.steps.specs.User.{take_outputs, new_diagnosis, judge_parameters, judge_configuration, leave_master}
+use Rattle.steps.specs.User.{absent, kind_at, take_outputs, read_octet, write_octet, new_diagnosis, judge_parameters, judge_configuration, leave_master}
+use Rattle.station.proofs.KindsInMemory.{reached}
 
 module _ (s : State) (m : List ℕ) where
   -- ---- take outputs
@@ -131,3 +136,62 @@ module _ (s : State) (m : List ℕ) where
             (tells_carried _ _ (tells ∙ (λ i. cond (e i).set.fresh 1 0))
             (g ∙ (λ i. judged_configuration (same i) (e i).set.fresh (eqb j 1)))
             (configuration_quiet s.setup s.control s.configuration.set.fresh (eqb j 1) tt))
+
+-- ---- read and write an octet, by the setup that the code read and the kind that it found
+
+module _ (s : State) (m : List ℕ) (kind index : ℕ) {setup : Setup} (same : setup ≡ s.setup) where
+  -- out of range
+  module _ (e : in_range setup kind index ≡ false) where
+    outside : in_range s.setup kind index ≡ false
+    outside = (λ i. in_range (sym same i) kind index) ∙ e
+
+    pub reads_outside : Tells (read_octet s m kind index) (Err Range) s m
+    unfolding read_octet
+    reads_outside = rw outside (record { answers = refl; states = refl; leaves = refl })
+
+    pub writes_outside : (x : ℕ) → Tells (write_octet s m kind index x) (Err Range) s m
+    unfolding write_octet
+    writes_outside x = rw ((λ i. writable kind && outside i) ∙ and-false (writable kind)) (record { answers = refl; states = refl; leaves = refl })
+
+  -- in range; k: the kind's number
+  module _ {k : ℕ} (found : (k ≡ kind) × (in_range setup kind index ≡ true)) where
+    inside : in_range s.setup kind index ≡ true
+    inside = (λ i. in_range (sym same i) kind index) ∙ found.1
+
+    -- it has its octet in the memory
+    pub lies : Safe s m → {at : ℕ} → at ≡ kind_at s k → at + index < length m
+    lies safe e = rw (e ∙ ap (kind_at s) found.0) (reached s m kind index safe inside).1
+
+    -- it is not written
+    pub writes_no_such : (x : ℕ) → {w : Bool} → w ≡ writable k → w ≡ false → Tells (write_octet s m kind index x) (Err Range) s m
+    unfolding write_octet
+    writes_no_such x e f = rw (ap writable (sym found.0) ∙ sym e ∙ f) (record { answers = refl; states = refl; leaves = refl })
+
+    module _ {a : Bool} (tested : a ≡ absent s k index) where
+      seen_absent : {t : Bool} → a ≡ t → absent s kind index ≡ t
+      seen_absent e = (λ i. absent s (sym found.0 i) index) ∙ sym tested ∙ e
+
+      -- or absent
+      pub reads_absent : a ≡ true → Tells (read_octet s m kind index) (Err Absent) s m
+      unfolding read_octet
+      reads_absent e = rw (inside, seen_absent e) (record { answers = refl; states = refl; leaves = refl })
+
+      -- else read
+      pub reads_there : a ≡ false → {at : ℕ} → at ≡ kind_at s k → {x : ℕ} → x ≡ get_or m (at + index) 0
+          → Tells (read_octet s m kind index) (Ok x) s m
+      unfolding read_octet
+      reads_there e f g = rw (inside, seen_absent e)
+          (record { answers = ap Ok (g ∙ (λ i. get_or m ((f ∙ ap (kind_at s) found.0) i + index) 0)); states = refl; leaves = refl })
+
+      module _ (x : ℕ) {w : Bool} (written : w ≡ writable k) (may : w ≡ true) where
+        writing : writable kind ≡ true
+        writing = ap writable (sym found.0) ∙ sym written ∙ may
+
+        pub writes_absent : a ≡ true → Tells (write_octet s m kind index x) (Err Absent) s m
+        unfolding write_octet
+        writes_absent e = rw (writing, inside, seen_absent e) (record { answers = refl; states = refl; leaves = refl })
+
+        pub writes_there : a ≡ false → {at : ℕ} → at ≡ kind_at s k → Tells (write_octet s m kind index x) (Ok 0) s (set m (at + index) x)
+        unfolding write_octet
+        writes_there e f = rw (writing, inside, seen_absent e)
+            (record { answers = refl; states = refl; leaves = λ i. set m ((f ∙ ap (kind_at s) found.0) i + index) x })

@@ -3,6 +3,7 @@ ghost use Rattle.std.specs.Prelude.{◌≡◌, if◌then◌else◌, nat_le};
 ghost use Rattle.state.specs.Answer.{Meets};
 ghost use Rattle.state.specs.Memory.{Holds};
 ghost use Rattle.state.specs.Unpack.{unpacked};
+ghost use Rattle.rules.specs.Kinds.{kind_number};
 ghost use Rattle.steps.specs.Stepped.{Tells};
 ghost use Rattle.steps.specs.Step.{packed};
 ghost use Rattle.steps.specs.User.{absent, kind_at, take_outputs, read_octet, write_octet, hand_over, new_diagnosis, judge_parameters, judge_configuration, acknowledge_events, leave_master};
@@ -13,7 +14,7 @@ use outcomes::line::{busy_in, diagnosis_leaves_in};
 use outcomes::over::carry_over;
 use outcomes::settling::change_diagnosis;
 use rules::diagnosis::{delaying, diagnosed, is_delayed};
-use rules::kinds::in_range;
+use rules::kinds::{Octets, addressed};
 use rules::line::clear_on;
 use rules::user::{judged_configuration, judged_parameters};
 use state::answer::{Answer, Refusal};
@@ -50,49 +51,32 @@ pub fn take_outputs(mem: &mut [u8]) -> Answer
     Ok(new_number(zeros))
 }
 
-// An index is not below a count.
-fn past(count: u8, index: u32) -> bool
-    ensures { result ≡ nat_le count index }
-{
-    count as u32 <= index
-}
-
 // Kind 2 or 3 with no set shown or at an index not below its count, kind 5 while a new diagnosis is delayed.
-fn absent(mem: &[u8], kind: u32, index: u32) -> bool
+fn absent(mem: &[u8], kind: Octets, index: u32) -> bool
     requires { Holds mem.now (unpacked mem.now) }
-    ensures { result ≡ absent (unpacked mem.now) kind index }
+    ensures { result ≡ absent (unpacked mem.now) (kind_number kind) index }
 {
-    let parameters = load::parameters(mem);
-    let configuration = load::configuration(mem);
-    let diagnosis = load::diagnosis(mem);
-    ((kind == 2) & past(parameters.shown, index))
-        | ((kind == 3) & past(configuration.shown, index))
-        | ((kind == 5) & is_delayed(diagnosis))
+    match kind {
+        Octets::Parameters => u32::from(load::parameters(mem).shown) <= index,
+        Octets::Configuration => u32::from(load::configuration(mem).shown) <= index,
+        Octets::Diagnosis => is_delayed(load::diagnosis(mem)),
+        Octets::Outputs | Octets::Inputs => false,
+    }
 }
 
 // Where the octets of a kind begin.
-fn kind_at(mem: &[u8], kind: u32) -> usize
+fn kind_at(mem: &[u8], kind: Octets) -> usize
     requires { Holds mem.now (unpacked mem.now) }
-    ensures { result ≡ kind_at (unpacked mem.now) kind }
+    ensures { result ≡ kind_at (unpacked mem.now) (kind_number kind) }
 {
     let setup = load::setup(mem);
-    if kind == 1 {
-        let outputs = load::outputs(mem);
-        return outputs_at(setup, outputs.set.held());
+    match kind {
+        Octets::Outputs => outputs_at(setup, load::outputs(mem).set.held()),
+        Octets::Parameters => parameters_at(setup, load::parameters(mem).set.held()),
+        Octets::Configuration => configuration_at(setup, load::configuration(mem).set.held()),
+        Octets::Inputs => inputs_at(setup, load::inputs(mem).held()),
+        Octets::Diagnosis => diagnosis_at(setup, user_place(load::swapped(mem))),
     }
-    if kind == 2 {
-        let parameters = load::parameters(mem);
-        return parameters_at(setup, parameters.set.held());
-    }
-    if kind == 3 {
-        let configuration = load::configuration(mem);
-        return configuration_at(setup, configuration.set.held());
-    }
-    if kind == 4 {
-        let inputs = load::inputs(mem);
-        return inputs_at(setup, inputs.held());
-    }
-    diagnosis_at(setup, user_place(load::swapped(mem)))
 }
 
 // Reading answers the octet; the state is not unpacked as a whole.
@@ -100,13 +84,13 @@ pub fn read_octet(mem: &[u8], kind: u32, index: u32) -> Answer
     requires { Holds mem.now (unpacked mem.now) }
     ensures { Tells (read_octet (unpacked mem.now) mem.now kind index) result (unpacked mem.now) mem.now }
 {
-    if !in_range(load::setup(mem), kind, index) {
+    let Some(octets) = addressed(load::setup(mem), kind, index) else {
         return Err(Refusal::Range);
-    }
-    if absent(mem, kind, index) {
+    };
+    if absent(mem, octets, index) {
         return Err(Refusal::Absent);
     }
-    Ok(mem[kind_at(mem, kind) + index as usize] as u32)
+    Ok(u32::from(mem[kind_at(mem, octets) + index as usize]))
 }
 
 // Kinds 4 and 5 are written.
@@ -114,14 +98,16 @@ pub fn write_octet(mem: &mut [u8], kind: u32, index: u32, octet: u8) -> Answer
     requires { Holds mem.old (unpacked mem.old) }
     ensures { Tells (write_octet (unpacked mem.old) mem.old kind index octet) result (unpacked mem.old) mem.new }
 {
-    let setup = load::setup(&mem[..]);
-    if !(((kind == 4) | (kind == 5)) & in_range(setup, kind, index)) {
+    let Some(octets) = addressed(load::setup(&mem[..]), kind, index) else {
+        return Err(Refusal::Range);
+    };
+    if !octets.is_writable() {
         return Err(Refusal::Range);
     }
-    if absent(&mem[..], kind, index) {
+    if absent(&mem[..], octets, index) {
         return Err(Refusal::Absent);
     }
-    let from = kind_at(&mem[..], kind);
+    let from = kind_at(&mem[..], octets);
     mem[from + index as usize] = octet;
     Ok(0)
 }
