@@ -9,8 +9,8 @@ use std::io;
 // A telegram after a gap, then Ticks, by the exported calls.
 fn take_turn(memory: &mut [u8], telegram: &[u8], count: usize) {
     calls::gap(memory);
-    for octet in telegram {
-        calls::octet(memory, *octet, false);
+    for &octet in telegram {
+        calls::octet(memory, octet, false);
     }
     for _ in 0..count {
         calls::tick(memory);
@@ -18,14 +18,16 @@ fn take_turn(memory: &mut [u8], telegram: &[u8], count: usize) {
 }
 
 // Start, Set_Prm and Chk_Cfg with their judgements: address 5, ident 80B3, one output, one input, master 2, 100 Ticks.
-fn set_up(memory: &mut [u8]) {
-    station::start::start(memory, 5, 0x80B3, 1, 1, 7, 1, 6, b"\x31", &[0u8; 32]);
+fn set_up() -> [u8; 1536] {
+    let mut memory = [0u8; 1536];
+    station::start::start(&mut memory, 5, 0x80B3, 1, 1, 7, 1, 6, b"\x31", &[0u8; 32]);
     let prm = b"\x68\x0C\x0C\x68\x85\x82\x5D\x3D\x3E\x88\x01\x0A\x0B\x80\xB3\x00\xB0\x16";
-    take_turn(memory, prm, 0);
-    calls::judge_parameters(memory, 1);
+    take_turn(&mut memory, prm, 0);
+    calls::judge_parameters(&mut memory, 1);
     let cfg = b"\x68\x06\x06\x68\x85\x82\x7D\x3E\x3E\x31\x31\x16";
-    take_turn(memory, cfg, 0);
-    calls::judge_configuration(memory, 1);
+    take_turn(&mut memory, cfg, 0);
+    calls::judge_configuration(&mut memory, 1);
+    memory
 }
 
 fn print_answer(rt: &impl Print, answer: Answer) -> io::Result<()> {
@@ -50,13 +52,11 @@ fn print_seen(rt: &impl Print, memory: &mut [u8]) -> io::Result<()> {
 fn exchange(rt: &impl Print, count: usize) -> io::Result<()> {
     let first = b"\x68\x04\x04\x68\x05\x02\x5D\x7A\xDE\x16";
     let second = b"\x68\x04\x04\x68\x05\x02\x7D\x7B\xFF\x16";
-    let mut packed = [0u8; 1536];
-    set_up(&mut packed);
+    let mut packed = set_up();
     take_turn(&mut packed, first, count);
     take_turn(&mut packed, second, count);
     print_seen(rt, &mut packed)?;
-    let mut lent = [0u8; 1536];
-    set_up(&mut lent);
+    let mut lent = set_up();
     if lent::bench::exchange(&mut lent, first, second, count) {
         print_seen(rt, &mut lent)?;
     }
