@@ -2,6 +2,9 @@
 // and less room, is damaged or not.
 #![tactic(auto)]
 
+ghost use Rattle.std.specs.Prelude.{◌≤◌};
+ghost use Rattle.channels.specs.Image.{rows_end};
+
 use buffers::events::Events;
 use buffers::quad::Quad;
 use buffers::triple::Triple;
@@ -14,7 +17,7 @@ use state::load::unpack;
 use state::memory::holds_state;
 use state::setup::Setup;
 use state::state::{Drawn, Header, Incoming, Outputs, Reply, Sets, State};
-use std::io;
+use std::{fmt, io};
 use telegram::reader::Reader;
 use telegram::sender::{Sender, Stage};
 use telegram::{Kind, reader};
@@ -150,218 +153,215 @@ fn least() -> State {
     })
 }
 
+// A channel that is not set up, and one with the longest buffers, both full.
+const NO_CHANNEL: [u8; 4] = [0; 4];
+
+const MOST_CHANNEL: [u8; 4] = [240; 4];
+
 // The lengths of both buffers of a channel, and how many octets of each are in use.
-fn channel_of(
-    indication_len: u8,
-    response_len: u8,
-    indication_count: u8,
-    response_count: u8,
-) -> Channel {
+fn channel_of(octets: [u8; 4]) -> Channel {
+    let [
+        indication_len,
+        response_len,
+        indication_count,
+        response_count,
+    ] = octets;
     Channel {
-        indication_len: indication_len,
-        response_len: response_len,
-        indication_count: indication_count,
-        response_count: response_count,
+        indication_len,
+        response_len,
+        indication_count,
+        response_count,
     }
 }
 
-// The longest buffers, and both full.
-fn most_channel() -> Channel {
-    channel_of(240, 240, 240, 240)
+// A memory of zeros with a state saved in it, and with the first and the last channel so.
+fn saved<const N: usize>(s: State, first: Channel, last: Channel) -> [u8; N]
+    requires { rows_end ≤ N }
+{
+    let mut mem = [0u8; N];
+    save(s, &mut mem);
+    channel::save(first, 0, &mut mem);
+    channel::save(last, 15, &mut mem);
+    mem
 }
 
-// One that is not set up.
-fn no_channel() -> Channel {
-    channel_of(0, 0, 0, 0)
-}
+// Octets by two digits each.
+#[derive(Clone, Copy)]
+struct Hex<'a>(&'a [u8]);
 
-fn print_octet(rt: &impl Print, octet: u8) -> io::Result<()> {
-    print!(rt; "{octet:02x}")
-}
-
-fn print_octets(rt: &impl Print, octets: &[u8]) -> io::Result<()> {
-    for octet in octets {
-        print_octet(rt, *octet)?;
+impl fmt::Display for Hex<'_> {
+    fn fmt<W: fmt::Write>(&self, f: &mut fmt::Formatter<W>) -> fmt::Result {
+        for octet in self.0 {
+            write!(f, "{octet:02x}")?;
+        }
+        Ok(())
     }
-    println!(rt)
 }
 
 // The state part up to its last field, the channels' last row.
-fn print_front(rt: &impl Print, mem: &[u8]) -> io::Result<()> {
-    if 192 <= mem.len() {
-        print_octets(rt, &mem[..192])?;
-    }
-    Ok(())
+fn print_front(rt: &impl Print, mem: &[u8; 512]) -> io::Result<()> {
+    println!(rt; "{}", Hex(&mem[..192]))
 }
 
 // Saved, with the first and the last channel so, loaded, and what was loaded saved again.
 fn through(rt: &impl Print, s: State, c: Channel) -> io::Result<()> {
-    let mut mem = [0u8; 512];
-    save(s, &mut mem);
-    channel::save(c, 0, &mut mem);
-    channel::save(c, 15, &mut mem);
+    let mem = saved(s, c, c);
     print_front(rt, &mem)?;
-    let loaded = unpack(&mem);
-    let first = channel::load(&mem, 0);
-    let last = channel::load(&mem, 15);
-    let mut again = [0u8; 512];
-    save(loaded, &mut again);
-    channel::save(first, 0, &mut again);
-    channel::save(last, 15, &mut again);
+    let again = saved(
+        unpack(&mem),
+        channel::load(&mem, 0),
+        channel::load(&mem, 15),
+    );
     print_front(rt, &again)
 }
 
-fn print_well(rt: &impl Print, ok: bool) -> io::Result<()> {
-    if ok {
-        println!(rt; "well")
-    } else {
-        println!(rt; "damaged")
-    }
+// Whether a memory holds a state.
+fn print_verdict(rt: &impl Print, mem: &[u8]) -> io::Result<()> {
+    let verdict = if holds_state(mem) { "well" } else { "damaged" };
+    println!(rt; "{verdict}")
 }
 
 // One octet changed. Of the channels the first and the last are set up.
 fn changed(rt: &impl Print, at: usize, octet: u8) -> io::Result<()> {
-    let mut mem = [0u8; 5440];
-    save(most(), &mut mem);
-    channel::save(most_channel(), 0, &mut mem);
-    channel::save(most_channel(), 15, &mut mem);
+    let c = channel_of(MOST_CHANNEL);
+    let mut mem: [u8; 5440] = saved(most(), c, c);
     octets::store(&mut mem, at, octet);
-    print_well(rt, holds_state(&mem))
+    print_verdict(rt, &mem)
+}
+
+// Each of some octets changed alone.
+fn each_changed(rt: &impl Print, changes: &[(usize, u8)]) -> io::Result<()> {
+    for &(at, octet) in changes {
+        changed(rt, at, octet)?;
+    }
+    Ok(())
 }
 
 // The last code of each, and one past it: the place of the reply, the roles of the outputs, the input set, the modes, the marks of
 // the outputs, what the chain's request drew and its master.
-fn codes(rt: &impl Print) -> io::Result<()> {
-    changed(rt, 19, 3)?;
-    changed(rt, 19, 4)?;
-    changed(rt, 22, 23)?;
-    changed(rt, 22, 24)?;
-    changed(rt, 23, 11)?;
-    changed(rt, 23, 12)?;
-    changed(rt, 27, 15)?;
-    changed(rt, 27, 16)?;
-    changed(rt, 29, 7)?;
-    changed(rt, 29, 8)?;
-    changed(rt, 54, 17)?;
-    changed(rt, 54, 18)?;
-    changed(rt, 55, 127)?;
-    changed(rt, 55, 128)
-}
+const CODES: [(usize, u8); 14] = [
+    (19, 3),
+    (19, 4),
+    (22, 23),
+    (22, 24),
+    (23, 11),
+    (23, 12),
+    (27, 15),
+    (27, 16),
+    (29, 7),
+    (29, 8),
+    (54, 17),
+    (54, 18),
+    (55, 127),
+    (55, 128),
+];
 
-// The two octets that are not used among the counts; those that belong to no field, which may have any value, before the rows of the channels
-// and behind them; and one behind the state part.
-fn unused(rt: &impl Print) -> io::Result<()> {
-    changed(rt, 62, 1)?;
-    changed(rt, 63, 1)?;
-    changed(rt, 68, 1)?;
-    changed(rt, 127, 255)?;
-    changed(rt, 192, 1)?;
-    changed(rt, 511, 255)?;
-    changed(rt, 512, 255)
-}
+// An owner is any octet; a length and a count are not.
+const LENGTHS: [(usize, u8); 4] = [(0, 200), (48, 245), (49, 245), (56, 5)];
+
+// The two octets that are not used among the counts; those that belong to no field, which may have any value, before the rows of the
+// channels and behind them; and one behind the state part.
+const UNUSED: [(usize, u8); 7] = [
+    (62, 1),
+    (63, 1),
+    (68, 1),
+    (127, 255),
+    (192, 1),
+    (511, 255),
+    (512, 255),
+];
+
+// The ticks that remain and what they are refilled to: any octet, at the low end of each and at the high end.
+const TICKS: [(usize, u8); 4] = [(44, 0), (47, 0), (64, 0), (67, 0)];
+
+// Counts of the telegram that is read and of the reply, and sets that wait behind none.
+const COUNTS: [(usize, u8); 10] = [
+    // more than 246 data octets to read, more read than there are, some read before the data, all of them
+    (32, 247),
+    (33, 247),
+    (31, 8),
+    (31, 9),
+    // the same of the reply
+    (14, 247),
+    (15, 247),
+    (17, 6),
+    (17, 7),
+    // no parameters shown, no configuration shown, and a set of each waits
+    (58, 0),
+    (60, 0),
+];
+
+// One octet of the channels that are full, by its row: a length too long, too short for its count, 0 beside one that is not; a count above
+// the length, and below it.
+const FULL_CHANNELS: [(u8, u8); 10] = [
+    (128, 241),
+    (128, 239),
+    (128, 0),
+    (144, 241),
+    (144, 239),
+    (144, 0),
+    (160, 241),
+    (160, 239),
+    (176, 241),
+    (176, 0),
+];
 
 // A row of the channels: the first channel's octet and the last one's.
-fn ends_of_row(rt: &impl Print, at: usize, octet: u8) -> io::Result<()> {
-    if at < 512 {
+fn full_channels(rt: &impl Print) -> io::Result<()> {
+    for (row, octet) in FULL_CHANNELS {
+        let at = usize::from(row);
         changed(rt, at, octet)?;
         changed(rt, at + 15, octet)?;
     }
     Ok(())
 }
 
-// One octet of the channels that are full: a length too long, too short for its count, 0 beside one that is not; a count above the length,
-// and below it.
-fn full_channels(rt: &impl Print) -> io::Result<()> {
-    ends_of_row(rt, 128, 241)?;
-    ends_of_row(rt, 128, 239)?;
-    ends_of_row(rt, 128, 0)?;
-    ends_of_row(rt, 144, 241)?;
-    ends_of_row(rt, 144, 239)?;
-    ends_of_row(rt, 144, 0)?;
-    ends_of_row(rt, 160, 241)?;
-    ends_of_row(rt, 160, 239)?;
-    ends_of_row(rt, 176, 241)?;
-    ends_of_row(rt, 176, 0)
-}
-
 // One octet of channels that are not set up: channel 1 beside one that is, channels 4 and 11 among such as are not either.
-fn free_channels(rt: &impl Print) -> io::Result<()> {
-    changed(rt, 129, 4)?;
-    changed(rt, 145, 4)?;
-    changed(rt, 161, 1)?;
-    changed(rt, 177, 1)?;
-    changed(rt, 132, 4)?;
-    changed(rt, 155, 4)?;
-    changed(rt, 164, 1)?;
-    changed(rt, 187, 1)
-}
+const FREE_CHANNELS: [(usize, u8); 8] = [
+    (129, 4),
+    (145, 4),
+    (161, 1),
+    (177, 1),
+    (132, 4),
+    (155, 4),
+    (164, 1),
+    (187, 1),
+];
 
 // A channel, as the first one and as the last one.
 fn channel_alone(rt: &impl Print, c: Channel) -> io::Result<()> {
-    let mut first = [0u8; 1536];
-    save(least(), &mut first);
-    channel::save(c, 0, &mut first);
-    print_well(rt, holds_state(&first))?;
-    let mut last = [0u8; 1536];
-    save(least(), &mut last);
-    channel::save(c, 15, &mut last);
-    print_well(rt, holds_state(&last))
+    let none = channel_of(NO_CHANNEL);
+    let first: [u8; 1536] = saved(least(), c, none);
+    print_verdict(rt, &first)?;
+    let last: [u8; 1536] = saved(least(), none, c);
+    print_verdict(rt, &last)
 }
 
 // Lengths and counts at their limits, and one past them.
 fn channels_alone(rt: &impl Print) -> io::Result<()> {
-    channel_alone(rt, channel_of(4, 4, 0, 0))?;
-    channel_alone(rt, channel_of(4, 4, 4, 4))?;
-    channel_alone(rt, channel_of(4, 4, 5, 4))?;
-    channel_alone(rt, channel_of(4, 4, 4, 5))?;
-    channel_alone(rt, channel_of(3, 4, 0, 0))?;
-    channel_alone(rt, channel_of(4, 3, 0, 0))?;
-    channel_alone(rt, channel_of(4, 240, 4, 240))?;
-    channel_alone(rt, channel_of(240, 4, 240, 4))?;
-    channel_alone(rt, channel_of(241, 4, 0, 0))?;
-    channel_alone(rt, channel_of(4, 241, 0, 0))?;
-    channel_alone(rt, channel_of(4, 0, 0, 0))?;
-    channel_alone(rt, channel_of(0, 4, 0, 0))?;
-    channel_alone(rt, channel_of(0, 0, 1, 0))?;
-    channel_alone(rt, channel_of(0, 0, 0, 1))
-}
-
-// The ticks that remain and what they are refilled to: any octet, at the low end of each and at the high end.
-fn ticks(rt: &impl Print) -> io::Result<()> {
-    changed(rt, 44, 0)?;
-    changed(rt, 47, 0)?;
-    changed(rt, 64, 0)?;
-    changed(rt, 67, 0)
-}
-
-// Counts of the telegram that is read and of the reply, and sets that wait behind none.
-fn counts(rt: &impl Print) -> io::Result<()> {
-    // more than 246 data octets to read, more read than there are, some read before the data, all of them
-    changed(rt, 32, 247)?;
-    changed(rt, 33, 247)?;
-    changed(rt, 31, 8)?;
-    changed(rt, 31, 9)?;
-    // the same of the reply
-    changed(rt, 14, 247)?;
-    changed(rt, 15, 247)?;
-    changed(rt, 17, 6)?;
-    changed(rt, 17, 7)?;
-    // no parameters shown, no configuration shown, and a set of each waits
-    changed(rt, 58, 0)?;
-    changed(rt, 60, 0)
-}
-
-// Whether the front of a memory holds a state.
-fn in_front(rt: &impl Print, mem: &[u8], len: usize) -> io::Result<()> {
-    if len <= mem.len() {
-        print_well(rt, holds_state(&mem[..len]))?;
+    for c in [
+        [4, 4, 0, 0],
+        [4, 4, 4, 4],
+        [4, 4, 5, 4],
+        [4, 4, 4, 5],
+        [3, 4, 0, 0],
+        [4, 3, 0, 0],
+        [4, 240, 4, 240],
+        [240, 4, 240, 4],
+        [241, 4, 0, 0],
+        [4, 241, 0, 0],
+        [4, 0, 0, 0],
+        [0, 4, 0, 0],
+        [0, 0, 1, 0],
+        [0, 0, 0, 1],
+    ] {
+        channel_alone(rt, channel_of(c))?;
     }
     Ok(())
 }
 
 // As Start leaves it with all six lengths n and the last channel so, in a memory of so many octets and in one of eight fewer.
 fn room(rt: &impl Print, n: u8, c: Channel, len: usize) -> io::Result<()> {
-    let mut mem = [0u8; 4992];
     let s = state::start::initial(Setup {
         address: 126,
         ident: 0,
@@ -372,76 +372,83 @@ fn room(rt: &impl Print, n: u8, c: Channel, len: usize) -> io::Result<()> {
         diagnosis_len: n,
         get_cfg_len: n,
     });
-    save(s, &mut mem);
-    channel::save(c, 15, &mut mem);
-    in_front(rt, &mem, len)?;
-    if 8 <= len {
-        in_front(rt, &mem, len - 8)?;
+    let mem: [u8; 4992] = saved(s, channel_of(NO_CHANNEL), c);
+    if let Some(front) = mem.get(..len) {
+        print_verdict(rt, front)?;
+        if let Some((shorter, _)) = front.split_last_chunk::<8>() {
+            print_verdict(rt, shorter)?;
+        }
     }
     Ok(())
 }
 
-// 64 ends at 1,536; 56 and 7 well before; 65 at 1,664; 244 at 4,480; 6 is no length of parameters. Channels of 4 and 4 end 16 octets behind,
-// of 9 and 7 24, of 240 and 240 480.
+// 64 ends at 1,536; 56 and 7 well before; 65 at 1,664; 244 at 4,480; 6 is no length of parameters. Channels of 4 and 4 end 16 octets
+// behind, of 9 and 7 24, of 240 and 240 480.
 fn rooms(rt: &impl Print) -> io::Result<()> {
-    room(rt, 64, no_channel(), 1536)?;
-    room(rt, 56, no_channel(), 1536)?;
-    room(rt, 7, no_channel(), 1536)?;
-    room(rt, 65, no_channel(), 1536)?;
-    room(rt, 65, no_channel(), 1664)?;
-    room(rt, 244, no_channel(), 4480)?;
-    room(rt, 6, no_channel(), 1536)?;
-    room(rt, 64, channel_of(4, 4, 0, 0), 1552)?;
-    room(rt, 64, channel_of(9, 7, 0, 0), 1560)?;
-    room(rt, 7, most_channel(), 1120)?;
-    room(rt, 65, most_channel(), 2144)?;
-    room(rt, 244, most_channel(), 4960)
+    for (n, c, len) in [
+        (64, NO_CHANNEL, 1536),
+        (56, NO_CHANNEL, 1536),
+        (7, NO_CHANNEL, 1536),
+        (65, NO_CHANNEL, 1536),
+        (65, NO_CHANNEL, 1664),
+        (244, NO_CHANNEL, 4480),
+        (6, NO_CHANNEL, 1536),
+        (64, [4, 4, 0, 0], 1552),
+        (64, [9, 7, 0, 0], 1560),
+        (7, MOST_CHANNEL, 1120),
+        (65, MOST_CHANNEL, 2144),
+        (244, MOST_CHANNEL, 4960),
+    ] {
+        room(rt, n, channel_of(c), len)?;
+    }
+    Ok(())
 }
 
-// As Start leaves it with these lengths of outputs and inputs, beside short ones and beside a long one.
-fn sides(rt: &impl Print, outputs: u8, inputs: u8) -> io::Result<()> {
-    side(rt, outputs, inputs, 7)?;
-    side(rt, outputs, inputs, 244)
-}
-
-fn side(rt: &impl Print, outputs: u8, inputs: u8, parameters: u8) -> io::Result<()> {
-    let mut mem = [0u8; 4480];
+// As Start leaves it with these lengths of outputs, inputs and parameters.
+fn side(rt: &impl Print, output_len: u8, input_len: u8, parameter_len: u8) -> io::Result<()> {
     let s = state::start::initial(Setup {
         address: 126,
         ident: 0,
-        output_len: outputs,
-        input_len: inputs,
-        parameter_len: parameters,
+        output_len,
+        input_len,
+        parameter_len,
         configuration_len: 1,
         diagnosis_len: 6,
         get_cfg_len: 1,
     });
-    save(s, &mut mem);
-    print_well(rt, holds_state(&mem))
+    let none = channel_of(NO_CHANNEL);
+    let mem: [u8; 4480] = saved(s, none, none);
+    print_verdict(rt, &mem)
+}
+
+// Outputs or inputs may be missing, not both; beside short parameters and beside long ones.
+fn sides(rt: &impl Print) -> io::Result<()> {
+    for (outputs, inputs) in [
+        (0, 0),
+        (0, 1),
+        (1, 0),
+        (0, 244),
+        (244, 0),
+        (0, 245),
+        (245, 0),
+    ] {
+        side(rt, outputs, inputs, 7)?;
+        side(rt, outputs, inputs, 244)?;
+    }
+    Ok(())
 }
 
 fn main(rt: HostRuntime) -> io::Result<()> {
-    through(&rt, most(), most_channel())?;
-    through(&rt, least(), channel_of(4, 4, 0, 0))?;
-    codes(&rt)?;
-    // an owner is any octet; a length and a count are not
-    changed(&rt, 0, 200)?;
-    changed(&rt, 48, 245)?;
-    changed(&rt, 49, 245)?;
-    changed(&rt, 56, 5)?;
-    // outputs or inputs may be missing, not both
-    sides(&rt, 0, 0)?;
-    sides(&rt, 0, 1)?;
-    sides(&rt, 1, 0)?;
-    sides(&rt, 0, 244)?;
-    sides(&rt, 244, 0)?;
-    sides(&rt, 0, 245)?;
-    sides(&rt, 245, 0)?;
-    unused(&rt)?;
-    ticks(&rt)?;
-    counts(&rt)?;
+    through(&rt, most(), channel_of(MOST_CHANNEL))?;
+    through(&rt, least(), channel_of([4, 4, 0, 0]))?;
+    each_changed(&rt, &CODES)?;
+    each_changed(&rt, &LENGTHS)?;
+    sides(&rt)?;
+    each_changed(&rt, &UNUSED)?;
+    each_changed(&rt, &TICKS)?;
+    each_changed(&rt, &COUNTS)?;
     full_channels(&rt)?;
-    free_channels(&rt)?;
+    each_changed(&rt, &FREE_CHANNELS)?;
     channels_alone(&rt)?;
     rooms(&rt)
 }
