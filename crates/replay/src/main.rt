@@ -14,91 +14,59 @@
 
 mod begin;
 mod call;
+mod fault;
 mod text;
 
-use call::{Call, Said};
-use std::io;
+use call::Call;
+use fault::Fault;
+use std::alloc::{AllocError, Global};
 use std::io::Read;
-use text::Span;
+use std::{fmt, io};
 
-fn print_number(rt: &impl Print, n: u64) -> io::Result<()> {
-    println!(rt; "{n}")
-}
+// What a call answers. A refusal's number is an octet at most; an answer below that would be none.
+#[derive(Clone, Copy)]
+struct Answer(i64);
 
-// A refusal's number is an octet at most; an answer below that would be none.
-fn print_answer(rt: &impl Print, answer: i64) -> io::Result<()> {
-    if 0 <= answer {
-        return print_number(rt, answer as u64);
-    }
-    if answer < -255 {
-        return println!(rt; "? no answer");
-    }
-    print!(rt; "-")?;
-    print_number(rt, (0 - answer) as u64)
-}
-
-fn print_said(rt: &impl Print, said: Said, line: usize) -> io::Result<()> {
-    match said {
-        Said::Answered(answer) => print_answer(rt, answer),
-        Said::Unknown => {
-            print!(rt; "? line ")?;
-            print_number(rt, line as u64)
+impl fmt::Display for Answer {
+    fn fmt<W: fmt::Write>(&self, f: &mut fmt::Formatter<W>) -> fmt::Result {
+        match self.0 {
+            ..-255 => write!(f, "? no answer"),
+            answer => write!(f, "{answer}"),
         }
     }
 }
 
-// The call on the front of the memory.
-fn run_on(memory: &mut [u8], len: usize, call: Call) -> Said {
-    if memory.len() < len {
-        return Said::Unknown;
+// What the call of a line answers, None for a line to skip.
+fn answer_to(alloc: Global, memory: &mut Vec<u8>, words: &[&[u8]]) -> Result<Option<i64>, Fault> {
+    match words {
+        [] | [[b'#', ..], ..] => Ok(None),
+        [b"start", asked @ ..] => Ok(Some(begin::begin(alloc, memory, asked)?)),
+        _ => Ok(Some(Call::try_from(words)?.run(memory))),
     }
-    call::run(&mut memory[..len], call)
 }
 
-// One line: its call and what it says. The length of the memory from then on.
+// One line: its call and what it says.
 fn one_line(
-    rt: &impl Print,
-    memory: &mut [u8],
-    len: usize,
-    source: &[u8],
-    span: Span,
-    line: usize,
-) -> io::Result<usize> {
-    let verb = text::word(source, span.from, span.to);
-    if text::is_empty(verb) {
-        return Ok(len);
+    rt: &(impl Print + AllocGlobal),
+    memory: &mut Vec<u8>,
+    line: &[u8],
+    number: usize,
+) -> io::Result<()> {
+    let words = text::words_of(rt.alloc(), line)?;
+    match answer_to(rt.alloc(), memory, &words) {
+        Ok(Some(answer)) => println!(rt; "{}", Answer(answer)),
+        Ok(None) => Ok(()),
+        Err(Fault::NoCall) => println!(rt; "? line {number}"),
+        Err(Fault::OutOfMemory) => Err(io::Error::from(AllocError)),
     }
-    if text::octet_at(source, verb.from) == b'#' {
-        return Ok(len);
-    }
-    if text::is_word(source, verb, b"start") {
-        let begun = begin::begin(memory, len, source, verb.to, span.to);
-        let said = begun.said;
-        print_said(rt, said, line)?;
-        return Ok(begun.len);
-    }
-    print_said(
-        rt,
-        run_on(memory, len, call::call_of(source, verb, span.to)),
-        line,
-    )?;
-    Ok(len)
 }
 
-// Every line of a text.
-fn replay(rt: &impl Print, memory: &mut [u8], source: &[u8]) -> io::Result<()> {
-    let mut len = 0;
-    let mut from = 0;
-    let mut lines = 1;
-    for at in 0..source.len() {
-        if source[at] == b'\n' {
-            len = one_line(rt, memory, len, source, Span { from: from, to: at }, lines)?;
-            lines += 1;
-            from = at + 1;
-        }
+// Every line of a text, on a memory that is empty before the first Start.
+fn replay(rt: &(impl Print + AllocGlobal), source: &[u8]) -> io::Result<()> {
+    let mut memory = Vec::new(rt.alloc());
+    for (line, number) in source.split(|octet| *octet == b'\n').zip(1..) {
+        one_line(rt, &mut memory, line, number)?;
     }
-    let to = source.len();
-    one_line(rt, memory, len, source, Span { from: from, to: to }, lines)?;
     Ok(())
 }
 
@@ -107,8 +75,7 @@ fn main(rt: HostRuntime) -> io::Result<()> {
     let mut reader = rt.reader();
     let mut source = Vec::new(rt.alloc());
     reader.by_ref().take(65536).read_to_end(&mut source)?;
-    let mut memory = [0u8; 16384];
-    replay(&rt, &mut memory, &source)?;
+    replay(&rt, &source)?;
     let mut more = Vec::new(rt.alloc());
     if 0 < reader.take(1).read_to_end(&mut more)? {
         println!(rt; "? longer than 65536 octets")?;

@@ -1,0 +1,22 @@
+// Why a line has no answer.
+use std::alloc::AllocError;
+use std::num::TryFromIntError;
+
+#[derive(Clone, Copy, Debug)]
+pub enum Fault {
+    NoCall,
+    OutOfMemory,
+}
+
+impl From<AllocError> for Fault {
+    fn from(_e: AllocError) -> Fault {
+        Fault::OutOfMemory
+    }
+}
+
+// A number that has more bits than the call takes.
+impl From<TryFromIntError> for Fault {
+    fn from(_e: TryFromIntError) -> Fault {
+        Fault::NoCall
+    }
+}
