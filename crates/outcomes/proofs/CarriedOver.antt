@@ -4,13 +4,10 @@ use native.Mathlib.Omega.{arith}
 use mathlib.Core.Path.{◌≡◌, refl, sym, ap, subst, ◌∙◌}
 use mathlib.Core.List.{List, ◌++◌}
 use lib.ListN.{take, take-append-drop}
-use Rattle.buffers.specs.declared.triple.Triple.{Triple}
 use Rattle.buffers.specs.Roles.{next_of}
 use Rattle.buffers.specs.Roles as role
 use Rattle.octets.proofs.Parts.{pasted_take}
 use Rattle.state.specs.declared.control.Control.{Control}
-use Rattle.state.specs.declared.state.Outputs.{Outputs}
-use Rattle.state.specs.declared.state.Sets.{Sets}
 use Rattle.state.specs.declared.state.State.{State}
 use Rattle.state.specs.Image.{image}
 use Rattle.state.specs.Layout.{image_length, output_row}
@@ -26,18 +23,13 @@ use Rattle.state.proofs.Written.{again, onto}
 use Rattle.rules.specs.declared.outcome.OutputsDeed.{OutputsDeed}
 use Rattle.rules.specs.declared.outcome.OutputsDeed.TheVariants as outputs-deed
 use Rattle.rules.specs.declared.outcome.Outcome.{Outcome}
-use Rattle.rules.specs.Control.{with_chain}
 use Rattle.rules.specs.Retries.{on_chain}
 use Rattle.steps.specs.Safe.{Safe}
 use Rattle.steps.specs.Stepped.{packed_after}
 use Rattle.steps.specs.Outcome.{on_outputs, on_inputs, on_sets, on_memory, carried}
 use Rattle.steps.proofs.Behind.{behind, safe_long, alike_carried}
 use Rattle.steps.proofs.Holding.{holds_safe, sound_safe}
-use Rattle.steps.proofs.KeepsSafe.{buffer_room}
-
--- a part of the state that was written as x is written as y, where x is y
-pub put : {A : Type 0} (part : State → A → State) {m n : List ℕ} {x y : A} → Changes m n (λ s. part s x) → x ≡ y → Changes m n (λ s. part s y)
-put {A} part {m} p e s f = p s f ∙ ap (λ (z : A). kept (part s z) m) e
+use Rattle.outcomes.proofs.NextRoom.{next_room}
 
 -- zeros in a buffer leave the state part
 buffers_front : (d : OutputsDeed) (s : State) (m : List ℕ) → Safe s m → take image_length (on_memory d s m) ≡ take image_length m
@@ -48,7 +40,7 @@ buffers_front outputs-deed.Release s m safe = refl
 buffers_front outputs-deed.Zeros s m safe =
     let k = next_of s.outputs.set.place in
     let long = safe_long s m safe in
-    let room = buffer_room s m output_row k safe (safe.outputs.within role.next (omega arith)) in
+    let room = next_room s m safe in
     pasted_take m _ _ image_length (inside s.setup output_row k 0 (safe.outputs.within role.next (omega arith)) (omega arith)).0 (omega arith)
 
 -- and which buffer it is does not depend on the control part

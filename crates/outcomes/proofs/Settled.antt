@@ -2,11 +2,8 @@
 use Prim.Native.Nat.{ℕ}
 use native.Mathlib.Omega.{arith}
 use mathlib.Core.Path.{◌≡◌, refl, sym, ap, subst, ◌∙◌}
-use mathlib.Core.Bool.{Bool, true, false, cond, not, ◌&&◌, ◌||◌}
+use mathlib.Core.Bool.{Bool, not, ◌&&◌}
 use mathlib.Core.List.{List}
-use Rattle.state.specs.declared.control.Control.{Control}
-use Rattle.state.specs.declared.control.Diagnosis.{Diagnosis}
-use Rattle.state.specs.declared.state.Drawn.TheVariants.{Nothing}
 use Rattle.state.specs.declared.state.State.{State}
 use Rattle.state.specs.Layout.{image_length}
 use Rattle.state.specs.Memory.{kept, Channelled, Holds}
@@ -16,12 +13,8 @@ use Rattle.state.proofs.Choice.{by_test}
 use Rattle.state.proofs.Damage.{holds_unpacked, kept_holds}
 use Rattle.state.proofs.Front.{kept_drop}
 use Rattle.rules.specs.declared.outcome.Outcome.{Outcome}
-use Rattle.rules.specs.Control.{with_chain}
-use Rattle.rules.specs.Diagnosis.{is_delayed, delayed, diagnosed, caught_up}
-use Rattle.rules.specs.Line.{clearing, clear_noted}
-use Rattle.rules.specs.Phases.{drawing}
-use Rattle.rules.specs.Retries.{on_chain}
-use Rattle.rules.proofs.Served.{clear_noted_quiet, chain_stays}
+use Rattle.rules.specs.Diagnosis.{delayed, caught_up}
+use Rattle.rules.specs.Line.{clear_noted}
 use Rattle.steps.specs.Stepped.{packed_after}
 use Rattle.steps.specs.Line.{busy, diagnosis_leaves}
 use Rattle.steps.specs.Outcome.{carried, diagnosis_changed, after_reply, settle}
@@ -29,7 +22,6 @@ use Rattle.steps.proofs.Behind.{behind, alike_packs, alike_carried, alike_settle
 use Rattle.steps.proofs.Holding.{holds_safe, sound_safe}
 use Rattle.steps.proofs.KeepsSafe.{safe_after_reply}
 use Rattle.steps.proofs.KeepsSound.{sound_after_reply}
-use Rattle.steps.proofs.NothingWaits.{idle}
 
 -- ---- a memory with a state in front of another one
 
@@ -67,47 +59,6 @@ module _ {t : State} {m n : List ℕ} (f : Fronts t m n) where
 -- ---- what waits
 
 module _ (s : State) (m : List ℕ) where
-  -- whether a delayed diagnosis takes effect, by the test of the code
-  module _ {d : Diagnosis} {waits leaves : Bool} (same : d ≡ s.control.diagnosis) (waiting : waits ≡ is_delayed d) (leaving : leaves ≡ diagnosis_leaves s) where
-    due : {t : Bool} → waits && not leaves ≡ t → delayed s.control && not (diagnosis_leaves s) ≡ t
-    due e = (λ i. sym (waiting ∙ ap is_delayed same) i && not (sym leaving i)) ∙ e
-
-    -- it does,
-    pub catches_up : waits && not leaves ≡ true → {old new : Control} {n : List ℕ} → old ≡ s.control → new ≡ caught_up old
-        → n ≡ kept (diagnosis_changed s (with_chain new s.control.chain)) m → n ≡ kept (after_reply s) m
-    unfolding after_reply diagnosed
-    catches_up e f g k =
-        rw (due e) (k ∙ (λ i. kept (diagnosis_changed s (with_chain ((g ∙ ap caught_up f) i) s.control.chain)) m))
-
-    -- or it does not
-    pub rests : waits && not leaves ≡ false → m ≡ kept s m → m ≡ kept (after_reply s) m
-    unfolding after_reply
-    rests e front = rw (due e) front
-
-  -- whether a noted clear is carried out
-  module _ {noted line : Bool} (noting : noted ≡ s.control.noted) (lining : line ≡ busy s) where
-    cleared : {t : Bool} → noted && not line ≡ t → clear_noted (busy s) s.control ≡ cond t (clearing s.control) (drawing s.control Nothing)
-    cleared e =
-        ap (λ (t : Bool). cond t (clearing s.control) (drawing s.control Nothing)) ((λ i. sym noting i && not (sym lining i)) ∙ e)
-
-    -- it is, which leaves the chain,
-    pub clears : noted && not line ≡ true → {old : Control} {o : Outcome} {n : List ℕ} → old ≡ s.control → o ≡ clearing old
-        → n ≡ packed_after (carried s m (on_chain o s.control.chain) 0) → n ≡ packed_after (carried s m (clear_noted (busy s) s.control) 0)
-    clears e f g k =
-        k
-        ∙ (λ i. packed_after (carried s m (on_chain ((g ∙ ap clearing f ∙ sym (cleared e)) i) s.control.chain) 0))
-        ∙ ap (λ (p : Outcome). packed_after (carried s m p 0)) (chain_stays (clear_noted_quiet s.setup s.control {Clear = Unit} (busy s) (λ _. tt)))
-
-    -- or it is not
-    pub clears_none : noted && not line ≡ false → m ≡ kept s m → m ≡ packed_after (carried s m (clear_noted (busy s) s.control) 0)
-    unfolding carried
-    clears_none e front = front ∙ ap (λ (o : Outcome). packed_after (carried s m o 0)) (sym (cleared e))
-
-  -- nothing waits
-  pub settles_none : {waits : Bool} → waits ≡ delayed s.control || s.control.noted → waits ≡ false → m ≡ kept s m
-      → m ≡ packed_after (settle s m)
-  settles_none e f front = front ∙ ap packed_after (sym (idle s m (sym e ∙ f)))
-
   -- a diagnosis that takes effect leaves the line
   same_busy : busy (after_reply s) ≡ busy s
   unfolding after_reply

@@ -1,5 +1,6 @@
 // An outcome of the rules carried out on the state and the buffers, and what waits for the end of the line's business.
-#![tactic(auto, using(crate::proofs::NextRoom::next_room, steps::proofs::KeepsSafe::safe_after_reply, steps::proofs::NothingWaits::unsettled), unfolding(steps::specs::Outcome::carried, steps::specs::Outcome::after_reply, steps::specs::Outcome::settle))]
+#![tactic(auto, using(crate::proofs::NextRoom::next_room, steps::proofs::NothingWaits::unsettled), unfolding(steps::specs::Outcome::carried, steps::specs::Outcome::after_reply, steps::specs::Outcome::settle))]
+
 ghost use Rattle.std.specs.Prelude.{◌+◌, ◌≤◌, ◌≡◌, length, replicate};
 ghost use Rattle.octets.specs.Part.{pasted};
 ghost use Rattle.buffers.specs.Roles.{next_of};

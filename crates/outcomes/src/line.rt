@@ -28,48 +28,48 @@ pub fn begun(s: State) -> bool
     is_inside(s.incoming.reader.status())
 }
 
-// A telegram is begun or a reply is unfinished.
-fn occupied(reader: Reader, sender: Sender) -> bool
+// A busy line: a telegram is begun or a reply is unfinished.
+fn is_busy(reader: Reader, sender: Sender) -> bool
     ensures { result ≡ is_inside (status reader) || left sender }
 {
     is_inside(reader.status()) | sender.left()
 }
 
-// A busy line.
+// The same over the state,
 pub fn busy(s: State) -> bool
     ensures { result ≡ busy s }
 {
-    occupied(s.incoming.reader, s.reply.sender)
+    is_busy(s.incoming.reader, s.reply.sender)
 }
 
-// The same over the memory.
+// and over the memory.
 pub fn busy_in(mem: &[u8]) -> bool
     requires { image_length ≤ length mem.now }
     ensures { result ≡ busy (unpacked mem.now) }
 {
-    occupied(load::incoming(mem).reader, load::reply(mem).sender)
+    is_busy(load::incoming(mem).reader, load::reply(mem).sender)
 }
 
-// An unfinished reply is one to Slave_Diag.
-fn tells_diagnosis(reply: Reply) -> bool
+// A Slave_Diag reply is unfinished.
+fn sends_diagnosis(reply: Reply) -> bool
     ensures { result ≡ diagnoses reply.drawn && left reply.sender }
 {
     is_diagnosis(reply.drawn) & reply.sender.left()
 }
 
-// A Slave_Diag reply is unfinished.
+// The same over the state,
 pub fn diagnosis_leaves(s: State) -> bool
     ensures { result ≡ diagnosis_leaves s }
 {
-    tells_diagnosis(s.reply)
+    sends_diagnosis(s.reply)
 }
 
-// The same over the memory.
+// and over the memory.
 pub fn diagnosis_leaves_in(mem: &[u8]) -> bool
     requires { image_length ≤ length mem.now }
     ensures { result ≡ diagnosis_leaves (unpacked mem.now) }
 {
-    tells_diagnosis(load::reply(mem))
+    sends_diagnosis(load::reply(mem))
 }
 
 // Whether a diagnosis is delayed or a clear noted.

@@ -1,4 +1,6 @@
 // What waits for the end of the line's business, over the memory that holds the state: nothing is written where nothing comes of it.
+#![tactic(auto, using(state::proofs::Damage::fronted_same, steps::proofs::NothingWaits::idle), unfolding(steps::specs::Outcome::carried, steps::specs::Outcome::after_reply, rules::specs::Phases::wait_prm, rules::specs::Diagnosis::diagnosed))]
+
 ghost use Rattle.std.specs.Prelude.{◌≤◌, ◌≡◌, length};
 ghost use Rattle.state.specs.declared.state.State.{State};
 ghost use Rattle.state.specs.Layout.{image_length};
