@@ -11,7 +11,7 @@ use Rattle.telegram.proofs.Counts.{start_counts, sent_counts}
 use Rattle.state.specs.declared.state.Incoming.{Incoming}
 use Rattle.state.specs.declared.state.Reply.{Reply}
 use Rattle.state.specs.declared.state.State.{State}
-use Rattle.state.specs.Layout.{output_row, input_row, diagnosis_row, outputs_at, inputs_at, diagnosis_at}
+use Rattle.state.specs.Layout.{output_row, input_row, diagnosis_row, outputs_at, inputs_at, diagnosis_at, get_cfg_at}
 use Rattle.state.specs.Memory.{kept, Holds, Changes}
 use Rattle.state.specs.With.{with_incoming, with_sender}
 use Rattle.steps.specs.Stepped.{packed_after}
@@ -21,7 +21,7 @@ use Rattle.steps.specs.Replies.{own_place, content_at, datum_at, asked_for}
 use Rattle.steps.specs.Reading.{read_on, read_by}
 use Rattle.steps.specs.Bus.{sent_by, send_told, send_left}
 use Rattle.steps.proofs.SoundWith.{sound_read_by, sound_reply}
-use Rattle.steps.proofs.KeepsSafe.{own_in, buffer_room}
+use Rattle.steps.proofs.KeepsSafe.{own_in, buffer_room, get_cfg_room}
 use Rattle.steps.proofs.Holding.{holds_safe}
 use Rattle.state.proofs.Damage.{fronted_same}
 use Rattle.outcomes.proofs.Settled.{Fronts}
@@ -42,6 +42,10 @@ module _ (m : List ℕ) (s : State) (h : Holds m s) where
   -- the controller's diagnosis
   pub diagnosis_room : diagnosis_at s.setup (own_place s.swapped) + s.setup.diagnosis_len ≤ length m
   diagnosis_room = buffer_room s m diagnosis_row (own_place s.swapped) (holds_safe m s h) (own_in s.swapped)
+
+  -- and what Get_Cfg sends
+  pub get_cfg_in : get_cfg_at s.setup + s.setup.get_cfg_len ≤ length m
+  get_cfg_in = get_cfg_room s m (holds_safe m s h)
 
 -- ---- a data octet behind DSAP and SSAP
 

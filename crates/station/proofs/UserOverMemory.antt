@@ -1,5 +1,6 @@
 -- The calls of the vat program over the memory, with the parts of the state as the code read them and wrote them again.
 use Rattle.std.specs.Prelude.{Ok, Err}
+use Rattle.std.specs.Int.{from_bool}
 use Rattle.std.proofs.Common.{◌≡◌, ℕ, ◌+◌, ◌<◌, Bool, true, false, cond, not, ◌&&◌, eqb, leb, List, length, get_or, set, sym, refl, ap, ◌∙◌}
 use Rattle.std.proofs.Math.Bool.{and-false}
 use Rattle.buffers.specs.declared.quad.Quad.{Quad}
@@ -30,6 +31,15 @@ use Rattle.steps.specs.Step.{packed}
 use Rattle.steps.specs.User.{absent, kind_at, take_outputs, read_octet, write_octet, new_diagnosis, judge_parameters, judge_configuration, leave_master}
 use Rattle.station.proofs.KindsInMemory.{reached}
 
+-- a flag as a number
+flag : (b : Bool) → from_bool b ≡ cond b 1 0
+flag true = refl
+flag false = refl
+
+one_more : (b : Bool) → 1 + from_bool b ≡ cond b 2 1
+one_more true = refl
+one_more false = refl
+
 module _ (s : State) (m : List ℕ) where
   -- ---- take outputs
 
@@ -45,13 +55,13 @@ module _ (s : State) (m : List ℕ) where
 
     -- they are
     pub takes_new : not outputs.set.fresh ≡ false → {set : Quad} {k : ℕ} {n : List ℕ} → set ≡ taken outputs.set
-        → k ≡ cond outputs.zeros 2 1 → n ≡ kept (with_outputs s (record { set = set; zeros = outputs.zeros })) m
-        → Meets (packed m (take_outputs s m)) (Ok k) n
+        → k ≡ from_bool outputs.zeros → n ≡ kept (with_outputs s (record { set = set; zeros = outputs.zeros })) m
+        → Meets (packed m (take_outputs s m)) (Ok (1 + k)) n
     unfolding take_outputs
     takes_new e f g h =
         rw (seen e)
         (record {
-          answers = ap Ok (g ∙ (λ i. cond (same i).zeros 2 1));
+          answers = ap Ok ((λ i. 1 + g i) ∙ one_more outputs.zeros ∙ (λ i. cond (same i).zeros 2 1));
           leaves = h ∙ (λ i. kept (with_outputs s (record { set = (f ∙ (λ j. taken (same j).set)) i; zeros = (same i).zeros })) m);
         })
 
@@ -59,8 +69,8 @@ module _ (s : State) (m : List ℕ) where
     -- ---- new diagnosis
 
     -- it is in range, and none is delayed
-    module _ {setup : Setup} (same-setup : setup ≡ s.setup) (count flags : ℕ)
-        (ranged : not (within 6 count setup.diagnosis_len && leb flags 7) ≡ false)
+    module _ {setup : Setup} (same-setup : setup ≡ s.setup) {most : ℕ} (same-most : most ≡ setup.diagnosis_len) (count flags : ℕ)
+        (ranged : not (within 6 count most && leb flags 7) ≡ false)
         {waits : Bool} (tested : waits ≡ delayed control) (none : waits ≡ false)
         {leaves : Bool} (leaving : leaves ≡ diagnosis_leaves s) where
       -- so it is given
@@ -71,7 +81,7 @@ module _ (s : State) (m : List ℕ) where
       unfolding new_diagnosis
       given e =
           let in_range_lem : not (within 6 count s.setup.diagnosis_len && leb flags 7) ≡ false =
-          (λ i. not (within 6 count (sym same-setup i).diagnosis_len && leb flags 7)) ∙ ranged
+          (λ i. not (within 6 count (sym (same-most ∙ (λ j. (same-setup j).diagnosis_len)) i) && leb flags 7)) ∙ ranged
           in
           rw (in_range_lem, sym (tested ∙ ap delayed same) ∙ none, sym leaving ∙ e)
 
@@ -113,28 +123,28 @@ module _ (s : State) (m : List ℕ) where
           tells_carried 0 _ refl (f ∙ (λ i. clear_on (e i) (same i))) (clear_quiet s.setup s.control (busy s) (λ _. tt))
 
       -- a set that is open is judged
-      module _ (j : ℕ) (known : not (leb j 1) ≡ false) {sets : Sets} {b : Bool} (tested : b ≡ is_open sets)
-          {k : ℕ} (tells : k ≡ cond sets.set.fresh 1 0) where
-        pub judges_parameters : sets ≡ s.parameters → not b ≡ false → o ≡ judged_parameters control sets.set.fresh (eqb j 1)
+      module _ (j : ℕ) {good : Bool} (known : (leb j 1 ≡ true) × (good ≡ eqb j 1)) {sets : Sets} {b : Bool} (tested : b ≡ is_open sets)
+          {k : ℕ} (tells : k ≡ from_bool sets.set.fresh) where
+        pub judges_parameters : sets ≡ s.parameters → not b ≡ false → o ≡ judged_parameters control sets.set.fresh good
             → Meets (packed m (judge_parameters s m j)) (Ok k) n
         unfolding judge_parameters
         judges_parameters e f g =
-            rw (ap not (sym (tested ∙ ap is_open e)) ∙ f, known)
-            (tells_carried _ _ (tells ∙ (λ i. cond (e i).set.fresh 1 0))
-            (g ∙ (λ i. judged_parameters (same i) (e i).set.fresh (eqb j 1)))
+            rw (ap not (sym (tested ∙ ap is_open e)) ∙ f, known.0)
+            (tells_carried _ _ (tells ∙ flag sets.set.fresh ∙ (λ i. cond (e i).set.fresh 1 0))
+            (g ∙ (λ i. judged_parameters (same i) (e i).set.fresh (known.1 i)))
             (parameters_quiet s.setup s.control s.parameters.set.fresh (eqb j 1) tt))
 
         -- configuration not before good parameters
         pub judges_configuration : sets ≡ s.configuration → not (b && control.flags.parameters_good) ≡ false
-            → o ≡ judged_configuration control sets.set.fresh (eqb j 1) → Meets (packed m (judge_configuration s m j)) (Ok k) n
+            → o ≡ judged_configuration control sets.set.fresh good → Meets (packed m (judge_configuration s m j)) (Ok k) n
         unfolding judge_configuration
         judges_configuration e f g =
             let open-good : not (is_open s.configuration && s.control.flags.parameters_good) ≡ false =
             (λ i. not (sym (tested ∙ ap is_open e) i && (sym same i).flags.parameters_good)) ∙ f
             in
-            rw (open-good, known)
-            (tells_carried _ _ (tells ∙ (λ i. cond (e i).set.fresh 1 0))
-            (g ∙ (λ i. judged_configuration (same i) (e i).set.fresh (eqb j 1)))
+            rw (open-good, known.0)
+            (tells_carried _ _ (tells ∙ flag sets.set.fresh ∙ (λ i. cond (e i).set.fresh 1 0))
+            (g ∙ (λ i. judged_configuration (same i) (e i).set.fresh (known.1 i)))
             (configuration_quiet s.setup s.control s.configuration.set.fresh (eqb j 1) tt))
 
 -- ---- read and write an octet, by the setup that the code read and the kind that it found

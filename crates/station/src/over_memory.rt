@@ -1,5 +1,7 @@
 // Each call as a step over the memory that holds its state; nothing of the memory is checked here. Each reads and writes only what it
 // needs of the state.
+#![tactic(auto, using(crate::proofs::Stepping::still, crate::proofs::Stepping::answered), unfolding(steps::specs::Step::step_over))]
+
 ghost use Rattle.state.specs.Answer.{Meets};
 ghost use Rattle.state.specs.Memory.{Holds};
 ghost use Rattle.state.specs.Unpack.{unpacked};
@@ -33,8 +35,7 @@ pub fn send(mem: &mut [u8]) -> Answer
     requires { Holds mem.old (unpacked mem.old) }
     ensures { Meets (step_over mem.old send) result mem.new }
 {
-    let number = bus::send(mem) as u32;
-    Ok(number)
+    Ok(u32::from(bus::send(mem)))
 }
 
 // A Tick: 1 ms.
@@ -107,9 +108,7 @@ pub fn events(mem: &mut [u8]) -> Answer
     requires { Holds mem.old (unpacked mem.old) }
     ensures { Meets (step_over mem.old events) result mem.new }
 {
-    let events = load::events(&mem[..]);
-    let word = events.word as u32;
-    Ok(word)
+    Ok(u32::from(load::events(&mem[..]).word))
 }
 
 // Acknowledge the events of a mask.
@@ -125,9 +124,7 @@ pub fn pending(mem: &mut [u8]) -> Answer
     requires { Holds mem.old (unpacked mem.old) }
     ensures { Meets (step_over mem.old pending) result mem.new }
 {
-    let events = load::events(&mem[..]);
-    let number = events.pending() as u32;
-    Ok(number)
+    Ok(u32::from(load::events(&mem[..]).pending()))
 }
 
 // Leave master: a clear.

@@ -21,9 +21,9 @@ use telegram::sender::Sender;
 fn servicing(setup: Setup, master: u8, n: u8) -> Sender
     ensures { result ≡ servicing setup master n }
 {
-    let da = std::num::wrapping_add_u8(master, 128);
-    let sa = std::num::wrapping_add_u8(setup.address, 128);
-    Sender::telegram(Kind::Sd2, da, sa, 0x08, std::num::wrapping_add_u8(n, 2))
+    let da = master.wrapping_add(128);
+    let sa = setup.address.wrapping_add(128);
+    Sender::telegram(Kind::Sd2, da, sa, 0x08, n.wrapping_add(2))
 }
 
 // The sender of the reply to Data_Exchange: the inputs, or without inputs E5, or one octet while Diag_Flag.
@@ -58,16 +58,15 @@ fn sender_for(drawn: Drawn, setup: Setup, control: Control, master: u8) -> Sende
 }
 
 // A reply as it is drawn, by the parts of any state that it needs: the place of the held outputs and the diagnosis header are fixed here.
+#[tactic(auto, unfolding(steps::specs::Replies::reply_for))]
 pub fn draw(drawn: Drawn, setup: Setup, control: Control, held: u8, master: u8) -> Reply
     ensures { (s : State) → s.setup ≡ setup → s.control ≡ control → held_of s.outputs.set.place ≡ held → result ≡ reply_for drawn s master }
 {
-    let sender = sender_for(drawn, setup, control, master);
-    let header = header_of(control);
     Reply {
         drawn,
-        sender,
+        sender: sender_for(drawn, setup, control, master),
         place: held,
-        header,
+        header: header_of(control),
     }
 }
 
@@ -82,35 +81,28 @@ pub fn reply_for(drawn: Drawn, s: State, master: u8) -> Reply
 fn own_place(swapped: bool) -> u8
     ensures { (result ≡ own_place swapped) × (result ≤ 1) }
 {
-    if swapped { 1 } else { 0 }
+    u8::from(swapped)
 }
 
+// And which is the user's.
 pub fn user_place(swapped: bool) -> u8
     ensures { (result ≡ user_place swapped) × (result ≤ 1) }
 {
-    if swapped { 0 } else { 1 }
+    u8::from(!swapped)
 }
 
 // The station's own diagnosis octets 0 to 5.
 fn header_at(header: Header, ident: u16, i: u8) -> u8
     ensures { result ≡ header_at header ident i }
 {
-    if i == 0 {
-        return header.status1;
+    match i {
+        0 => header.status1,
+        1 => header.status2,
+        2 => header.status3,
+        3 => header.master,
+        4 => (ident / 256) as u8,
+        _ => (ident % 256) as u8,
     }
-    if i == 1 {
-        return header.status2;
-    }
-    if i == 2 {
-        return header.status3;
-    }
-    if i == 3 {
-        return header.master;
-    }
-    if i == 4 {
-        return (ident / 256) as u8;
-    }
-    (ident % 256) as u8
 }
 
 // Octet i of a buffer of len octets, 0 past its end.
@@ -125,41 +117,43 @@ fn octet_in(mem: &[u8], from: usize, len: u8, i: u8) -> u8
 }
 
 // Data octet i of a diagnosis reply behind DSAP and SSAP.
+#[tactic(auto, using(crate::proofs::SentOverMemory::diagnosis_room))]
 fn diagnosis_octet(mem: &[u8], i: u8) -> u8
     requires { Holds mem.now (unpacked mem.now) }
     ensures { result ≡ content_at Drawn.Diagnosis (unpacked mem.now) mem.now i }
 {
     let setup = load::setup(mem);
     if i < 6 {
-        let reply = load::reply(mem);
-        let header = reply.header;
-        return header_at(header, setup.ident, i);
+        return header_at(load::reply(mem).header, setup.ident, i);
     }
     let from = diagnosis_at(setup, own_place(load::swapped(mem)));
     octet_in(mem, from, setup.diagnosis_len, i)
 }
 
 // Octet i of the inputs that are sent.
+#[tactic(auto, using(crate::proofs::SentOverMemory::inputs_room))]
 fn input_octet(mem: &[u8], i: u8) -> u8
     requires { Holds mem.now (unpacked mem.now) }
     ensures { result ≡ content_at Drawn.Inputs (unpacked mem.now) mem.now i }
 {
     let setup = load::setup(mem);
-    let inputs = load::inputs(mem);
-    octet_in(mem, inputs_at(setup, inputs.fill()), setup.input_len, i)
+    let from = inputs_at(setup, load::inputs(mem).fill());
+    octet_in(mem, from, setup.input_len, i)
 }
 
 // Octet i of the outputs that the reply leaves from.
+#[tactic(auto, using(crate::proofs::SentOverMemory::outputs_room))]
 fn output_octet(mem: &[u8], i: u8) -> u8
     requires { Holds mem.now (unpacked mem.now) }
     ensures { result ≡ content_at Drawn.Outputs (unpacked mem.now) mem.now i }
 {
     let setup = load::setup(mem);
-    let reply = load::reply(mem);
-    octet_in(mem, outputs_at(setup, reply.place), setup.output_len, i)
+    let from = outputs_at(setup, load::reply(mem).place);
+    octet_in(mem, from, setup.output_len, i)
 }
 
 // Octet i of what Get_Cfg sends.
+#[tactic(auto, using(crate::proofs::SentOverMemory::get_cfg_in))]
 fn get_cfg_octet(mem: &[u8], i: u8) -> u8
     requires { Holds mem.now (unpacked mem.now) }
     ensures { result ≡ content_at Drawn.Configuration (unpacked mem.now) mem.now i }
@@ -174,42 +168,34 @@ fn content_at(drawn: Drawn, mem: &[u8], i: u8) -> u8
     ensures { result ≡ content_at drawn (unpacked mem.now) mem.now i }
 {
     match drawn {
-        Drawn::Nothing => 0,
-        Drawn::Acknowledge => 0,
-        Drawn::Status => 0,
-        Drawn::Rejected => 0,
-        Drawn::Exchange => input_octet(mem, i),
-        Drawn::Inputs => input_octet(mem, i),
+        Drawn::Nothing | Drawn::Acknowledge | Drawn::Status | Drawn::Rejected => 0,
+        Drawn::Exchange | Drawn::Inputs => input_octet(mem, i),
         Drawn::Outputs => output_octet(mem, i),
         Drawn::Configuration => get_cfg_octet(mem, i),
         Drawn::Diagnosis => diagnosis_octet(mem, i),
     }
 }
 
-// The service point that a reply comes from.
+// The service point that a reply comes from, 0 where it comes from none.
 fn reply_point(drawn: Drawn) -> u8
     ensures { result ≡ reply_point drawn }
 {
     match drawn {
-        Drawn::Nothing => 0,
-        Drawn::Acknowledge => 0,
-        Drawn::Status => 0,
-        Drawn::Rejected => 0,
-        Drawn::Exchange => 0,
         Drawn::Inputs => 56,
         Drawn::Outputs => 57,
         Drawn::Configuration => 59,
         Drawn::Diagnosis => 60,
+        _ => 0,
     }
 }
 
 // Data octet k of the reply: 3E and the service point first, but in the reply to Data_Exchange.
+#[tactic(auto, unfolding(steps::specs::Replies::datum_at))]
 fn datum_at(mem: &[u8], k: u8) -> u8
     requires { Holds mem.now (unpacked mem.now) }
     ensures { result ≡ datum_at (unpacked mem.now) mem.now k }
 {
-    let reply = load::reply(mem);
-    let drawn = reply.drawn;
+    let drawn = load::reply(mem).drawn;
     if is_exchange(drawn) {
         return input_octet(mem, k);
     }
@@ -227,10 +213,7 @@ pub fn asked_for(mem: &[u8]) -> u8
     requires { Holds mem.now (unpacked mem.now) }
     ensures { result ≡ asked_for (unpacked mem.now) mem.now }
 {
-    let reply = load::reply(mem);
-    let sender = reply.sender;
-    let asked = sender.asks();
-    match asked {
+    match load::reply(mem).sender.asks() {
         Some(k) => datum_at(mem, k),
         None => 0,
     }

@@ -1,5 +1,6 @@
 // The calls of the vat program over the memory that holds the state: each reads and writes the parts that it needs.
-ghost use Rattle.std.specs.Prelude.{◌≡◌, if◌then◌else◌, nat_le};
+ghost use Rattle.std.specs.Prelude.{◌≡◌, true, false, eqb, leb, IfOk, IfErr};
+ghost use Rattle.state.specs.declared.answer.Refusal.TheVariants.{Range};
 ghost use Rattle.state.specs.Answer.{Meets};
 ghost use Rattle.state.specs.Memory.{Holds};
 ghost use Rattle.state.specs.Unpack.{unpacked};
@@ -21,34 +22,19 @@ use state::answer::{Answer, Refusal};
 use state::layout::{configuration_at, diagnosis_at, inputs_at, outputs_at, parameters_at};
 use state::load;
 use state::saving::{save_control, save_events, save_inputs, save_outputs};
-use state::state::Outputs;
 
-// New outputs: 1, or 2 where the station published zeros.
-fn new_number(zeros: bool) -> u32
-    ensures { result ≡ (if zeros then 2 else 1) }
-{
-    if zeros {
-        return 2;
-    }
-    1
-}
-
-// Take outputs: 0 nothing new; else its number, and next and held change.
+// Take outputs: 0 nothing new; else 1, or 2 where the station published zeros, and next and held change.
 pub fn take_outputs(mem: &mut [u8]) -> Answer
     requires { Holds mem.old (unpacked mem.old) }
     ensures { Meets (packed mem.old (take_outputs (unpacked mem.old) mem.old)) result mem.new }
 {
-    let outputs = load::outputs(&mem[..]);
+    let mut outputs = load::outputs(&mem[..]);
     if !outputs.set.fresh {
         return Ok(0);
     }
-    let zeros = outputs.zeros;
-    let taken = Outputs {
-        set: outputs.set.take(),
-        zeros,
-    };
-    save_outputs(taken, mem);
-    Ok(new_number(zeros))
+    outputs.set = outputs.set.take();
+    save_outputs(outputs, mem);
+    Ok(1 + u32::from(outputs.zeros))
 }
 
 // Kind 2 or 3 with no set shown or at an index not below its count, kind 5 while a new diagnosis is delayed.
@@ -129,7 +115,7 @@ pub fn new_diagnosis(mem: &mut [u8], count: u32, flags: u32) -> Answer
 {
     let setup = load::setup(&mem[..]);
     let control = load::control(&mem[..]);
-    if !((6 <= count) & (count <= setup.diagnosis_len as u32) & (flags <= 7)) {
+    if !((6 <= count) & (count <= u32::from(setup.diagnosis_len)) & (flags <= 7)) {
         return Err(Refusal::Range);
     }
     if is_delayed(control.diagnosis) {
@@ -145,17 +131,19 @@ pub fn new_diagnosis(mem: &mut [u8], count: u32, flags: u32) -> Answer
     Ok(0)
 }
 
-// 1 if a newer set waited, else 0.
-fn waited_number(waits: bool) -> u32
-    ensures { result ≡ (if waits then 1 else 0) }
+// Whether a judgement is good: 1 good, 0 bad.
+fn is_good(judgement: u32) -> Result<bool, Refusal>
+    ensures known { IfOk result (λ good. (leb judgement 1 ≡ true) × (good ≡ eqb judgement 1)) }
+    ensures unknown { IfErr result (λ why. (why ≡ Range) × (leb judgement 1 ≡ false)) }
 {
-    if waits {
-        return 1;
+    match judgement {
+        0 => Ok(false),
+        1 => Ok(true),
+        _ => Err(Refusal::Range),
     }
-    0
 }
 
-// Judge parameters: a set has to be open.
+// Judge parameters: a set has to be open. 1 if a newer set waited, else 0.
 pub fn judge_parameters(mem: &mut [u8], judgement: u32) -> Answer
     requires { Holds mem.old (unpacked mem.old) }
     ensures { Meets (packed mem.old (judge_parameters (unpacked mem.old) mem.old judgement)) result mem.new }
@@ -164,13 +152,11 @@ pub fn judge_parameters(mem: &mut [u8], judgement: u32) -> Answer
     if !is_open(parameters) {
         return Err(Refusal::Judging);
     }
-    if !(judgement <= 1) {
-        return Err(Refusal::Range);
-    }
+    let good = is_good(judgement)?;
     let waits = parameters.set.fresh;
     let control = load::control(&mem[..]);
-    carry_over(mem, judged_parameters(control, waits, judgement == 1), 0);
-    Ok(waited_number(waits))
+    carry_over(mem, judged_parameters(control, waits, good), 0);
+    Ok(u32::from(waits))
 }
 
 // Judge configuration: likewise, and not before good parameters.
@@ -183,12 +169,10 @@ pub fn judge_configuration(mem: &mut [u8], judgement: u32) -> Answer
     if !(is_open(configuration) & control.flags.parameters_good) {
         return Err(Refusal::Judging);
     }
-    if !(judgement <= 1) {
-        return Err(Refusal::Range);
-    }
+    let good = is_good(judgement)?;
     let waits = configuration.set.fresh;
-    carry_over(mem, judged_configuration(control, waits, judgement == 1), 0);
-    Ok(waited_number(waits))
+    carry_over(mem, judged_configuration(control, waits, good), 0);
+    Ok(u32::from(waits))
 }
 
 // Acknowledge clears bits, never 10 or 11.

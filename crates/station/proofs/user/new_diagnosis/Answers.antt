@@ -13,15 +13,16 @@ ranged count most flags t =
     let tests = leb 6 count ∷ leb count most ∷ leb flags 7 ∷ [] in
     (leb-true count most (all_at tests 1 t), leb-true flags 7 (all_at tests 2 t))
 
-pub returns-then-not-count-setup : goal.returns-then-not-count-setup
+pub returns-then-not-count-from : goal.returns-then-not-count-from
 unfolding new_diagnosis
-returns-then-not-count-setup c = rw (← c.setup-setup.ensures, c.if-not-count-setup.true) (record { answers = refl; leaves = refl })
+returns-then-not-count-from c = rw (← c.setup-setup.ensures, ← c.from.ensures, c.if-not-count-from.true) (record { answers = refl; leaves = refl })
 
 pub returns-then-is_delayed : goal.returns-then-is_delayed
 unfolding new_diagnosis
 returns-then-is_delayed c = rw (
   ← c.setup-setup.ensures,
-  c.if-not-count-setup.false,
+  ← c.from.ensures,
+  c.if-not-count-from.false,
   ← c.control-control.ensures,
   ← c.is_delayed.ensures,
   c.if-is_delayed.true,
@@ -29,7 +30,7 @@ returns-then-is_delayed c = rw (
     (record { answers = refl; leaves = refl })
 
 pub returns-then-diagnosis_leaves_in : goal.returns-then-diagnosis_leaves_in
-returns-then-diagnosis_leaves_in c = delays_diagnosis _ _ c.control-control.ensures c.setup-setup.ensures _ _ (ap not c.if-not-count-setup.false)
+returns-then-diagnosis_leaves_in c = delays_diagnosis _ _ c.control-control.ensures c.setup-setup.ensures c.from.ensures _ _ (ap not c.if-not-count-from.false)
     c.is_delayed.ensures
     c.if-is_delayed.false
     c.diagnosis_leaves_in.ensures
@@ -38,7 +39,7 @@ returns-then-diagnosis_leaves_in c = delays_diagnosis _ _ c.control-control.ensu
     (c.save_control.ensures _ (fronted_same _ _ c.requires))
 
 pub returns : goal.returns
-returns c = changes_diagnosis _ _ c.control-control.ensures c.setup-setup.ensures _ _ (ap not c.if-not-count-setup.false)
+returns c = changes_diagnosis _ _ c.control-control.ensures c.setup-setup.ensures c.from.ensures _ _ (ap not c.if-not-count-from.false)
     c.is_delayed.ensures
     c.if-is_delayed.false
     c.diagnosis_leaves_in.ensures

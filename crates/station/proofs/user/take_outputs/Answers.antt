@@ -7,5 +7,5 @@ pub returns-then-not-outputs : goal.returns-then-not-outputs
 returns-then-not-outputs c = takes_none _ _ c.outputs-outputs.ensures c.if-not-outputs.true (fronted_same _ _ c.requires)
 
 pub returns : goal.returns
-returns c = takes_new _ _ c.outputs-outputs.ensures c.if-not-outputs.false c.take.ensures c.new_number.ensures
+returns c = takes_new _ _ c.outputs-outputs.ensures c.if-not-outputs.false c.take-outputs.ensures c.from.ensures
     (c.save_outputs.ensures _ (fronted_same _ _ c.requires))
