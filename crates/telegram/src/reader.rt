@@ -2,7 +2,7 @@
 #![tactic(auto, unfolding(crate::specs::Reading::step_at, crate::specs::Reading::reader_step, crate::specs::Reading::status, crate::specs::Reading::takes_data, crate::specs::Reading::datum_of))]
 
 ghost use Rattle.std.specs.Prelude.{◌≡◌, true};
-ghost use Rattle.telegram.specs.Reading.{start, off, before, moved, summed, after_sa, after_fc, next_at, step_at, reader_step, reader_after, status_at, status, in_body, takes_data, datum_of};
+ghost use Rattle.telegram.specs.Reading.{start, off, before, summed, after_sa, after_fc, next_at, step_at, reader_step, reader_after, status_at, status, in_body, takes_data, datum_of};
 
 use crate::Kind;
 
@@ -246,7 +246,10 @@ impl Reader {
             return self.summed(b, Phase::Body);
         }
         if b == self.sum {
-            return self.moved(Phase::End);
+            return Reader {
+                phase: Phase::End,
+                ..self
+            };
         }
         Reader::off()
     }
@@ -255,25 +258,24 @@ impl Reader {
         ensures { result ≡ step_at Phase.End self b }
     {
         if b == 0x16 {
-            return self.moved(Phase::Done);
+            return Reader {
+                phase: Phase::Done,
+                ..self
+            };
         }
         Reader::off()
     }
 
     // On to another phase, with the octet added to the checksum.
-    fn summed(mut self, b: u8, phase: Phase) -> Reader
+    // A new value: with fields of `mut self` set instead, an octet of the header takes nearly twice the instructions (x86-64).
+    fn summed(self, b: u8, phase: Phase) -> Reader
         ensures { result ≡ summed self b phase }
     {
-        self.sum = self.sum.wrapping_add(b);
-        self.moved(phase)
-    }
-
-    // On to another phase.
-    fn moved(mut self, phase: Phase) -> Reader
-        ensures { result ≡ moved self phase }
-    {
-        self.phase = phase;
-        self
+        Reader {
+            phase,
+            sum: self.sum.wrapping_add(b),
+            ..self
+        }
     }
 }
 
