@@ -1,5 +1,5 @@
 -- From inside a telegram some octets complete one: plain addresses where they are open, zeros as data, the check octet that the reader waits for.
-use Rattle.std.proofs.Common.{◌≡◌, ℕ, zero, suc, ◌+◌, ◌-◌, ◌%◌, ◌<◌, ◌≤◌, Bool, true, false, cond, ◌&&◌, eqb, ltb, leb, List, [], ◌∷◌, refl, ap, ◌∙◌, arith, ltb-false, le-ltb, eq-eqb, leb-true}
+use Rattle.std.proofs.Common.{◌≡◌, ℕ, zero, suc, ◌+◌, ◌%◌, ◌<◌, ◌≤◌, Bool, true, false, cond, ltb, leb, List, [], ◌∷◌, refl, ap, ◌∙◌, arith, ltb-false, le-ltb, eq-eqb}
 use Rattle.telegram.specs.declared.Kind.{Kind}
 use Rattle.telegram.specs.declared.Kind.TheVariants.{Sd1, Sd2, Sd3, Sd4}
 use Rattle.telegram.specs.declared.reader.Phase.{Phase}
@@ -8,7 +8,7 @@ use Rattle.telegram.specs.declared.reader.Reader.{Reader}
 use Rattle.telegram.specs.declared.reader.Status.{Status}
 use Rattle.telegram.specs.declared.reader.Status.TheVariants.{Fresh, Inside, Complete, Broken}
 use Rattle.telegram.specs.Telegram.{Octets}
-use Rattle.telegram.specs.Reading.{rd, before, moved, off, ok_at, next_at, after_sa, counted, reader_step, run_from, status, status_at}
+use Rattle.telegram.specs.Reading.{rd, ok_at, next_at, after_sa, counted, reader_step, step_at, run_from, status, status_at}
 use Rattle.telegram.proofs.Run.{no_true, on}
 use Rattle.telegram.proofs.Steps.{goes}
 
@@ -120,47 +120,9 @@ leads r m e =
     leads_at r.phase r.kind r.count r.at r.da r.sa r.fc r.dsap r.ssap r.sum m.0 m.1 e
 
 -- every reader that is come to is small
-small_start : (p q r : Bool) → Small (cond p (before Da Sd1 0) (cond q (before Da Sd3 8) (cond r (before Da Sd4 0) (before Le Sd2 0))))
-small_start true q r = omega arith
-small_start false true r = omega arith
-small_start false false true = omega arith
-small_start false false false = omega arith
-
-small_counted : (c : Bool) (n : ℕ) → n ≤ 246 → cond c (n - 2) n ≤ 246
-small_counted true n l = omega arith
-small_counted false n l = omega arith
-
-small_body : (c : Bool) (r : Reader) (b : ℕ) → Small r
-    → Small (cond c (rd Body r.kind r.count (r.at + 1) r.da r.sa r.fc r.dsap r.ssap ((r.sum + b) % 256)) (moved r End))
-small_body true r b m = omega arith
-small_body false r b m = omega arith
-
-le_bound : (p q : Bool) → p && q ≡ true → q ≡ true
-le_bound true q h = h
-le_bound false q h = no_true h
-
-small_next : (p : Phase) (r : Reader) (b : ℕ) → Small r → ok_at p r b ≡ true → Small (next_at p r b)
-small_next Start r b m e = small_start (eqb b 0x10) (eqb b 0xA2) (eqb b 0xDC)
-small_next Le r b m e = let u = leb-true b 249 (le_bound (leb 4 b) (leb b 249) e) in omega arith
-small_next LeAgain r b m e = omega arith
-small_next SdAgain r b m e = omega arith
-small_next Da r b m e = (small_counted (leb 128 b) r.count m.0, omega arith)
-small_next Sa r b m e = omega arith
-small_next Fc r b m e = omega arith
-small_next Dsap r b m e = omega arith
-small_next Ssap r b m e = omega arith
-small_next Body r b m e = small_body (ltb r.at r.count) r b m
-small_next End r b m e = omega arith
-small_next Done r b m e = omega arith
-small_next Off r b m e = omega arith
-
 small_step : (r : Reader) (b : ℕ) → Small r → Small (reader_step r b)
-unfolding reader_step
-small_step r b m = go (ok_at r.phase r b) refl
-  where
-    go : (c : Bool) → ok_at r.phase r b ≡ c → Small (cond c (next_at r.phase r b) off)
-    go true e = small_next r.phase r b m e
-    go false e = omega arith
+unfolding reader_step step_at
+small_step r b m = let c = m.0 in let u = m.1 in grind (arith, c, u)
 
 pub small_run : (r : Reader) (xs : List ℕ) → Small r → Small (run_from r xs)
 small_run r [] m = m

@@ -2,7 +2,6 @@
 use Rattle.std.proofs.Common.{◌≡◌, ℕ, true, false, cond, leb, List, [], ◌∷◌, ◌++◌, length, get_or, drop, sym, refl, ap, ◌∙◌, inl, inr, arith, le-leb}
 use borrow.Author.Tests.{lt-leb}
 use Rattle.telegram.specs.declared.reader.Phase.{Phase}
-use Rattle.telegram.specs.declared.reader.Phase.TheVariants.{Start, Le, LeAgain, SdAgain, Da, Sa, Fc, Dsap, Ssap, Body, End, Done, Off}
 use Rattle.telegram.specs.declared.reader.Reader.{Reader}
 use Rattle.telegram.specs.declared.reader.Status.{Status}
 use Rattle.telegram.specs.declared.reader.Status.TheVariants.{Fresh, Inside, Complete, Broken}
@@ -18,19 +17,7 @@ use Rattle.telegram.proofs.Sums.{sums}
 
 -- a complete or broken reader takes no more octets
 no_more : (p : Phase) (r : Reader) (b : ℕ) → goes_on (status_at p) ≡ false → ok_at p r b ≡ false
-no_more Start r b h = no_true (sym h)
-no_more Le r b h = no_true (sym h)
-no_more LeAgain r b h = no_true (sym h)
-no_more SdAgain r b h = no_true (sym h)
-no_more Da r b h = no_true (sym h)
-no_more Sa r b h = no_true (sym h)
-no_more Fc r b h = no_true (sym h)
-no_more Dsap r b h = no_true (sym h)
-no_more Ssap r b h = no_true (sym h)
-no_more Body r b h = no_true (sym h)
-no_more End r b h = no_true (sym h)
-no_more Done r b h = refl
-no_more Off r b h = refl
+no_more p r b h = grind (arith, h)
 
 shut : (r : Reader) (b : ℕ) → goes_on (status r) ≡ false → reader_step r b ≡ off
 unfolding reader_step status

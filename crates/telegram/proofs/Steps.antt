@@ -1,11 +1,10 @@
 -- What a step leads to: at a data octet, and at an octet that may come.
-use Rattle.std.proofs.Common.{◌≡◌, ℕ, ◌+◌, ◌%◌, ◌<◌, Bool, true, false, cond, ◌&&◌, ltb, List, sym, refl, ap, ◌∙◌, ltb-true, lt-ltb, rules, arith}
-use Rattle.telegram.specs.declared.reader.Phase.{Phase}
-use Rattle.telegram.specs.declared.reader.Phase.TheVariants.{Start, Le, LeAgain, SdAgain, Da, Sa, Fc, Dsap, Ssap, Body, End, Done, Off}
+use Rattle.std.proofs.Common.{◌≡◌, ℕ, ◌+◌, ◌%◌, ◌<◌, Bool, true, false, cond, List, sym, refl, ◌∙◌, lt-ltb, arith}
+use Rattle.telegram.specs.declared.reader.Phase.TheVariants.{Body}
 use Rattle.telegram.specs.declared.reader.Reader.{Reader}
 use Rattle.telegram.specs.declared.reader.Status.TheVariants.{Complete}
-use Rattle.telegram.specs.Reading.{rd, off, ok_at, next_at, step_at, reader_step, run_from, status, in_body, takes_data}
-use Rattle.telegram.proofs.Run.{no_true, broken_complete, stays_broken}
+use Rattle.telegram.specs.Reading.{rd, off, ok_at, next_at, step_at, reader_step, run_from, status, takes_data}
+use Rattle.telegram.proofs.Run.{broken_complete, stays_broken}
 
 module _ (r : Reader) (e : takes_data r ≡ true) where
   pub data_body : r.phase ≡ Body

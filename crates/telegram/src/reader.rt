@@ -2,7 +2,7 @@
 #![tactic(auto, unfolding(crate::specs::Reading::step_at, crate::specs::Reading::reader_step, crate::specs::Reading::status, crate::specs::Reading::takes_data, crate::specs::Reading::datum_of))]
 
 ghost use Rattle.std.specs.Prelude.{◌≡◌, true};
-ghost use Rattle.telegram.specs.Reading.{start, off, before, summed, after_sa, after_fc, next_at, step_at, reader_step, reader_after, status_at, status, in_body, takes_data, datum_of};
+ghost use Rattle.telegram.specs.Reading.{start, off, before, summed, after_sa, after_fc, step_at, reader_step, reader_after, status, takes_data, datum_of};
 
 use crate::Kind;
 

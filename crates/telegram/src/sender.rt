@@ -2,7 +2,7 @@
 #![tactic(auto, unfolding(crate::specs::Sending::sent))]
 
 ghost use Rattle.std.specs.Prelude.{◌≡◌};
-ghost use Rattle.telegram.specs.Sending.{sn, empty, single, sending, left, asks_at, asks, start_octet, after_start, stage_after_sa, octet_at, octet_of, onto, adding, after_at, after_sent, sent};
+ghost use Rattle.telegram.specs.Sending.{sn, empty, single, sending, left, asks, start_octet, after_start, stage_after_sa, octet_of, onto, adding, after_at, after_sent, sent};
 
 use crate::Kind;
 
