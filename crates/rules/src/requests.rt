@@ -2,7 +2,7 @@
 ghost use Rattle.std.specs.Prelude.{◌≡◌, cond, not, eqb};
 ghost use Rattle.points.specs.Points.{number_of};
 ghost use Rattle.rules.specs.declared.request.Service.TheVariants.{Reject};
-ghost use Rattle.rules.specs.Requests.{master_of, wants_none, global_form, to_station, acts, refilled, status_by, point_of, request_of, function_service, service_of};
+ghost use Rattle.rules.specs.Requests.{master_of, wants_none, global_form, to_station, acts, refilled, point_of, request_of, function_service, service_of};
 
 use crate::bits::bit;
 use crate::request::{Request, Service};
@@ -61,16 +61,6 @@ pub fn refilled(setup: Setup, mut control: Control, r: Request) -> Control
     control
 }
 
-// The status request is an SD1.
-fn status_by(kind: Kind) -> Service
-    ensures { result ≡ status_by kind }
-{
-    match kind {
-        Kind::Sd1 => Service::Status,
-        _ => Service::Nothing,
-    }
-}
-
 // The service, or RS where there is data: it expects none.
 fn without_data(count: u8, service: Service) -> Service
     ensures { result ≡ cond (not (eqb count 0)) Reject service }
@@ -125,14 +115,13 @@ pub fn function_service(r: Request) -> Service
     ensures { result ≡ function_service r }
 {
     match r.fc % 16 {
-        9 => status_by(r.kind),
+        // a status request is an SD1
+        9 if r.kind == Kind::Sd1 => Service::Status,
+        // send with acknowledgement
         3 | 5 => Service::Reject,
-        4 | 6 => {
-            if global_form(r) {
-                return Service::GlobalControl;
-            }
-            Service::Nothing
-        }
+        // send without
+        4 | 6 if global_form(r) => Service::GlobalControl,
+        // send and request
         12 | 13 => request_of(r),
         _ => Service::Nothing,
     }
