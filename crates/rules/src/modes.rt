@@ -39,7 +39,7 @@ pub fn exchange_outputs(m: Modes) -> OutputsDeed
     OutputsDeed::Publish
 }
 
-// A Data_Exchange while frozen: the inputs stay.
+// A Data_Exchange while frozen: the inputs stay. Not one function with exchange_outputs: what is done is of another type.
 pub fn exchange_inputs(m: Modes) -> InputsDeed
     ensures { result ≡ exchange_inputs m }
 {

@@ -1,6 +1,6 @@
 // Entering and leaving the phases.
 ghost use Rattle.std.specs.Prelude.{◌≡◌};
-ghost use Rattle.rules.specs.Control.{exchanging, in_wait_prm};
+ghost use Rattle.rules.specs.Control.{exchanging, in_wait_prm, with_flags, with_prm_fault, with_cfg_fault};
 ghost use Rattle.rules.specs.Phases.{drawing, left_exchange, left, wait_prm, entering_wait_prm, wait_cfg, zeros_if_left, data_exch};
 
 use crate::modes::ended;
@@ -82,6 +82,22 @@ pub fn entering_wait_prm(control: Control, drawn: Drawn) -> Outcome
         configuration: SetDeed::Drop,
         ..drawing(wait_prm(control), drawn)
     }
+}
+
+// A fault of the parameters: Prm_Fault, WAIT_PRM. Not one function with cfg_fault: a field is no parameter.
+pub fn prm_fault(mut control: Control, drawn: Drawn) -> Outcome
+    ensures { result ≡ entering_wait_prm (with_flags control (with_prm_fault control.flags)) drawn }
+{
+    control.flags.prm_fault = true;
+    entering_wait_prm(control, drawn)
+}
+
+// A fault of the configuration: Cfg_Fault, WAIT_PRM.
+pub fn cfg_fault(mut control: Control, drawn: Drawn) -> Outcome
+    ensures { result ≡ entering_wait_prm (with_flags control (with_cfg_fault control.flags)) drawn }
+{
+    control.flags.cfg_fault = true;
+    entering_wait_prm(control, drawn)
 }
 
 // DATA_EXCH left: event 1, zeros published, both modes ended.

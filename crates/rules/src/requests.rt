@@ -11,6 +11,9 @@ use state::control::Control;
 use state::setup::Setup;
 use telegram::Kind;
 
+// The SSAP that a master's services come from.
+const MASTER_SSAP: u8 = 62;
+
 // The master that sent it: SA without its mark of an extension.
 pub fn master_of(r: Request) -> u8
     ensures { result ≡ master_of r }
@@ -30,7 +33,7 @@ pub fn wants_none(r: Request) -> bool
 fn global_form(r: Request) -> bool
     ensures { result ≡ global_form r }
 {
-    wants_none(r) & (128 <= r.da) & (r.dsap == 58) & (r.ssap == 62)
+    wants_none(r) & (128 <= r.da) & (r.dsap == Point::GlobalControl as u8) & (r.ssap == MASTER_SSAP)
 }
 
 // To this station alone.
@@ -104,7 +107,7 @@ fn request_of(r: Request) -> Service
     if r.da < 128 {
         return Service::DataExchange;
     }
-    if r.ssap != 62 {
+    if r.ssap != MASTER_SSAP {
         return Service::Reject;
     }
     point_of(r)

@@ -2,9 +2,9 @@
 ghost use Rattle.std.specs.Prelude.{◌≡◌, cond};
 ghost use Rattle.state.specs.declared.state.Drawn.TheVariants.{Rejected};
 ghost use Rattle.rules.specs.Control.{in_exchange};
-ghost use Rattle.rules.specs.Phases.{drawing, entering_wait_prm};
+ghost use Rattle.rules.specs.Phases.{drawing};
 ghost use Rattle.rules.specs.Requests.{service_of};
-ghost use Rattle.rules.specs.Services.{other_owns, other_ident, prm_fault, showing, parametrized, good_prm, set_prm, cfg_fault, good_cfg, chk_cfg, exchanges, good_exchange, data_exchange, slave_diag, read_inputs, read_outputs, controls, storing, obeyed, global_control, serve, outcome_by};
+ghost use Rattle.rules.specs.Services.{other_owns, other_ident, showing, parametrized, good_prm, set_prm, good_cfg, chk_cfg, exchanges, good_exchange, data_exchange, slave_diag, read_inputs, read_outputs, controls, storing, obeyed, global_control, serve, outcome_by};
 
 use crate::bits::bit;
 use crate::modes::{
@@ -12,7 +12,9 @@ use crate::modes::{
     exchange_outputs,
 };
 use crate::outcome::{Outcome, SetDeed};
-use crate::phases::{drawing, entering_wait_prm, in_exchange, wait_cfg, zeros_if_left};
+use crate::phases::{
+    cfg_fault, drawing, entering_wait_prm, in_exchange, prm_fault, wait_cfg, zeros_if_left,
+};
 use crate::request::{Data, Occupied, Prm, Request, Service};
 use crate::requests::{acts, master_of, refilled};
 use crate::retries::{chained, repeated, repeats};
@@ -34,14 +36,6 @@ fn other_ident(setup: Setup, p: Prm) -> bool
     ensures { result ≡ other_ident setup p }
 {
     u16::from_be_bytes([p.ident_high, p.ident_low]) != setup.ident
-}
-
-// Set_Prm, fault: E5, Prm_Fault, WAIT_PRM.
-fn prm_fault(mut control: Control) -> Outcome
-    ensures { result ≡ prm_fault control }
-{
-    control.flags.prm_fault = true;
-    entering_wait_prm(control, Drawn::Acknowledge)
 }
 
 // A set is shown if none is open, with its event.
@@ -100,12 +94,11 @@ fn good_prm(control: Control, opened: bool, r: Request, p: Prm) -> Outcome
 pub fn set_prm(setup: Setup, control: Control, opened: bool, r: Request, p: Prm) -> Outcome
     ensures { result ≡ set_prm setup control opened r p }
 {
-    let fits = (7 <= r.count) & (r.count <= setup.parameter_len);
     if other_owns(control, master_of(r)) {
         return drawing(control, Drawn::Rejected);
     }
-    if !fits {
-        return prm_fault(control);
+    if !(7..=setup.parameter_len).contains(&r.count) {
+        return prm_fault(control, Drawn::Acknowledge);
     }
     if bit(p.status, 6) {
         return entering_wait_prm(control, Drawn::Acknowledge);
@@ -114,17 +107,9 @@ pub fn set_prm(setup: Setup, control: Control, opened: bool, r: Request, p: Prm)
         return drawing(control, Drawn::Acknowledge);
     }
     if other_ident(setup, p) | bad_watchdog(p) {
-        return prm_fault(control);
+        return prm_fault(control, Drawn::Acknowledge);
     }
     good_prm(control, opened, r, p)
-}
-
-// Cfg_Fault, WAIT_PRM.
-fn cfg_fault(mut control: Control, drawn: Drawn) -> Outcome
-    ensures { result ≡ entering_wait_prm (cfg_fault control) drawn }
-{
-    control.flags.cfg_fault = true;
-    entering_wait_prm(control, drawn)
 }
 
 // Good Chk_Cfg: E5, WAIT_CFG, data shown.
@@ -145,11 +130,10 @@ fn good_cfg(control: Control, opened: bool) -> Outcome
 pub fn chk_cfg(setup: Setup, control: Control, opened: bool, r: Request) -> Outcome
     ensures { result ≡ chk_cfg setup control opened r }
 {
-    let fits = (1 <= r.count) & (r.count <= setup.configuration_len);
     if control.owner != master_of(r) {
         return drawing(control, Drawn::Rejected);
     }
-    if !fits {
+    if !(1..=setup.configuration_len).contains(&r.count) {
         return cfg_fault(control, Drawn::Acknowledge);
     }
     good_cfg(control, opened)
@@ -275,7 +259,7 @@ pub fn global_control(
     drawing(control, Drawn::Nothing)
 }
 
-// What comes of a service; occupied: what the buffers are occupied by.
+// What comes of a service; occupied: what the buffers are occupied by. One parameter each: the crates above hand them in so.
 pub fn serve(
     service: Service,
     setup: Setup,

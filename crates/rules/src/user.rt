@@ -3,7 +3,7 @@ ghost use Rattle.std.specs.Prelude.{◌≡◌};
 ghost use Rattle.rules.specs.User.{changing_sets, judged_parameters, judged_configuration};
 
 use crate::outcome::{Outcome, SetDeed};
-use crate::phases::{data_exch, drawing, entering_wait_prm};
+use crate::phases::{cfg_fault, data_exch, drawing, prm_fault};
 use buffers::events::Events;
 use state::control::Control;
 use state::state::Drawn;
@@ -33,11 +33,10 @@ pub fn judged_parameters(mut control: Control, waits: bool, good: bool) -> Outco
         control.flags.parameters_good = true;
         return changing_sets(control, SetDeed::Drop, SetDeed::Keep);
     }
-    control.flags.prm_fault = true;
-    entering_wait_prm(control, Drawn::Nothing)
+    prm_fault(control, Drawn::Nothing)
 }
 
-// Judge configuration: likewise; bad: Cfg_Fault, WAIT_PRM, good: DATA_EXCH.
+// Judge configuration: likewise; bad: Cfg_Fault, WAIT_PRM, good: DATA_EXCH. Not one function for both kinds: every line differs.
 #[tactic(auto, unfolding(crate::specs::User::judged_configuration))]
 pub fn judged_configuration(mut control: Control, waits: bool, good: bool) -> Outcome
     ensures { result ≡ judged_configuration control waits good }
@@ -49,6 +48,5 @@ pub fn judged_configuration(mut control: Control, waits: bool, good: bool) -> Ou
     if good {
         return changing_sets(data_exch(control), SetDeed::Keep, SetDeed::Drop);
     }
-    control.flags.cfg_fault = true;
-    entering_wait_prm(control, Drawn::Nothing)
+    cfg_fault(control, Drawn::Nothing)
 }
