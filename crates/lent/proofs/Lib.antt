@@ -1,4 +1,3 @@
 pub mod Same
 pub mod Partly
 pub mod Turns
-pub mod Exporting

@@ -1,9 +1,9 @@
 -- A run that has come to the state t and the memory zs, with rest still to come: it holds at the start and after one more
--- octet, gap or Tick, and at the end it says what the whole run does.
+-- octet or Tick, and at the end it says what the whole run does.
 use Prim.Native.Nat.{ℕ, suc, ◌+◌, ◌-◌, ◌≤◌, ◌<◌}
 use native.Mathlib.Omega.{arith}
 use native.Mathlib.Numerals.{unary_clauses}
-use mathlib.Core.Path.{◌≡◌, refl, sym, ap, subst, ◌∙◌}
+use mathlib.Core.Path.{◌≡◌, refl, ap, subst, ◌∙◌}
 use mathlib.Core.Bool.{false}
 use mathlib.Core.List.{List, [], ◌∷◌, ◌++◌}
 use lib.ListN.{length, get_or, drop}
@@ -11,51 +11,37 @@ use lib.Seq.{drop-cons, drop-length}
 use Rattle.state.specs.declared.state.State.{State}
 use Rattle.steps.specs.Safe.{Safe}
 use Rattle.steps.specs.Stepped.{Stepped, Steps}
-use Rattle.lent.specs.Run.{Beat, octet, tick, beat, run_beats, well_received, ticks}
-use Rattle.lent.proofs.Same.{safe_beat, beat_length}
+use Rattle.steps.specs.Reading.{heard}
+use Rattle.steps.specs.Bus.{elapsed}
+use Rattle.steps.proofs.KeepsSafe.{safe_steps}
+use Rattle.lent.specs.Run.{Beat, beat, run_beats, well_received, ticks}
+use Rattle.lent.proofs.Same.{safe_beat}
 
-pub record Partly (h : State) (ys : List ℕ) (all : List Beat) (t : State) (zs : List ℕ) (rest : List Beat) : Type 0 where
-  pub long : length zs ≡ length ys
+-- end: what the whole run comes to
+pub record Partly (end : Stepped) (t : State) (zs : List ℕ) (rest : List Beat) : Type 0 where
   pub safe : Safe t zs
-  pub comes : run_beats t zs rest ≡ run_beats h ys all
+  pub comes : run_beats t zs rest ≡ end
 
-pub partly_none : (h : State) (ys : List ℕ) (all : List Beat) → Safe h ys → Partly h ys all h ys all
-partly_none h ys all s = record { long = refl; safe = s; comes = refl }
+module _ {end : Stepped} {t : State} {zs : List ℕ} where
+  partly_next : (b : Beat) {rest : List Beat} {u : State} {us : List ℕ} → Partly end t zs (b ∷ rest) → Steps (beat t zs b) u us → Partly end u us rest
+  partly_next b {rest} {u} {us} p e = record {
+    safe = safe_steps (beat t zs b) u us e (safe_beat t zs p.safe b);
+    comes = (λ i. run_beats (e.states i) (e.leaves i) rest) ∙ p.comes;
+  }
 
-module _ {h : State} {ys : List ℕ} {all : List Beat} (t : State) (zs : List ℕ) where
-  pub partly_more : (b : Beat) (rest : List Beat) → Partly h ys all t zs (b ∷ rest) → Partly h ys all (beat t zs b).state (beat t zs b).memory rest
-  partly_more b rest p = record { long = beat_length t zs p.safe b ∙ p.long; safe = safe_beat t zs p.safe b; comes = p.comes }
+  -- ---- octets from i on
 
-  -- as the code leaves state and memory
-  pub partly_next : (b : Beat) (rest : List Beat) (u : State) (us : List ℕ) → Partly h ys all t zs (b ∷ rest) → Steps (beat t zs b) u us → Partly h ys all u us rest
-  partly_next b rest u us p e =
-      subst (λ (x : State). Partly h ys all x us rest) (sym e.states)
-      (subst (λ (m : List ℕ). Partly h ys all (beat t zs b).state m rest) (sym e.leaves) (partly_more b rest p))
+  pub next_octet : (os : List ℕ) (i : ℕ) {u : State} {us : List ℕ} → i < length os → Partly end t zs (well_received (drop i os))
+      → Steps (heard t zs (get_or os i 0) false) u us → Partly end u us (well_received (drop (i + 1) os))
+  next_octet os i h p =
+      let e : drop i os ≡ get_or os i 0 ∷ drop (i + 1) os = simp unary_clauses (drop-cons os i 0 h) in
+      partly_next _ (subst (λ (l : List ℕ). Partly end t zs (well_received l)) e p)
 
-  pub partly_all : Partly h ys all t zs [] → Steps (run_beats h ys all) t zs
-  partly_all p = record { states = ap (λ (r : Stepped). r.state) p.comes; leaves = ap (λ (r : Stepped). r.memory) p.comes }
+  -- ---- Ticks from i on
 
--- ---- octets from i on
-
-drop_next : (os : List ℕ) (i : ℕ) → i < length os → drop i os ≡ get_or os i 0 ∷ drop (i + 1) os
-drop_next os i h = simp unary_clauses (drop-cons os i 0 h)
-
-pub next_octet : (os : List ℕ) (i : ℕ) → i < length os → well_received (drop i os) ≡ octet (get_or os i 0) false ∷ well_received (drop (i + 1) os)
-next_octet os i h = ap well_received (drop_next os i h)
-
-pub no_octet : (os : List ℕ) (i : ℕ) → i ≤ length os → length os ≤ i → well_received (drop i os) ≡ []
-no_octet os i g h = let e : i ≡ length os = omega arith in ap (λ (k : ℕ). well_received (drop k os)) e ∙ ap well_received (drop-length os)
-
--- ---- Ticks from i on
-
-pub all_ticks : (n : ℕ) → ticks n ≡ ticks (n - 0)
-all_ticks n = let e : n ≡ n - 0 = omega arith in ap ticks e
-
-pub next_tick : (n i : ℕ) → i < n → ticks (n - i) ≡ tick ∷ ticks (n - (i + 1))
-next_tick n i h = let e : n - i ≡ suc (n - (i + 1)) = omega arith in ap ticks e
-
-pub no_tick : (n i : ℕ) → n ≤ i → ticks (n - i) ≡ []
-no_tick n i h = let e : n - i ≡ 0 = omega arith in ap ticks e
+  pub next_tick : (n i : ℕ) {u : State} {us : List ℕ} → i < n → Partly end t zs (ticks (n - i)) → Steps (elapsed t zs) u us
+      → Partly end u us (ticks (n - (i + 1)))
+  next_tick n i h p = let e : n - i ≡ suc (n - (i + 1)) = omega arith in partly_next _ (subst (λ (k : ℕ). Partly end t zs (ticks k)) e p)
 
 -- ---- runs in parts
 

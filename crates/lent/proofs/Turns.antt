@@ -44,10 +44,3 @@ pub none_found : (m : List ℕ) (r : Bool) (cs : List Call) → r ≡ well_memor
 none_found m r cs tells e =
     let f : false ≡ well_memory m = sym e ∙ tells in
     (f, left_damaged cs m (sym f))
-
-pub one_found : (m : List ℕ) (r : Bool) → r ≡ well_memory m → r ≡ true → true ≡ well_memory m
-one_found m r tells e = sym e ∙ tells
-
--- a gap, as a run of its own
-pub gap_run : (s : State) (m : List ℕ) (t : State) (zs : List ℕ) → Steps (paused s m) t zs → Steps (run_beats s m (gap ∷ [])) t zs
-gap_run s m t zs e = record { states = e.states; leaves = e.leaves }

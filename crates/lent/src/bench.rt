@@ -14,34 +14,29 @@ use station::bus::pause;
 use station::memory::is_well;
 
 // Octets.
-pub fn listen(state: State, memory: &mut [u8], octets: &[u8]) -> State
+pub fn listen(mut state: State, memory: &mut [u8], octets: &[u8]) -> State
     requires { Safe state memory.old }
     ensures { Steps (run_beats state memory.old (well_received octets.now)) result memory.new }
 {
-    let mut held = state;
-    let mut i: usize = 0;
-    while i < octets.len() {
-        octet(&mut held, memory, octets[i], false);
-        i = i + 1;
+    for &value in octets {
+        octet(&mut state, memory, value, false);
     }
-    held
+    state
 }
 
 // Ticks.
-pub fn wait(state: State, memory: &mut [u8], count: usize) -> State
+pub fn wait(mut state: State, memory: &mut [u8], count: usize) -> State
     requires { Safe state memory.old }
     ensures { Steps (run_beats state memory.old (ticks count)) result memory.new }
 {
-    let mut held = state;
-    let mut i: usize = 0;
-    while i < count {
-        tick(&mut held, memory);
-        i = i + 1;
+    for _ in 0..count {
+        tick(&mut state, memory);
     }
-    held
+    state
 }
 
 // A telegram after a gap, then Ticks.
+#[tactic(auto, using(steps::proofs::KeepsSafe::safe_steps, steps::proofs::KeepsSafe::safe_paused, crate::proofs::Same::safe_run, crate::proofs::Partly::run_append))]
 pub fn take_turn(state: State, memory: &mut [u8], telegram: &[u8], count: usize) -> State
     requires { Safe state memory.old }
     ensures { Steps (run_beats state memory.old (turn telegram.now count)) result memory.new }
@@ -52,6 +47,7 @@ pub fn take_turn(state: State, memory: &mut [u8], telegram: &[u8], count: usize)
 }
 
 // Two telegrams on the unpacked state: the memory is left as the exported calls leave it. Whether it was well.
+#[tactic(auto, using(steps::proofs::Guarded::well_holds, steps::proofs::Holding::holds_safe))]
 pub fn exchange(memory: &mut [u8], first: &[u8], second: &[u8], count: usize) -> bool
     ensures { (result ≡ well_memory memory.old) × (memory.new ≡ memory_after memory.old (calls (turn first.now count ++ turn second.now count))) }
 {

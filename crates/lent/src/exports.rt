@@ -9,8 +9,5 @@ use crate::bench;
 pub fn lent_exchange(memory: &mut [u8], first: &[u8], second: &[u8], count: u32) -> i64
     ensures { Returns memory.old (calls (turn first.now count ++ turn second.now count)) result memory.new }
 {
-    if bench::exchange(memory, first, second, count as usize) {
-        return 1;
-    }
-    0
+    i64::from(bench::exchange(memory, first, second, count as usize))
 }
