@@ -1,7 +1,7 @@
 -- Steps in a row are one run, and a run on the state that a memory holds, packed again, is what the exported calls leave.
 use Prim.Native.Nat.{ℕ}
 use mathlib.Core.Path.{◌≡◌, refl, sym, ap, ◌∙◌}
-use mathlib.Core.Bool.{Bool, true, false}
+use mathlib.Core.Bool.{false}
 use lib.ListN.{length}
 use mathlib.Core.List.{List, [], ◌∷◌, ◌++◌}
 use Rattle.state.specs.declared.state.State.{State}
@@ -11,11 +11,10 @@ use Rattle.steps.specs.Calls.{well_memory, memory_after}
 use Rattle.rules.specs.Call.{Call}
 use Rattle.steps.specs.Safe.{Safe}
 use Rattle.steps.specs.Stepped.{Stepped, Steps}
-use Rattle.steps.specs.Bus.{paused}
 use Rattle.steps.proofs.KeepsSafe.{safe_steps}
 use Rattle.steps.specs.Demand1.{LengthIn}
 use Rattle.steps.proofs.Guarded.{called_damaged}
-use Rattle.lent.specs.Run.{Beat, gap, run_beats, calls}
+use Rattle.lent.specs.Run.{Beat, run_beats, calls}
 use Rattle.lent.proofs.Partly.{run_append}
 use Rattle.lent.proofs.Same.{safe_run, lent_image}
 
@@ -36,11 +35,6 @@ pub packed_again : (m : List ℕ) (s : State) (bs : List Beat) (t : State) (zs o
 packed_again m s bs t zs out n h e k = k ∙ (λ i. kept (e.states i) (e.leaves i)) ∙ lent_image m s n h bs
 
 -- a damaged memory is left as it is
-left_damaged : (cs : List Call) (m : List ℕ) → well_memory m ≡ false → m ≡ memory_after m cs
+pub left_damaged : (cs : List Call) (m : List ℕ) → well_memory m ≡ false → m ≡ memory_after m cs
 left_damaged [] m e = refl
 left_damaged (c ∷ cs) m e = left_damaged cs m e ∙ ap (λ (r : Called). memory_after r.memory cs) (sym (called_damaged m c e))
-
-pub none_found : (m : List ℕ) (r : Bool) (cs : List Call) → r ≡ well_memory m → r ≡ false → (false ≡ well_memory m) × (m ≡ memory_after m cs)
-none_found m r cs tells e =
-    let f : false ≡ well_memory m = sym e ∙ tells in
-    (f, left_damaged cs m (sym f))

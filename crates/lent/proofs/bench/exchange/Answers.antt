@@ -4,13 +4,13 @@ use Rattle.steps.proofs.Guarded.{well_length, well_holds}
 use Rattle.steps.proofs.Holding.{holds_safe}
 use Rattle.steps.specs.Safe.{Safe}
 use Rattle.lent.specs.Run.{turn, calls}
-use Rattle.lent.proofs.Turns.{safe_after, in_turn, packed_again, none_found}
+use Rattle.lent.proofs.Turns.{safe_after, in_turn, packed_again, left_damaged}
 use Rattle.lent.proofs.bench.exchange.Goals as goal
 
 pub returns-then-not-is_well : goal.returns-then-not-is_well
 returns-then-not-is_well c =
     let a = c.args in
-    none_found _ _ (calls (turn a.first.now a.count ++ turn a.second.now a.count)) c.is_well.ensures c.if-not-is_well.true
+    (cc, left_damaged (calls (turn a.first.now a.count ++ turn a.second.now a.count)) _ (cc))
 
 pub take_turn-done-requires : goal.take_turn-done-requires
 take_turn-done-requires c =
