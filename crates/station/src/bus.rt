@@ -1,5 +1,5 @@
 // Gap, send and tick.
-ghost use Rattle.std.specs.Prelude.{◌≡◌};
+ghost use Rattle.std.specs.Prelude.{◌≡◌, unwrap_or};
 ghost use Rattle.state.specs.Memory.{Holds};
 ghost use Rattle.state.specs.Unpack.{unpacked};
 ghost use Rattle.state.specs.Start.{no_reply};
@@ -12,7 +12,7 @@ ghost use Rattle.steps.specs.Reading.{read_by};
 ghost use Rattle.steps.specs.Bus.{paused, send_told, send_left, silenced_reader, elapsed};
 
 use crate::hearing::drop_reply;
-use crate::reading::{read_by, read_on};
+use crate::reading::{self, read_by, read_on};
 use crate::replies::asked_for;
 use outcomes::carry::{carry_out, settle};
 use outcomes::line::{begun, busy, busy_in, is_inside};
@@ -21,11 +21,11 @@ use outcomes::settling::{settle_over, settle_waiting};
 use rules::line::{counts, ticked};
 use state::load;
 use state::saving::{save_incoming, save_sender, save_ticks};
-use state::start::no_reply;
 use state::state::State;
 use telegram::reader::Reader;
 
 // A gap: the next octet may begin a telegram.
+#[tactic(auto, unfolding(steps::specs::Bus::paused))]
 pub fn pause(s: State, mem: &mut [u8]) -> State
     requires { Safe s mem.old }
     ensures { Steps (paused s mem.old) result mem.new }
@@ -43,31 +43,27 @@ pub fn gap(mem: &mut [u8])
     settle_over(mem);
 }
 
-// Send answers the next octet of the reply, 256 when no octet is left.
-pub fn send(mem: &mut [u8]) -> u16
+// Send takes the next octet of the reply, none when no octet is left.
+pub fn send(mem: &mut [u8]) -> Option<u8>
     requires { Holds mem.old (unpacked mem.old) }
-    ensures { (result ≡ send_told (unpacked mem.old) mem.old) × (mem.new ≡ packed_after (send_left (unpacked mem.old) mem.old)) }
+    ensures { (unwrap_or result 256 ≡ send_told (unpacked mem.old) mem.old) × (mem.new ≡ packed_after (send_left (unpacked mem.old) mem.old)) }
 {
-    let reply = load::reply(&mem[..]);
-    let sender = reply.sender;
+    let sender = load::reply(&mem[..]).sender;
     if !sender.left() {
-        return 256;
+        return None;
     }
     let datum = asked_for(&mem[..]);
     let sent = sender.send(datum);
     save_sender(sent.sender, mem);
     settle_over(mem);
-    sent.octet as u16
+    Some(sent.octet)
 }
 
 // The reading that a Tick leaves: a telegram that is coming is dropped.
 fn silenced_reader(inside: bool, reader: Reader) -> Reader
     ensures { result ≡ silenced_reader inside reader }
 {
-    if inside {
-        return Reader::off();
-    }
-    reader
+    if inside { Reader::off() } else { reader }
 }
 
 // The next Tick after a clear was noted drops telegram or reply, so that the clear is carried out.
@@ -76,9 +72,7 @@ fn silence(s: State, mem: &mut [u8]) -> State
     ensures { Steps (settle (with_reply (read_by s (silenced_reader (begun s) s.incoming.reader)) no_reply) mem.old) result mem.new }
 {
     let reader = silenced_reader(begun(s), s.incoming.reader);
-    let mut t = read_by(s, reader);
-    t.reply = no_reply();
-    settle(t, mem)
+    settle(reading::drop_reply(s, reader), mem)
 }
 
 // The same over the memory. The clear waits, so that the line is settled without a look whether something does.
@@ -87,9 +81,8 @@ fn silence_over(mem: &mut [u8])
     ensures { mem.new ≡ packed_after (settle (with_reply (read_by (unpacked mem.old) (silenced_reader (begun (unpacked mem.old)) (unpacked mem.old).incoming.reader)) no_reply) mem.old) }
 {
     let old = load::incoming(&mem[..]);
-    let reader = old.reader;
-    let inside = is_inside(reader.status());
-    drop_reply(mem, read_on(old, silenced_reader(inside, reader)));
+    let inside = is_inside(old.reader.status());
+    drop_reply(mem, read_on(old, silenced_reader(inside, old.reader)));
     settle_waiting(mem);
 }
 
@@ -106,8 +99,7 @@ pub fn elapse(mut s: State, mem: &mut [u8]) -> State
     }
     let remaining = s.control.watchdog.remaining;
     if 1 < remaining {
-        let less = remaining - 1;
-        s.control.watchdog.remaining = less;
+        s.control.watchdog.remaining = remaining - 1;
         return s;
     }
     carry_out(s, mem, ticked(busy(s), s.control), 0)

@@ -10,24 +10,23 @@ ghost use Rattle.state.specs.With.{with_reply, with_chain};
 ghost use Rattle.rules.specs.declared.request.Service.TheVariants.{SlaveDiag};
 ghost use Rattle.rules.specs.Requests.{master_of, acts, service_of};
 ghost use Rattle.rules.specs.Retries.{asks, chain_by};
-ghost use Rattle.steps.specs.Reading.{request_by, prm_in};
+ghost use Rattle.steps.specs.Reading.{request_by};
 ghost use Rattle.steps.specs.Replies.{exchange_sender};
-ghost use Rattle.station.specs.Completing.{completed_by, served, answered_by, is_repeat_in, is_data_exchange, is_good_exchange, exchange_drew, replied_with};
+ghost use Rattle.station.specs.Completing.{completed_by, served, answered_by, is_repeat_in, is_good_exchange, exchange_drew, replied_with};
 
-use crate::reading::{prm_at, request_by};
+use crate::reading::{data_in, occupied, request_by};
 use crate::replies::draw;
-use outcomes::carry::{is_open, on_inputs, on_outputs};
+use outcomes::carry::{on_inputs, on_outputs};
 use outcomes::over::carry_over;
 use rules::diagnosis::header_of;
 use rules::modes::{announced, exchange_inputs, exchange_outputs};
 use rules::outcome::Outcome;
 use rules::replies::exchange_fc;
-use rules::request::{Data, Occupied, Prm, Request, Service};
+use rules::request::{Request, Service};
 use rules::requests::{acts, function_service, master_of, refilled};
 use rules::retries::{asks, chain_by, repeats};
 use rules::services::{exchanges, serve, slave_diag};
 use state::control::Control;
-use state::layout::parameters_at;
 use state::load;
 use state::saving::{
     save_chain, save_control, save_events, save_incoming, save_inputs, save_outputs, save_reply,
@@ -38,35 +37,17 @@ use state::state::{Drawn, Header, Incoming, Reply};
 use telegram::Kind;
 use telegram::sender::Sender;
 
-// The octets of Set_Prm in the parameters' fill buffer.
-fn prm_in(mem: &[u8]) -> Prm
-    requires { Holds mem.now (unpacked mem.now) }
-    ensures { result ≡ prm_in (unpacked mem.now) mem.now }
-{
-    let setup = load::setup(mem);
-    let parameters = load::parameters(mem);
-    prm_at(mem, parameters_at(setup, parameters.set.fill()))
-}
-
 // What comes of the service that a telegram asks for.
+#[tactic(auto, using(steps::proofs::KeepsSafe::prm_room, steps::proofs::Holding::holds_safe))]
 fn served_in(mem: &[u8], r: Request, service: Service) -> Outcome
     requires { (Holds mem.now (unpacked mem.now)) × (service ≡ service_of (unpacked mem.now).setup r) }
     ensures { result ≡ served (unpacked mem.now) mem.now r }
 {
     let setup = load::setup(mem);
-    let incoming = load::incoming(mem);
+    let parameters = load::parameters(mem);
     let control = refilled(setup, load::control(mem), r);
-    let outputs = load::outputs(mem);
-    let occupied = Occupied {
-        parameters: is_open(load::parameters(mem)),
-        configuration: is_open(load::configuration(mem)),
-        outputs: outputs.set.withheld,
-    };
-    let octets = Data {
-        prm: prm_in(mem),
-        first: incoming.first,
-        second: incoming.second,
-    };
+    let occupied = occupied(parameters, load::configuration(mem), load::outputs(mem));
+    let octets = data_in(mem, setup, load::incoming(mem), parameters);
     serve(service, setup, control, occupied, r, octets)
 }
 
@@ -87,33 +68,13 @@ fn answer(mem: &mut [u8], o: Outcome, i: Incoming, r: Request)
     ensures { mem.new ≡ answered_by mem.old i r o }
 {
     let drawn = o.drawn;
-    let deed = o.outputs;
     let setup = load::setup(&mem[..]);
-    let outputs = on_outputs(deed, load::outputs(&mem[..]));
+    let outputs = on_outputs(o.outputs, load::outputs(&mem[..]));
     let reply = draw(drawn, setup, o.control, outputs.set.held(), master_of(r));
     carry_over(mem, o, r.count);
     save_incoming(i, mem);
     save_reply(reply, mem);
     keep_request(mem, r, drawn);
-}
-
-// Whether a service is Data_Exchange.
-fn is_data_exchange(service: Service) -> bool
-    ensures { result ≡ is_data_exchange service }
-{
-    match service {
-        Service::Nothing => false,
-        Service::Status => false,
-        Service::Reject => false,
-        Service::GlobalControl => false,
-        Service::DataExchange => true,
-        Service::SetPrm => false,
-        Service::ChkCfg => false,
-        Service::SlaveDiag => false,
-        Service::GetCfg => false,
-        Service::ReadInputs => false,
-        Service::ReadOutputs => false,
-    }
 }
 
 // Whether a telegram is a good Data_Exchange.
@@ -122,7 +83,9 @@ fn is_good_exchange(mem: &[u8], r: Request, service: Service) -> bool
     ensures { result ≡ is_good_exchange (unpacked mem.now) r }
 {
     let setup = load::setup(mem);
-    is_data_exchange(service) & exchanges(load::control(mem), r) & (r.count == setup.output_len)
+    (service == Service::DataExchange)
+        & exchanges(load::control(mem), r)
+        & (r.count == setup.output_len)
 }
 
 // The reply to Data_Exchange with this sender.
@@ -217,10 +180,9 @@ fn repeat(mem: &mut [u8], i: Incoming, r: Request)
 {
     let setup = load::setup(&mem[..]);
     let control = refilled(setup, load::control(&mem[..]), r);
-    let chain = control.chain;
     let outputs = load::outputs(&mem[..]);
     let reply = draw(
-        chain.drawn(),
+        control.chain.drawn(),
         setup,
         control,
         outputs.set.held(),
@@ -240,7 +202,7 @@ fn apply(mem: &mut [u8], i: Incoming, r: Request, service: Service)
         exchange(mem, i, r);
         return;
     }
-    if let Service::SlaveDiag = service {
+    if service == Service::SlaveDiag {
         diagnose(mem, i, r);
         return;
     }
@@ -254,12 +216,11 @@ fn pass_by(mem: &mut [u8], i: Incoming, r: Request)
 {
     let control = load::control(&mem[..]);
     let outputs = load::outputs(&mem[..]);
-    let header = header_of(control);
     let reply = Reply {
         drawn: Drawn::Nothing,
         sender: Sender::empty(),
         place: outputs.set.held(),
-        header,
+        header: header_of(control),
     };
     save_incoming(i, mem);
     save_reply(reply, mem);
@@ -270,8 +231,7 @@ pub fn complete(mem: &mut [u8], i: Incoming)
     requires { Holds mem.old (unpacked mem.old) }
     ensures { mem.new ≡ completed_by mem.old i (request_by i.reader) }
 {
-    let reader = i.reader;
-    let r = request_by(reader);
+    let r = request_by(i.reader);
     if !acts(load::setup(&mem[..]), r) {
         pass_by(mem, i, r);
         return;

@@ -35,7 +35,10 @@ pub fn send(mem: &mut [u8]) -> Answer
     requires { Holds mem.old (unpacked mem.old) }
     ensures { Meets (step_over mem.old send) result mem.new }
 {
-    Ok(u32::from(bus::send(mem)))
+    match bus::send(mem) {
+        Some(octet) => Ok(u32::from(octet)),
+        None => Ok(256),
+    }
 }
 
 // A Tick: 1 ms.

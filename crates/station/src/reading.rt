@@ -1,9 +1,13 @@
 // The bus's octet: a telegram's data goes into the fill buffer that its header names, as it comes.
 ghost use Rattle.std.specs.Prelude.{◌≡◌, ◌+◌, ◌≤◌, true, false, length};
 ghost use Rattle.telegram.specs.Reading.{takes_data, datum_of};
+ghost use Rattle.buffers.specs.Roles.{fill_of};
+ghost use Rattle.state.specs.Layout.{parameters_at};
+ghost use Rattle.state.specs.declared.state.State.{State};
 ghost use Rattle.steps.specs.Safe.{Safe};
 ghost use Rattle.steps.specs.Stepped.{Steps};
-ghost use Rattle.steps.specs.Reading.{stored_data, kept_octets, stored_as, read_on, read_by, request_by, prm_at, prm_in, outcome_of, answered, completed, beginning, heard_as, is_ignored, heard};
+ghost use Rattle.steps.specs.Outcome.{occupied};
+ghost use Rattle.steps.specs.Reading.{stored_data, kept_octets, stored_as, read_on, read_by, request_by, prm_at, data_in, outcome_of, answered, completed, beginning, heard_as, is_ignored, heard};
 
 use crate::replies::reply_for;
 use outcomes::carry::{carry_out, is_open, settle};
@@ -13,8 +17,9 @@ use rules::request::{Data, Occupied, Prm, Request};
 use rules::requests::{master_of, service_of};
 use rules::services::outcome_by;
 use state::layout::{configuration_at, outputs_at, parameters_at};
+use state::setup::Setup;
 use state::start::no_reply;
-use state::state::{Incoming, State};
+use state::state::{Incoming, Outputs, Sets, State};
 use telegram::reader::{Reader, Status};
 
 // The part of the memory that is the fill buffer is lent on to the step that stores an octet.
@@ -41,39 +46,23 @@ fn store_data(s: State, mem: &mut [u8], k: u8, b: u8)
 }
 
 // The first two data octets are kept in the state, for Global_Control.
-pub fn keep_octets(i: Incoming, reader: Reader, k: u8, b: u8) -> Incoming
+pub fn keep_octets(mut i: Incoming, reader: Reader, k: u8, b: u8) -> Incoming
     ensures { result ≡ kept_octets i reader k b }
 {
-    if k == 0 {
-        return Incoming {
-            reader,
-            first: b,
-            second: i.second,
-        };
+    i.reader = reader;
+    match k {
+        0 => i.first = b,
+        1 => i.second = b,
+        _ => {}
     }
-    if k == 1 {
-        return Incoming {
-            reader,
-            first: i.first,
-            second: b,
-        };
-    }
-    Incoming {
-        reader,
-        first: i.first,
-        second: i.second,
-    }
+    i
 }
 
 // The reader goes on; the octets kept stay.
 pub fn read_on(i: Incoming, reader: Reader) -> Incoming
     ensures { result ≡ read_on i reader }
 {
-    Incoming {
-        reader,
-        first: i.first,
-        second: i.second,
-    }
+    Incoming { reader, ..i }
 }
 
 // Nothing else of the state changes.
@@ -89,9 +78,7 @@ fn store_inner(mut s: State, mem: &mut [u8], reader: Reader, b: u8) -> State
     requires { Safe s mem.old }
     ensures { Steps (stored_as (datum_of s.incoming.reader) s mem.old reader b) result mem.new }
 {
-    let old = s.incoming.reader;
-    let datum = old.datum();
-    match datum {
+    match s.incoming.reader.datum() {
         Some(k) => {
             store_data(s, mem, k, b);
             s.incoming = keep_octets(s.incoming, reader, k, b);
@@ -105,9 +92,8 @@ fn store_inner(mut s: State, mem: &mut [u8], reader: Reader, b: u8) -> State
 pub fn request_by(reader: Reader) -> Request
     ensures { result ≡ request_by reader }
 {
-    let kind = reader.kind;
     Request {
-        kind,
+        kind: reader.kind,
         da: reader.da,
         sa: reader.sa,
         fc: reader.fc,
@@ -133,46 +119,49 @@ pub fn prm_at(mem: &[u8], from: usize) -> Prm
     }
 }
 
-// In the parameters' fill buffer.
-fn prm_in(s: State, mem: &[u8]) -> Prm
-    requires { Safe s mem.now }
-    ensures { result ≡ prm_in s mem.now }
+// All data octets that the rules look at, by the parts of any state: those of Set_Prm stand in the parameters' fill buffer.
+pub fn data_in(mem: &[u8], setup: Setup, incoming: Incoming, parameters: Sets) -> Data
+    requires { parameters_at setup (fill_of parameters.set.place) + 8 ≤ length mem.now }
+    ensures { (s : State) → s.setup ≡ setup → s.incoming ≡ incoming → s.parameters ≡ parameters → result ≡ data_in s mem.now }
 {
-    let from = parameters_at(s.setup, s.parameters.set.fill());
-    prm_at(mem, from)
+    Data {
+        prm: prm_at(mem, parameters_at(setup, parameters.set.fill())),
+        first: incoming.first,
+        second: incoming.second,
+    }
+}
+
+// Which buffers are occupied, by the parts of any state.
+pub fn occupied(parameters: Sets, configuration: Sets, outputs: Outputs) -> Occupied
+    ensures { (s : State) → s.parameters ≡ parameters → s.configuration ≡ configuration → s.outputs ≡ outputs → result ≡ occupied s }
+{
+    Occupied {
+        parameters: is_open(parameters),
+        configuration: is_open(configuration),
+        outputs: outputs.set.withheld,
+    }
 }
 
 // What comes of a telegram.
+#[tactic(auto, using(steps::proofs::KeepsSafe::prm_room), unfolding(steps::specs::Reading::outcome_of))]
 fn outcome_of(s: State, mem: &[u8], r: Request) -> Outcome
     requires { Safe s mem.now }
     ensures { result ≡ outcome_of s mem.now r }
 {
-    let setup = s.setup;
-    let incoming = s.incoming;
-    let service = service_of(setup, r);
-    let control = s.control;
-    let occupied = Occupied {
-        parameters: is_open(s.parameters),
-        configuration: is_open(s.configuration),
-        outputs: s.outputs.set.withheld,
-    };
-    let octets = Data {
-        prm: prm_in(s, mem),
-        first: incoming.first,
-        second: incoming.second,
-    };
-    outcome_by(service, setup, control, occupied, r, octets)
+    let occupied = occupied(s.parameters, s.configuration, s.outputs);
+    let octets = data_in(mem, s.setup, s.incoming, s.parameters);
+    outcome_by(service_of(s.setup, r), s.setup, s.control, occupied, r, octets)
 }
 
 // An outcome carried out, and the reply drawn.
+#[tactic(auto, unfolding(steps::specs::Reading::answered))]
 fn answer(s: State, mem: &mut [u8], o: Outcome, r: Request) -> State
     requires { Safe s mem.old }
     ensures { Steps (answered s mem.old o r) result mem.new }
 {
     let drawn = o.drawn;
     let mut t = carry_out(s, mem, o, r.count);
-    let reply = reply_for(drawn, t, master_of(r));
-    t.reply = reply;
+    t.reply = reply_for(drawn, t, master_of(r));
     t
 }
 
@@ -187,8 +176,8 @@ fn complete(s: State, mem: &mut [u8], reader: Reader) -> State
     answer(t, mem, o, r)
 }
 
-// A beginning drops an unfinished reply.
-fn begin(s: State, reader: Reader) -> State
+// The reader goes on, and an unfinished reply is dropped: so by a beginning.
+pub fn drop_reply(s: State, reader: Reader) -> State
     ensures { result ≡ beginning s reader }
 {
     let mut t = read_by(s, reader);
@@ -204,10 +193,11 @@ fn hear_inside(s: State, mem: &mut [u8], reader: Reader, b: u8) -> State
     if begun(s) {
         return store_inner(s, mem, reader, b);
     }
-    settle(begin(s, reader), mem)
+    settle(drop_reply(s, reader), mem)
 }
 
 // An octet by what the octets are with it; reader: after it.
+#[tactic(auto, using(steps::proofs::KeepsSafe::safe_steps, steps::proofs::KeepsSafe::safe_completed))]
 fn hear_as(status: Status, s: State, mem: &mut [u8], reader: Reader, b: u8) -> State
     requires { Safe s mem.old }
     ensures { Steps (heard_as status s mem.old reader b) result mem.new }
@@ -223,15 +213,11 @@ fn hear_as(status: Status, s: State, mem: &mut [u8], reader: Reader, b: u8) -> S
     }
 }
 
+// Octets are ignored until a gap after a complete telegram, and after one broken off.
 pub fn is_ignored(status: Status) -> bool
     ensures { result ≡ is_ignored status }
 {
-    match status {
-        Status::Fresh => false,
-        Status::Inside => false,
-        Status::Complete => true,
-        Status::Broken => true,
-    }
+    matches!(status, Status::Complete | Status::Broken)
 }
 
 // A data octet, which most octets are.
@@ -248,6 +234,7 @@ fn hear_datum(mut s: State, mem: &mut [u8], b: u8) -> State
 }
 
 // Any octet, by what the octets are with it.
+#[tactic(auto, unfolding(steps::specs::Reading::heard))]
 fn hear_any(s: State, mem: &mut [u8], b: u8, bad: bool) -> State
     requires { Safe s mem.old }
     ensures { Steps (heard s mem.old b bad) result mem.new }

@@ -5,9 +5,6 @@ use Rattle.state.specs.Unpack.{unpacked}
 use Rattle.std.proofs.Common.{not, ap}
 use Rattle.station.proofs.bus.tick.Goals as goal
 
-pub returns-then-control : goal.returns-then-control
-returns-then-control c = c.tick_whole.ensures
-
 pub returns-then-not-counts : goal.returns-then-not-counts
 returns-then-not-counts c =
     let m = c.args.mem.now in
@@ -20,6 +17,3 @@ returns-then-remaining-gt1 c =
     rw (tick_counts (unpacked m) m _ c.control-control.ensures c.if-control.false _ c.counts.ensures (ap not c.if-not-counts.false)
     c.if-remaining-gt1.true)
     (c.save_ticks.ensures _ (fronted_same _ _ c.requires))
-
-pub returns : goal.returns
-returns c = c.tick_whole-2.ensures

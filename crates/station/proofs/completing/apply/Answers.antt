@@ -9,18 +9,6 @@ use Rattle.station.specs.Completing.{answered_by}
 use Rattle.station.proofs.CompletedOverMemory.{others_once}
 use Rattle.station.proofs.completing.apply.Goals as goal
 
-pub exchange-requires : goal.exchange-requires
-exchange-requires c = (c.requires.0, sym c.is_good_exchange.ensures ∙ c.if-is_good_exchange.true, c.requires.3)
-
-pub diagnose-requires : goal.diagnose-requires
-diagnose-requires c = (c.requires.0, sym c.requires.1 ∙ c.in-SlaveDiag.is, c.requires.3)
-
-pub served_in-requires : goal.served_in-requires
-served_in-requires c = (c.requires.0, c.requires.1)
-
-pub answer-requires : goal.answer-requires
-answer-requires c = (c.requires.0, c.requires.2)
-
 pub returns : goal.returns
 returns c =
     let m = c.args.mem.now in

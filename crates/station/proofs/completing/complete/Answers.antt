@@ -16,26 +16,8 @@ looked_at r e f = ap (λ (g : Setup). acts g r) (sym e) ∙ sym f
 compared : {read chain : Chain} {b : Bool} (r : Request) → read ≡ chain → b ≡ repeats read r → repeats chain r ≡ b
 compared r e f = ap (λ (h : Chain). repeats h r) (sym e) ∙ sym f
 
-pub pass_by-requires : goal.pass_by-requires
-pass_by-requires c = (c.requires, looked_at c.request_by-r.result c.setup.ensures c.acts.ensures ∙ c.if-not-acts.true)
-
-pub returns-then-not-acts : goal.returns-then-not-acts
-returns-then-not-acts c = rw c.request_by-r.ensures at c.pass_by.ensures
-
-pub repeat-requires : goal.repeat-requires
-repeat-requires c =
-    let acting = looked_at c.request_by-r.result c.setup.ensures c.acts.ensures ∙ c.if-not-acts.false in
-    let again = compared c.request_by-r.result c.chain.ensures c.repeats.ensures ∙ c.if-repeats.true in
-    (c.requires, λ j. acting j && again j)
-
-pub returns-then-repeats : goal.returns-then-repeats
-returns-then-repeats c = rw c.request_by-r.ensures at c.repeat.ensures
-
 pub apply-requires : goal.apply-requires
 apply-requires c =
     let acting = looked_at c.request_by-r.result c.setup.ensures c.acts.ensures ∙ c.if-not-acts.false in
     let once = compared c.request_by-r.result c.chain.ensures c.repeats.ensures ∙ c.if-repeats.false in
     (c.requires, c.function_service.ensures ∙ acting_service _ _ acting, acting, λ j. acting j && once j)
-
-pub returns : goal.returns
-returns c = rw c.request_by-r.ensures at c.apply.ensures

@@ -19,7 +19,7 @@ returns c =
       drawn = Nothing;
       sender = c.empty.ensures j;
       place = (c.held.ensures ∙ ap (λ (o : Outputs). held_of o.set.place) outputs) j;
-      header = (c.header_of-header.ensures ∙ ap header_of c.control-control.ensures) j;
+      header = (c.header_of.ensures ∙ ap header_of c.control-control.ensures) j;
     })
     c.save_incoming.ensures
     c.save_reply.ensures

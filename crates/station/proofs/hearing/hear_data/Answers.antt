@@ -6,9 +6,6 @@ use Rattle.state.specs.Unpack.{unpacked}
 use Rattle.station.proofs.HeardOverMemory.{leaves_data}
 use Rattle.station.proofs.hearing.hear_data.Goals as goal
 
-pub take_data-next-requires : goal.take_data-next-requires
-take_data-next-requires c = ap (λ (i : Incoming). takes_data i.reader) c.incoming-old.ensures ∙ c.requires.1
-
 pub returns : goal.returns
 returns c =
     let m = c.args.mem.now in

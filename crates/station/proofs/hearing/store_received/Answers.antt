@@ -7,31 +7,11 @@ use Rattle.steps.proofs.Holding.{holds_safe}
 use Rattle.station.proofs.StoredOverMemory.{fill_room, fill_stored, names_outputs, names_parameters, names_configuration, names_none}
 use Rattle.station.proofs.hearing.store_received.Goals as goal
 
-pub setup-setup-requires : goal.setup-setup-requires
-setup-setup-requires c = c.requires.long
-
-pub incoming-incoming-requires : goal.incoming-incoming-requires
-incoming-incoming-requires c = c.requires.long
-
-pub outputs-outputs-requires : goal.outputs-outputs-requires
-outputs-outputs-requires c = c.requires.long
-
 pub store_at-requires : goal.store_at-requires
 store_at-requires c =
     let safe = holds_safe _ _ c.requires in
     fill_room safe c.setup-setup.ensures output_row (λ i. (c.outputs-outputs.ensures i).set.place)
     c.fill.ensures c.outputs_at-from.ensures (safe.outputs.within role.fill (omega arith))
-
-pub returns-then-incoming-lt128 : goal.returns-then-incoming-lt128
-returns-then-incoming-lt128 c =
-    let safe = holds_safe _ _ c.requires in
-    fill_stored safe c.setup-setup.ensures output_row (λ i. (c.outputs-outputs.ensures i).set.place)
-    c.fill.ensures c.outputs_at-from.ensures _ _ _
-    (names_outputs safe c.incoming-incoming.ensures _ _ c.if-incoming-lt128.true)
-    c.store_at.ensures
-
-pub parameters-parameters-requires : goal.parameters-parameters-requires
-parameters-parameters-requires c = c.requires.long
 
 pub store_at-requires-then-incoming-eq61 : goal.store_at-requires-then-incoming-eq61
 store_at-requires-then-incoming-eq61 c =
@@ -39,30 +19,8 @@ store_at-requires-then-incoming-eq61 c =
     fill_room safe c.setup-setup.ensures parameter_row (λ i. (c.parameters-parameters.ensures i).set.place)
     c.fill-then-incoming-eq61.ensures c.parameters_at-from.ensures (safe.parameters.within role.fill (omega arith))
 
-pub returns-then-incoming-eq61 : goal.returns-then-incoming-eq61
-returns-then-incoming-eq61 c =
-    let safe = holds_safe _ _ c.requires in
-    fill_stored safe c.setup-setup.ensures parameter_row (λ i. (c.parameters-parameters.ensures i).set.place)
-    c.fill-then-incoming-eq61.ensures c.parameters_at-from.ensures _ _ _
-    (names_parameters safe c.incoming-incoming.ensures _ _ c.if-incoming-lt128.false c.if-incoming-eq61.true)
-    c.store_at-then-incoming-eq61.ensures
-
-pub configuration-configuration-requires : goal.configuration-configuration-requires
-configuration-configuration-requires c = c.requires.long
-
 pub store_at-requires-then-incoming-eq62 : goal.store_at-requires-then-incoming-eq62
 store_at-requires-then-incoming-eq62 c =
     let safe = holds_safe _ _ c.requires in
     fill_room safe c.setup-setup.ensures configuration_row (λ i. (c.configuration-configuration.ensures i).set.place)
     c.fill-then-incoming-eq62.ensures c.configuration_at-from.ensures (safe.configuration.within role.fill (omega arith))
-
-pub returns-then-incoming-eq62 : goal.returns-then-incoming-eq62
-returns-then-incoming-eq62 c =
-    let safe = holds_safe _ _ c.requires in
-    fill_stored safe c.setup-setup.ensures configuration_row (λ i. (c.configuration-configuration.ensures i).set.place)
-    c.fill-then-incoming-eq62.ensures c.configuration_at-from.ensures _ _ _
-    (names_configuration safe c.incoming-incoming.ensures _ _ c.if-incoming-lt128.false c.if-incoming-eq61.false c.if-incoming-eq62.true)
-    c.store_at-then-incoming-eq62.ensures
-
-pub returns-else-incoming-eq62 : goal.returns-else-incoming-eq62
-returns-else-incoming-eq62 c = names_none (holds_safe _ _ c.requires) c.incoming-incoming.ensures _ _ c.if-incoming-lt128.false c.if-incoming-eq61.false c.if-incoming-eq62.false

@@ -9,49 +9,14 @@ store_at-requires c = rw (c.outputs_at-from.ensures, c.fill.ensures)
     (buffer_room _ _ output_row _ c.requires
     (c.requires.outputs.within role.fill (omega arith)))
 
-pub returns-then-reader-lt128 : goal.returns-then-reader-lt128
-returns-then-reader-lt128 c = rw (
-  lt-ltb _ _ c.if-reader-lt128.true,
-  c.store_at.ensures,
-  c.outputs_at-from.ensures,
-  c.fill.ensures,
-)
-
 pub store_at-requires-then-reader-eq61 : goal.store_at-requires-then-reader-eq61
 store_at-requires-then-reader-eq61 c = rw (c.parameters_at-from.ensures, c.fill-then-reader-eq61.ensures)
     (buffer_room _ _ parameter_row _
     c.requires
     (c.requires.parameters.within role.fill (omega arith)))
 
-pub returns-then-reader-eq61 : goal.returns-then-reader-eq61
-returns-then-reader-eq61 c = rw (
-  le-ltb _ _ c.if-reader-lt128.false,
-  eq-eqb _ _ c.if-reader-eq61.true,
-  c.store_at-then-reader-eq61.ensures,
-  c.parameters_at-from.ensures,
-  c.fill-then-reader-eq61.ensures,
-)
-
 pub store_at-requires-then-reader-eq62 : goal.store_at-requires-then-reader-eq62
 store_at-requires-then-reader-eq62 c = rw (c.configuration_at-from.ensures, c.fill-then-reader-eq62.ensures)
     (buffer_room _ _ configuration_row _
     c.requires
     (c.requires.configuration.within role.fill (omega arith)))
-
-pub returns-then-reader-eq62 : goal.returns-then-reader-eq62
-returns-then-reader-eq62 c = rw (
-  le-ltb _ _
-      c.if-reader-lt128.false,
-  ne_eqb _ _ c.if-reader-eq61.false,
-  eq-eqb _ _ c.if-reader-eq62.true,
-  c.store_at-then-reader-eq62.ensures,
-  c.configuration_at-from.ensures,
-  c.fill-then-reader-eq62.ensures,
-)
-
-pub returns-else-reader-eq62 : goal.returns-else-reader-eq62
-returns-else-reader-eq62 c = rw (
-  le-ltb _ _ c.if-reader-lt128.false,
-  ne_eqb _ _ c.if-reader-eq61.false,
-  ne_eqb _ _ c.if-reader-eq62.false,
-)
