@@ -33,10 +33,6 @@ is_inside_lem Inside e = refl
 is_inside_lem Complete e = no_true e
 is_inside_lem Broken e = no_true e
 
--- a data octet that is not heard as good data is bad
-pub must_be_bad : (takes bad : Bool) → takes && not bad ≡ false → takes ≡ true → bad ≡ true
-must_be_bad takes bad e f = not-false bad ((λ i. sym f i && not bad) ∙ e)
-
 -- ---- what an octet does, by the reader before it and after it
 
 module _ (s : State) (m : List ℕ) (b : ℕ) where

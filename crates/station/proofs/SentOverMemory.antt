@@ -47,20 +47,6 @@ module _ (m : List ℕ) (s : State) (h : Holds m s) where
   pub get_cfg_in : get_cfg_at s.setup + s.setup.get_cfg_len ≤ length m
   get_cfg_in = get_cfg_room s m (holds_safe m s h)
 
--- ---- a data octet behind DSAP and SSAP
-
-behind_points : (s : State) (m : List ℕ) (k : ℕ) → is_exchange s.reply.drawn ≡ false → eqb k 0 ≡ false → eqb k 1 ≡ false
-    → content_at s.reply.drawn s m (k - 2) ≡ datum_at s m k
-unfolding datum_at
-behind_points s m k e f g = rw (e, f, g)
-
--- with the reply as it was read
-pub datum_inside : (s : State) (m : List ℕ) (r : Reply) (x : Bool) (k : ℕ) → r ≡ s.reply → x ≡ is_exchange r.drawn → x ≡ false
-    → eqb k 0 ≡ false → eqb k 1 ≡ false → content_at r.drawn s m (k - 2) ≡ datum_at s m k
-datum_inside s m r x k e f g h i =
-    ap (λ (q : Reply). content_at q.drawn s m (k - 2)) e
-    ∙ behind_points s m k (ap (λ (q : Reply). is_exchange q.drawn) (sym e) ∙ sym f ∙ g) h i
-
 -- ---- a gap
 
 -- the reader begins anew

@@ -41,12 +41,7 @@ module _ (s : State) (m : List ℕ) (x : Control) (same : x ≡ s.control) where
   tick_drops e = by_noted true e
 
   module _ (none : x.noted ≡ false) where
-    -- none is noted: the outcome of the rules,
-    pub tick_carries : (b : Bool) (o : Outcome) → b ≡ busy s → o ≡ ticked b x → elapsed s m ≡ carried s m o 0
-    tick_carries b o e f =
-        by_noted false none ∙ ap (λ (p : Outcome). carried s m p 0) (sym (f ∙ (λ i. ticked (e i) (same i))))
-
-    -- which leaves the chain,
+    -- none is noted: the outcome of the rules, which leaves the chain,
     pub tick_carries_over : (b : Bool) (o : Outcome) → b ≡ busy s → o ≡ ticked b x → elapsed s m ≡ carried s m (on_chain o s.control.chain) 0
     tick_carries_over b o e f =
         let is : o ≡ ticked (busy s) s.control = f ∙ (λ i. ticked (e i) (same i)) in

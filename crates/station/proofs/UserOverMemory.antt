@@ -147,61 +147,9 @@ module _ (s : State) (m : List ℕ) where
             (g ∙ (λ i. judged_configuration (same i) (e i).set.fresh (known.1 i)))
             (configuration_quiet s.setup s.control s.configuration.set.fresh (eqb j 1) tt))
 
--- ---- read and write an octet, by the setup that the code read and the kind that it found
+-- ---- read and write an octet
 
-module _ (s : State) (m : List ℕ) (kind index : ℕ) {setup : Setup} (same : setup ≡ s.setup) where
-  -- out of range
-  module _ (e : in_range setup kind index ≡ false) where
-    outside : in_range s.setup kind index ≡ false
-    outside = (λ i. in_range (sym same i) kind index) ∙ e
-
-    pub reads_outside : Tells (read_octet s m kind index) (Err Range) s m
-    unfolding read_octet
-    reads_outside = rw outside (record { answers = refl; states = refl; leaves = refl })
-
-    pub writes_outside : (x : ℕ) → Tells (write_octet s m kind index x) (Err Range) s m
-    unfolding write_octet
-    writes_outside x = rw ((λ i. writable kind && outside i) ∙ and-false (writable kind)) (record { answers = refl; states = refl; leaves = refl })
-
-  -- in range; k: the kind's number
-  module _ {k : ℕ} (found : (k ≡ kind) × (in_range setup kind index ≡ true)) where
-    inside : in_range s.setup kind index ≡ true
-    inside = (λ i. in_range (sym same i) kind index) ∙ found.1
-
-    -- it has its octet in the memory
-    pub lies : Safe s m → {at : ℕ} → at ≡ kind_at s k → at + index < length m
-    lies safe e = rw (e ∙ ap (kind_at s) found.0) (reached s m kind index safe inside).1
-
-    -- it is not written
-    pub writes_no_such : (x : ℕ) → {w : Bool} → w ≡ writable k → w ≡ false → Tells (write_octet s m kind index x) (Err Range) s m
-    unfolding write_octet
-    writes_no_such x e f = rw (ap writable (sym found.0) ∙ sym e ∙ f) (record { answers = refl; states = refl; leaves = refl })
-
-    module _ {a : Bool} (tested : a ≡ absent s k index) where
-      seen_absent : {t : Bool} → a ≡ t → absent s kind index ≡ t
-      seen_absent e = (λ i. absent s (sym found.0 i) index) ∙ sym tested ∙ e
-
-      -- or absent
-      pub reads_absent : a ≡ true → Tells (read_octet s m kind index) (Err Absent) s m
-      unfolding read_octet
-      reads_absent e = rw (inside, seen_absent e) (record { answers = refl; states = refl; leaves = refl })
-
-      -- else read
-      pub reads_there : a ≡ false → {at : ℕ} → at ≡ kind_at s k → {x : ℕ} → x ≡ get_or m (at + index) 0
-          → Tells (read_octet s m kind index) (Ok x) s m
-      unfolding read_octet
-      reads_there e f g = rw (inside, seen_absent e)
-          (record { answers = ap Ok (g ∙ (λ i. get_or m ((f ∙ ap (kind_at s) found.0) i + index) 0)); states = refl; leaves = refl })
-
-      module _ (x : ℕ) {w : Bool} (written : w ≡ writable k) (may : w ≡ true) where
-        writing : writable kind ≡ true
-        writing = ap writable (sym found.0) ∙ sym written ∙ may
-
-        pub writes_absent : a ≡ true → Tells (write_octet s m kind index x) (Err Absent) s m
-        unfolding write_octet
-        writes_absent e = rw (writing, inside, seen_absent e) (record { answers = refl; states = refl; leaves = refl })
-
-        pub writes_there : a ≡ false → {at : ℕ} → at ≡ kind_at s k → Tells (write_octet s m kind index x) (Ok 0) s (set m (at + index) x)
-        unfolding write_octet
-        writes_there e f = rw (writing, inside, seen_absent e)
-            (record { answers = refl; states = refl; leaves = λ i. set m ((f ∙ ap (kind_at s) found.0) i + index) x })
+-- one in range lies in the memory, by the setup that the code read and the number of the kind that it found
+pub lies : (s : State) (m : List ℕ) (kind index : ℕ) {setup : Setup} → setup ≡ s.setup → {k : ℕ} → (k ≡ kind) × (in_range setup kind index ≡ true)
+    → Safe s m → {at : ℕ} → at ≡ kind_at s k → at + index < length m
+lies s m kind index same found safe e = rw (e ∙ ap (kind_at s) found.0) (reached s m kind index safe ((λ i. in_range (sym same i) kind index) ∙ found.1)).1

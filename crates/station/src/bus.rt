@@ -33,7 +33,7 @@ pub fn pause(s: State, mem: &mut [u8]) -> State
     settle(read_by(s, Reader::start()), mem)
 }
 
-// A gap over the memory: the reader is packed, and what waited is settled.
+// The same over the memory, where only the reader is packed before what waited is settled.
 pub fn gap(mem: &mut [u8])
     requires { Holds mem.old (unpacked mem.old) }
     ensures { mem.new ≡ packed_after (paused (unpacked mem.old) mem.old) }
@@ -75,7 +75,8 @@ fn silence(s: State, mem: &mut [u8]) -> State
     settle(reading::drop_reply(s, reader), mem)
 }
 
-// The same over the memory. The clear waits, so that the line is settled without a look whether something does.
+// The same over the memory, where only telegram and reply are packed. The clear waits, so that the line is settled without a look whether
+// something does.
 fn silence_over(mem: &mut [u8])
     requires { Holds mem.old (unpacked mem.old) }
     ensures { mem.new ≡ packed_after (settle (with_reply (read_by (unpacked mem.old) (silenced_reader (begun (unpacked mem.old)) (unpacked mem.old).incoming.reader)) no_reply) mem.old) }
@@ -87,6 +88,7 @@ fn silence_over(mem: &mut [u8])
 }
 
 // A Tick: 1 ms. Nearly always the watchdog counts down or is off.
+#[tactic(auto, using(crate::proofs::Ticking::tick_rests, crate::proofs::Ticking::tick_counts), unfolding(steps::specs::Bus::elapsed))]
 pub fn elapse(mut s: State, mem: &mut [u8]) -> State
     requires { Safe s mem.old }
     ensures { Steps (elapsed s mem.old) result mem.new }
@@ -106,6 +108,7 @@ pub fn elapse(mut s: State, mem: &mut [u8]) -> State
 }
 
 // A Tick over the memory, whatever comes of it.
+#[tactic(auto, using(crate::proofs::Ticking::tick_drops, crate::proofs::Ticking::tick_carries_over))]
 fn tick_whole(mem: &mut [u8])
     requires { Holds mem.old (unpacked mem.old) }
     ensures { mem.new ≡ packed_after (elapsed (unpacked mem.old) mem.old) }
@@ -120,6 +123,7 @@ fn tick_whole(mem: &mut [u8])
 
 // A Tick over the memory: nearly always only the ticks that remain are packed. Whatever else comes of it is called at two places, since
 // what is called at one the compiler takes in, and every Tick would save the registers that it needs.
+#[tactic(auto, using(crate::proofs::Stepping::still, crate::proofs::Ticking::tick_rests, crate::proofs::Ticking::tick_counts))]
 pub fn tick(mem: &mut [u8])
     requires { Holds mem.old (unpacked mem.old) }
     ensures { mem.new ≡ packed_after (elapsed (unpacked mem.old) mem.old) }

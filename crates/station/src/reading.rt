@@ -23,6 +23,7 @@ use state::state::{Incoming, Outputs, Sets, State};
 use telegram::reader::{Reader, Status};
 
 // The part of the memory that is the fill buffer is lent on to the step that stores an octet.
+#[tactic(auto, using(crate::proofs::StoredOverMemory::outputs_in, crate::proofs::StoredOverMemory::parameters_in, crate::proofs::StoredOverMemory::configuration_in))]
 fn store_data(s: State, mem: &mut [u8], k: u8, b: u8)
     requires { Safe s mem.old }
     ensures { mem.new ≡ stored_data s mem.old k b }
@@ -150,7 +151,14 @@ fn outcome_of(s: State, mem: &[u8], r: Request) -> Outcome
 {
     let occupied = occupied(s.parameters, s.configuration, s.outputs);
     let octets = data_in(mem, s.setup, s.incoming, s.parameters);
-    outcome_by(service_of(s.setup, r), s.setup, s.control, occupied, r, octets)
+    outcome_by(
+        service_of(s.setup, r),
+        s.setup,
+        s.control,
+        occupied,
+        r,
+        octets,
+    )
 }
 
 // An outcome carried out, and the reply drawn.

@@ -11,6 +11,7 @@ use state::setup::{Given, Setup};
 use state::start::{last_end, lay_out, setup_of};
 
 // A setup that was accepted is laid out, if its buffers and those of the channels have room.
+#[tactic(auto, unfolding(steps::specs::Calls::started_in))]
 fn start_in(mem: &mut [u8], setup: Setup, get_cfg: &[u8], channels: &[u8]) -> Answer
     requires { (setup.get_cfg_len ≡ length get_cfg.now) × (length channels.now ≡ length_octets) }
     ensures { Meets (started_in mem.old setup get_cfg.now channels.now) result mem.new }

@@ -5,18 +5,6 @@ use Rattle.steps.specs.User.{judge_parameters}
 use Rattle.station.proofs.UserOverMemory.{judges_parameters}
 use Rattle.station.proofs.user.judge_parameters.Goals as goal
 
-pub returns-then-not-is_open : goal.returns-then-not-is_open
-unfolding judge_parameters
-returns-then-not-is_open c = rw (← c.parameters-parameters.ensures, ← c.is_open.ensures, c.if-not-is_open.true)
-    (record { answers = refl; leaves = refl })
-
-pub returns-in_err-good : goal.returns-in_err-good
-unfolding judge_parameters
-returns-in_err-good c =
-    let e = err_from_is_err_and c.from_residual.result c.from_residual.ensures.1 in
-    rw (← c.parameters-parameters.ensures, ← c.is_open.ensures, c.if-not-is_open.false, c.in_err-good.ensures.unknown.1)
-    (record { answers = e.1 ∙ ap Err (e.2 ∙ c.in_err-good.ensures.unknown.0); leaves = refl })
-
 pub returns : goal.returns
 returns c = judges_parameters _ _ c.control-control.ensures c.carry_over.ensures _ c.in_ok-good.ensures.known c.is_open.ensures c.from.ensures
     c.parameters-parameters.ensures
