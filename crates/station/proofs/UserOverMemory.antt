@@ -36,35 +36,7 @@ flag : (b : Bool) → from_bool b ≡ cond b 1 0
 flag true = refl
 flag false = refl
 
-one_more : (b : Bool) → 1 + from_bool b ≡ cond b 2 1
-one_more true = refl
-one_more false = refl
-
 module _ (s : State) (m : List ℕ) where
-  -- ---- take outputs
-
-  module _ {outputs : Outputs} (same : outputs ≡ s.outputs) where
-    -- the test of the code
-    seen : {t : Bool} → not outputs.set.fresh ≡ t → not s.outputs.set.fresh ≡ t
-    seen e = (λ i. not (sym same i).set.fresh) ∙ e
-
-    -- they are not new
-    pub takes_none : not outputs.set.fresh ≡ true → m ≡ kept s m → Meets (packed m (take_outputs s m)) (Ok 0) m
-    unfolding take_outputs
-    takes_none e front = rw (seen e) (record { answers = refl; leaves = front })
-
-    -- they are
-    pub takes_new : not outputs.set.fresh ≡ false → {set : Quad} {k : ℕ} {n : List ℕ} → set ≡ taken outputs.set
-        → k ≡ from_bool outputs.zeros → n ≡ kept (with_outputs s (record { set = set; zeros = outputs.zeros })) m
-        → Meets (packed m (take_outputs s m)) (Ok (1 + k)) n
-    unfolding take_outputs
-    takes_new e f g h =
-        rw (seen e)
-        (record {
-          answers = ap Ok ((λ i. 1 + g i) ∙ one_more outputs.zeros ∙ (λ i. cond (same i).zeros 2 1));
-          leaves = h ∙ (λ i. kept (with_outputs s (record { set = (f ∙ (λ j. taken (same j).set)) i; zeros = (same i).zeros })) m);
-        })
-
   module _ {control : Control} (same : control ≡ s.control) where
     -- ---- new diagnosis
 

@@ -1,4 +1,6 @@
 // Gap, send and tick.
+#![tactic(auto, using(crate::proofs::Stepping::still, crate::proofs::Ticking::tick_drops, crate::proofs::Ticking::tick_carries_over, crate::proofs::Ticking::tick_rests, crate::proofs::Ticking::tick_counts), unfolding(steps::specs::Bus::paused))]
+
 ghost use Rattle.std.specs.Prelude.{◌≡◌, unwrap_or};
 ghost use Rattle.state.specs.Memory.{Holds};
 ghost use Rattle.state.specs.Unpack.{unpacked};
@@ -25,7 +27,6 @@ use state::state::State;
 use telegram::reader::Reader;
 
 // A gap: the next octet may begin a telegram.
-#[tactic(auto, unfolding(steps::specs::Bus::paused))]
 pub fn pause(s: State, mem: &mut [u8]) -> State
     requires { Safe s mem.old }
     ensures { Steps (paused s mem.old) result mem.new }
@@ -108,7 +109,6 @@ pub fn elapse(mut s: State, mem: &mut [u8]) -> State
 }
 
 // A Tick over the memory, whatever comes of it.
-#[tactic(auto, using(crate::proofs::Ticking::tick_drops, crate::proofs::Ticking::tick_carries_over))]
 fn tick_whole(mem: &mut [u8])
     requires { Holds mem.old (unpacked mem.old) }
     ensures { mem.new ≡ packed_after (elapsed (unpacked mem.old) mem.old) }
@@ -123,7 +123,6 @@ fn tick_whole(mem: &mut [u8])
 
 // A Tick over the memory: nearly always only the ticks that remain are packed. Whatever else comes of it is called at two places, since
 // what is called at one the compiler takes in, and every Tick would save the registers that it needs.
-#[tactic(auto, using(crate::proofs::Stepping::still, crate::proofs::Ticking::tick_rests, crate::proofs::Ticking::tick_counts))]
 pub fn tick(mem: &mut [u8])
     requires { Holds mem.old (unpacked mem.old) }
     ensures { mem.new ≡ packed_after (elapsed (unpacked mem.old) mem.old) }

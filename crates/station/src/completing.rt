@@ -37,7 +37,7 @@ use state::state::{Drawn, Header, Incoming, Reply};
 use telegram::Kind;
 use telegram::sender::Sender;
 
-// What comes of the service that a telegram asks for: the repeat is out of the question here, and the chain is not gone through again.
+// What comes of the service that a telegram asks for: `outcome_of` without the chain, since no repeat comes here.
 #[tactic(auto, using(steps::proofs::KeepsSafe::prm_room, steps::proofs::Holding::holds_safe))]
 fn served_in(mem: &[u8], r: Request, service: Service) -> Outcome
     requires { (Holds mem.now (unpacked mem.now)) × (service ≡ service_of (unpacked mem.now).setup r) }
@@ -61,8 +61,8 @@ fn keep_request(mem: &mut [u8], r: Request, drawn: Drawn)
     }
 }
 
-// An outcome carried out, the telegram read to its end, and the reply drawn: before the parts are written, since after that each would be read
-// again. It is no good Data_Exchange's: what was drawn goes into the chain as it is.
+// An outcome carried out, the telegram read to its end, and the reply drawn, by the parts at hand: after they are written each would have to be
+// read again. It is no good Data_Exchange's: what was drawn goes into the chain as it is.
 fn answer(mem: &mut [u8], o: Outcome, i: Incoming, r: Request)
     requires { (Holds mem.old (unpacked mem.old)) × (acts (unpacked mem.old).setup r ≡ true) }
     ensures { mem.new ≡ answered_by mem.old i r o }

@@ -1,4 +1,6 @@
 // The whole lent memory: its length, and whether it is damaged.
+#![tactic(auto, unfolding(steps::specs::Calls::length_ok, steps::specs::Calls::well_memory))]
+
 ghost use Rattle.std.specs.Prelude.{◌≡◌, true, false, OnOk, IfErr};
 ghost use Rattle.state.specs.declared.answer.Refusal.TheVariants.{Damaged};
 ghost use Rattle.state.specs.Well.{within};
@@ -15,7 +17,6 @@ fn in_range(n: usize) -> bool
 }
 
 // So many, and a multiple of 8.
-#[tactic(auto, unfolding(steps::specs::Calls::length_ok))]
 pub fn length_ok(n: usize) -> bool
     ensures { result ≡ length_ok n }
 {
@@ -24,7 +25,6 @@ pub fn length_ok(n: usize) -> bool
 
 // Whether the memory is well: else every call but Start is refused with 5. Its length is asked first: asked behind the state, it would have to
 // be kept over the survey of the channels, for which every call would save a register.
-#[tactic(auto, unfolding(steps::specs::Calls::well_memory))]
 pub fn is_well(mem: &[u8]) -> bool
     ensures { result ≡ well_memory mem.now }
 {

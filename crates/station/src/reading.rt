@@ -1,4 +1,6 @@
 // The bus's octet: a telegram's data goes into the fill buffer that its header names, as it comes.
+#![tactic(auto, using(crate::proofs::StoredOverMemory::outputs_in, crate::proofs::StoredOverMemory::parameters_in, crate::proofs::StoredOverMemory::configuration_in, steps::proofs::KeepsSafe::prm_room, steps::proofs::KeepsSafe::safe_steps, steps::proofs::KeepsSafe::safe_completed), unfolding(steps::specs::Reading::outcome_of, steps::specs::Reading::answered, steps::specs::Reading::heard))]
+
 ghost use Rattle.std.specs.Prelude.{◌≡◌, ◌+◌, ◌≤◌, true, false, length};
 ghost use Rattle.telegram.specs.Reading.{takes_data, datum_of};
 ghost use Rattle.buffers.specs.Roles.{fill_of};
@@ -23,7 +25,6 @@ use state::state::{Incoming, Outputs, Sets, State};
 use telegram::reader::{Reader, Status};
 
 // The part of the memory that is the fill buffer is lent on to the step that stores an octet.
-#[tactic(auto, using(crate::proofs::StoredOverMemory::outputs_in, crate::proofs::StoredOverMemory::parameters_in, crate::proofs::StoredOverMemory::configuration_in))]
 fn store_data(s: State, mem: &mut [u8], k: u8, b: u8)
     requires { Safe s mem.old }
     ensures { mem.new ≡ stored_data s mem.old k b }
@@ -144,7 +145,6 @@ pub fn occupied(parameters: Sets, configuration: Sets, outputs: Outputs) -> Occu
 }
 
 // What comes of a telegram.
-#[tactic(auto, using(steps::proofs::KeepsSafe::prm_room), unfolding(steps::specs::Reading::outcome_of))]
 fn outcome_of(s: State, mem: &[u8], r: Request) -> Outcome
     requires { Safe s mem.now }
     ensures { result ≡ outcome_of s mem.now r }
@@ -162,7 +162,6 @@ fn outcome_of(s: State, mem: &[u8], r: Request) -> Outcome
 }
 
 // An outcome carried out, and the reply drawn.
-#[tactic(auto, unfolding(steps::specs::Reading::answered))]
 fn answer(s: State, mem: &mut [u8], o: Outcome, r: Request) -> State
     requires { Safe s mem.old }
     ensures { Steps (answered s mem.old o r) result mem.new }
@@ -205,7 +204,6 @@ fn hear_inside(s: State, mem: &mut [u8], reader: Reader, b: u8) -> State
 }
 
 // An octet by what the octets are with it; reader: after it.
-#[tactic(auto, using(steps::proofs::KeepsSafe::safe_steps, steps::proofs::KeepsSafe::safe_completed))]
 fn hear_as(status: Status, s: State, mem: &mut [u8], reader: Reader, b: u8) -> State
     requires { Safe s mem.old }
     ensures { Steps (heard_as status s mem.old reader b) result mem.new }
@@ -242,7 +240,6 @@ fn hear_datum(mut s: State, mem: &mut [u8], b: u8) -> State
 }
 
 // Any octet, by what the octets are with it.
-#[tactic(auto, unfolding(steps::specs::Reading::heard))]
 fn hear_any(s: State, mem: &mut [u8], b: u8, bad: bool) -> State
     requires { Safe s mem.old }
     ensures { Steps (heard s mem.old b bad) result mem.new }

@@ -1,4 +1,6 @@
 // The reply in progress: how it is drawn, and where its data octets are read.
+#![tactic(auto, using(crate::proofs::SentOverMemory::diagnosis_room, crate::proofs::SentOverMemory::inputs_room, crate::proofs::SentOverMemory::outputs_room, crate::proofs::SentOverMemory::get_cfg_in))]
+
 ghost use Rattle.std.specs.Prelude.{◌≡◌, ◌+◌, ◌≤◌, length, slice_index};
 ghost use Rattle.buffers.specs.Roles.{held_of};
 ghost use Rattle.octets.specs.Part.{part};
@@ -117,7 +119,6 @@ fn octet_in(mem: &[u8], from: usize, len: u8, i: u8) -> u8
 }
 
 // Data octet i of a diagnosis reply behind DSAP and SSAP.
-#[tactic(auto, using(crate::proofs::SentOverMemory::diagnosis_room))]
 fn diagnosis_octet(mem: &[u8], i: u8) -> u8
     requires { Holds mem.now (unpacked mem.now) }
     ensures { result ≡ content_at Drawn.Diagnosis (unpacked mem.now) mem.now i }
@@ -131,7 +132,6 @@ fn diagnosis_octet(mem: &[u8], i: u8) -> u8
 }
 
 // Octet i of the inputs that are sent.
-#[tactic(auto, using(crate::proofs::SentOverMemory::inputs_room))]
 fn input_octet(mem: &[u8], i: u8) -> u8
     requires { Holds mem.now (unpacked mem.now) }
     ensures { result ≡ content_at Drawn.Inputs (unpacked mem.now) mem.now i }
@@ -142,7 +142,6 @@ fn input_octet(mem: &[u8], i: u8) -> u8
 }
 
 // Octet i of the outputs that the reply leaves from.
-#[tactic(auto, using(crate::proofs::SentOverMemory::outputs_room))]
 fn output_octet(mem: &[u8], i: u8) -> u8
     requires { Holds mem.now (unpacked mem.now) }
     ensures { result ≡ content_at Drawn.Outputs (unpacked mem.now) mem.now i }
@@ -153,7 +152,6 @@ fn output_octet(mem: &[u8], i: u8) -> u8
 }
 
 // Octet i of what Get_Cfg sends.
-#[tactic(auto, using(crate::proofs::SentOverMemory::get_cfg_in))]
 fn get_cfg_octet(mem: &[u8], i: u8) -> u8
     requires { Holds mem.now (unpacked mem.now) }
     ensures { result ≡ content_at Drawn.Configuration (unpacked mem.now) mem.now i }

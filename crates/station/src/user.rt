@@ -1,4 +1,6 @@
 // The calls of the vat program over the memory that holds the state: each reads and writes the parts that it needs.
+#![tactic(auto, using(crate::proofs::Stepping::still), unfolding(steps::specs::User::take_outputs, steps::specs::User::read_octet, steps::specs::User::write_octet, steps::specs::User::hand_over, steps::specs::User::new_diagnosis, steps::specs::User::judge_parameters, steps::specs::User::judge_configuration, steps::specs::User::acknowledge_events))]
+
 ghost use Rattle.std.specs.Prelude.{◌≡◌, true, false, eqb, leb, IfOk, IfErr};
 ghost use Rattle.state.specs.declared.answer.Refusal.TheVariants.{Range};
 ghost use Rattle.state.specs.Answer.{Meets};
@@ -24,7 +26,6 @@ use state::load;
 use state::saving::{save_control, save_events, save_inputs, save_outputs};
 
 // Take outputs: 0 nothing new; else 1, or 2 where the station published zeros, and next and held change.
-#[tactic(auto, using(crate::proofs::Stepping::still, crate::proofs::UserOverMemory::takes_none, crate::proofs::UserOverMemory::takes_new))]
 pub fn take_outputs(mem: &mut [u8]) -> Answer
     requires { Holds mem.old (unpacked mem.old) }
     ensures { Meets (packed mem.old (take_outputs (unpacked mem.old) mem.old)) result mem.new }
@@ -67,7 +68,6 @@ fn kind_at(mem: &[u8], kind: Octets) -> usize
 }
 
 // Reading answers the octet; the state is not unpacked as a whole.
-#[tactic(auto, unfolding(steps::specs::User::read_octet))]
 pub fn read_octet(mem: &[u8], kind: u32, index: u32) -> Answer
     requires { Holds mem.now (unpacked mem.now) }
     ensures { Tells (read_octet (unpacked mem.now) mem.now kind index) result (unpacked mem.now) mem.now }
@@ -82,7 +82,6 @@ pub fn read_octet(mem: &[u8], kind: u32, index: u32) -> Answer
 }
 
 // Kinds 4 and 5 are written.
-#[tactic(auto, unfolding(steps::specs::User::write_octet))]
 pub fn write_octet(mem: &mut [u8], kind: u32, index: u32, octet: u8) -> Answer
     requires { Holds mem.old (unpacked mem.old) }
     ensures { Tells (write_octet (unpacked mem.old) mem.old kind index octet) result (unpacked mem.old) mem.new }
@@ -102,7 +101,6 @@ pub fn write_octet(mem: &mut [u8], kind: u32, index: u32, octet: u8) -> Answer
 }
 
 // Hand over inputs: held and next change, next is new.
-#[tactic(auto, using(crate::proofs::Stepping::still), unfolding(steps::specs::User::hand_over))]
 pub fn hand_over(mem: &mut [u8]) -> Answer
     requires { Holds mem.old (unpacked mem.old) }
     ensures { Meets (packed mem.old (hand_over (unpacked mem.old) mem.old)) result mem.new }
@@ -113,7 +111,6 @@ pub fn hand_over(mem: &mut [u8]) -> Answer
 }
 
 // New diagnosis; while a Slave_Diag reply is unfinished all of it waits.
-#[tactic(auto, unfolding(steps::specs::User::new_diagnosis))]
 pub fn new_diagnosis(mem: &mut [u8], count: u32, flags: u32) -> Answer
     requires { Holds mem.old (unpacked mem.old) }
     ensures { Meets (packed mem.old (new_diagnosis (unpacked mem.old) mem.old count flags)) result mem.new }
@@ -149,7 +146,6 @@ fn is_good(judgement: u32) -> Result<bool, Refusal>
 }
 
 // Judge parameters: a set has to be open. 1 if a newer set waited, else 0.
-#[tactic(auto, unfolding(steps::specs::User::judge_parameters))]
 pub fn judge_parameters(mem: &mut [u8], judgement: u32) -> Answer
     requires { Holds mem.old (unpacked mem.old) }
     ensures { Meets (packed mem.old (judge_parameters (unpacked mem.old) mem.old judgement)) result mem.new }
@@ -166,7 +162,6 @@ pub fn judge_parameters(mem: &mut [u8], judgement: u32) -> Answer
 }
 
 // Judge configuration: likewise, and not before good parameters.
-#[tactic(auto, unfolding(steps::specs::User::judge_configuration))]
 pub fn judge_configuration(mem: &mut [u8], judgement: u32) -> Answer
     requires { Holds mem.old (unpacked mem.old) }
     ensures { Meets (packed mem.old (judge_configuration (unpacked mem.old) mem.old judgement)) result mem.new }
@@ -183,7 +178,6 @@ pub fn judge_configuration(mem: &mut [u8], judgement: u32) -> Answer
 }
 
 // Acknowledge clears bits, never 10 or 11.
-#[tactic(auto, using(crate::proofs::Stepping::still), unfolding(steps::specs::User::acknowledge_events))]
 pub fn acknowledge(mem: &mut [u8], mask: u16) -> Answer
     requires { Holds mem.old (unpacked mem.old) }
     ensures { Meets (packed mem.old (acknowledge_events (unpacked mem.old) mem.old mask)) result mem.new }
