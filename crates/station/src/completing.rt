@@ -194,6 +194,7 @@ fn repeat(mem: &mut [u8], i: Incoming, r: Request)
 }
 
 // A telegram that acts and is no repeat, by the service that it asks for.
+#[tactic(auto, using(crate::proofs::CompletedOverMemory::others_once))]
 fn apply(mem: &mut [u8], i: Incoming, r: Request, service: Service)
     requires { (Holds mem.old (unpacked mem.old)) × (service ≡ service_of (unpacked mem.old).setup r) × (acts (unpacked mem.old).setup r ≡ true) × (is_repeat_in (unpacked mem.old) r ≡ false) }
     ensures { mem.new ≡ completed_by mem.old i r }
@@ -227,6 +228,7 @@ fn pass_by(mem: &mut [u8], i: Incoming, r: Request)
 }
 
 // A last octet applies Services; octets are ignored until a gap. i: the telegram, read to its end.
+#[tactic(auto, using(crate::proofs::CompletedOverMemory::acting_service))]
 pub fn complete(mem: &mut [u8], i: Incoming)
     requires { Holds mem.old (unpacked mem.old) }
     ensures { mem.new ≡ completed_by mem.old i (request_by i.reader) }
