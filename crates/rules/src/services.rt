@@ -291,8 +291,8 @@ pub fn serve(
     }
 }
 
-// What comes of a telegram, which refills the owner's watchdog: a repeat draws again what the earlier request drew; of any other the service
-// is served, and a request goes into the chain or ends it.
+// What comes of a telegram, which refills the owner's watchdog: a repeat draws again what the earlier request drew; of any other the
+// service is served, and a request goes into the chain or ends it.
 pub fn outcome_by(
     service: Service,
     setup: Setup,
