@@ -36,7 +36,7 @@ pub fn wait(mut state: State, memory: &mut [u8], count: usize) -> State
 }
 
 // A telegram after a gap, then Ticks.
-#[tactic(auto, using(steps::proofs::KeepsSafe::safe_steps, steps::proofs::KeepsSafe::safe_paused, crate::proofs::Same::safe_run, crate::proofs::Partly::run_append))]
+#[tactic(auto, using(steps::proofs::KeepsSafe::safe_steps, steps::proofs::KeepsSafe::safe_paused, crate::proofs::Partly::run_append))]
 pub fn take_turn(state: State, memory: &mut [u8], telegram: &[u8], count: usize) -> State
     requires { Safe state memory.old }
     ensures { Steps (run_beats state memory.old (turn telegram.now count)) result memory.new }
