@@ -1,5 +1,5 @@
 // The station as firmware in C calls it: the memory first, plain numbers, a refusal negated.
-#![tactic(auto)]
+#![tactic(auto, using(crate::proofs::Exporting::exported, crate::proofs::Exporting::handed_on, crate::proofs::Exporting::by_call, crate::proofs::Exporting::by_command, crate::proofs::Exporting::by_access))]
 
 ghost use Rattle.std.specs.Prelude.{not, eqb, length};
 ghost use Rattle.state.specs.Start.{given};

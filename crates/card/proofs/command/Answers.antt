@@ -6,12 +6,6 @@ use Rattle.state.specs.Unpack.{unpacked}
 use Rattle.card.proofs.Exporting.{exported, handed_on, by_call, by_command}
 use Rattle.card.proofs.command.Goals as goal
 
-pub returns-in-LowEvents : goal.returns-in-LowEvents
-returns-in-LowEvents c = by_command c.args.memory.now (unpacked c.args.memory.now).control _ _ c.in-LowEvents.is (exported c.event_bits.ensures (to_z-of_z {w = w64} (record { sfits = c.code.type_inv }) ∙ c.code.ensures))
-
-pub returns-in-HighEvents : goal.returns-in-HighEvents
-returns-in-HighEvents c = by_command c.args.memory.now (unpacked c.args.memory.now).control _ _ c.in-HighEvents.is (exported c.event_bits-in-HighEvents.ensures (to_z-of_z {w = w64} (record { sfits = c.code-in-HighEvents.type_inv }) ∙ c.code-in-HighEvents.ensures))
-
 pub returns-in-HandOver : goal.returns-in-HandOver
 returns-in-HandOver c = by_command c.args.memory.now (unpacked c.args.memory.now).control _ _ c.in-HandOver.is (by_call _ _ (exported c.hand_over.ensures (to_z-of_z {w = w64} (record { sfits = c.code-in-HandOver.type_inv }) ∙ c.code-in-HandOver.ensures)))
 
@@ -32,9 +26,3 @@ returns-in-JudgeConfiguration c = by_command c.args.memory.now (unpacked c.args.
 
 pub returns-in-Acknowledge : goal.returns-in-Acknowledge
 returns-in-Acknowledge c = by_command c.args.memory.now (unpacked c.args.memory.now).control _ _ c.in-Acknowledge.is (by_call _ _ (exported c.acknowledge.ensures (to_z-of_z {w = w64} (record { sfits = c.code-in-Acknowledge.type_inv }) ∙ c.code-in-Acknowledge.ensures)))
-
-pub returns-in-Nothing : goal.returns-in-Nothing
-returns-in-Nothing c = by_command c.args.memory.now (unpacked c.args.memory.now).control _ _ c.in-Nothing.is (exported c.nothing.ensures (to_z-of_z {w = w64} (record { sfits = c.code-in-Nothing.type_inv }) ∙ c.code-in-Nothing.ensures))
-
-pub returns-in-NoCell : goal.returns-in-NoCell
-returns-in-NoCell c = by_command c.args.memory.now (unpacked c.args.memory.now).control _ _ c.in-NoCell.is (exported c.no_cell.ensures (to_z-of_z {w = w64} (record { sfits = c.code-in-NoCell.type_inv }) ∙ c.code-in-NoCell.ensures))

@@ -1,8 +1,0 @@
-use mir.Syntax.{w64}
-use mir.Facts.{to_z-of_z}
-use mathlib.Core.Path.{◌∙◌}
-use Rattle.card.proofs.Exporting.{exported}
-use Rattle.card.proofs.dp_send.Goals as goal
-
-pub returns : goal.returns
-returns c = exported c.send-answer.ensures (to_z-of_z {w = w64} (record { sfits = c.code.type_inv }) ∙ c.code.ensures)
