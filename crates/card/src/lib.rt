@@ -51,7 +51,7 @@ pub fn dp_start(
 pub fn dp_octet(memory: &mut [u8], octet: u8, bad: u8) -> i64
     ensures { Returns (called memory.old (call.octet octet (not (eqb bad 0)))) result memory.new }
 {
-    code(calls::octet(memory, octet, !(bad == 0)))
+    code(calls::octet(memory, octet, bad != 0))
 }
 
 // A gap on the line.
@@ -174,12 +174,12 @@ fn command(memory: &mut [u8], command: Command) -> i64
 pub fn dp_window_read(memory: &mut [u8], order: u32, address: u32) -> i64
     ensures { Returns (entered memory.old (window_read (order_of order) address)) result memory.new }
 {
-    command(memory, Command::reading(Order::of(order), address))
+    command(memory, Command::reading(Order::from(order), address))
 }
 
 // Writes an octet to a cell of the window.
 pub fn dp_window_write(memory: &mut [u8], order: u32, address: u32, octet: u8) -> i64
     ensures { Returns (entered memory.old (window_write (order_of order) address octet)) result memory.new }
 {
-    command(memory, Command::writing(Order::of(order), address, octet))
+    command(memory, Command::writing(Order::from(order), address, octet))
 }

@@ -36,8 +36,7 @@ impl Command {
         if Self::LAST < address {
             return Self::NoCell;
         }
-        let cell = order.cell(address);
-        match cell {
+        match order.cell(address) {
             0x00 | 0x02 => Self::LowEvents,
             0x01 | 0x03 => Self::HighEvents,
             0x09 => Self::HandOver,
@@ -58,10 +57,9 @@ impl Command {
         if Self::LAST < address {
             return Self::NoCell;
         }
-        let cell = order.cell(address);
-        match cell {
-            0x02 => Self::Acknowledge(octet as u16),
-            0x03 => Self::Acknowledge(256 * (octet as u16)),
+        match order.cell(address) {
+            0x02 => Self::Acknowledge(u16::from(octet)),
+            0x03 => Self::Acknowledge(256 * u16::from(octet)),
             _ => Self::Nothing,
         }
     }

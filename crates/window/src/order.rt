@@ -12,16 +12,6 @@ impl Order {
     // The last address of the first two words.
     pub const LAST_EXCHANGED: u32 = 3;
 
-    // By its number: 0 is Intel's, any other Motorola's.
-    pub fn of(number: u32) -> Self
-        ensures { result ≡ order_of number }
-    {
-        if number == 0 {
-            return Self::Intel;
-        }
-        Self::Motorola
-    }
-
     // The cell that this order has at an address, by Intel's address: the first two words have their octets exchanged in Motorola's.
     pub fn cell(self, address: u32) -> u32
         ensures { result ≡ cell_at self address }
@@ -35,5 +25,14 @@ impl Order {
                 address ^ 1
             }
         }
+    }
+}
+
+// By its number: 0 is Intel's, any other Motorola's.
+impl From<u32> for Order {
+    ghost from_gives = { λ number order. order ≡ order_of number };
+
+    fn from(number: u32) -> Self {
+        if number == 0 { Self::Intel } else { Self::Motorola }
     }
 }
