@@ -13,14 +13,14 @@ use state::state::Drawn;
 pub fn in_exchange(phase: Phase) -> bool
     ensures { result ≡ exchanging phase }
 {
-    phase == Phase::DataExch
+    matches!(phase, Phase::DataExch)
 }
 
 // Whether the phase is WAIT_PRM.
 pub fn in_wait_prm(phase: Phase) -> bool
     ensures { result ≡ in_wait_prm phase }
 {
-    phase == Phase::WaitPrm
+    matches!(phase, Phase::WaitPrm)
 }
 
 // Nothing but a reply comes of it.

@@ -27,12 +27,12 @@ pub fn replies_e5(setup: Setup, control: Control) -> bool
 pub fn is_exchange(drawn: Drawn) -> bool
     ensures { result ≡ is_exchange drawn }
 {
-    drawn == Drawn::Exchange
+    matches!(drawn, Drawn::Exchange)
 }
 
 // A Slave_Diag's.
 pub fn is_diagnosis(drawn: Drawn) -> bool
     ensures { result ≡ diagnoses drawn }
 {
-    drawn == Drawn::Diagnosis
+    matches!(drawn, Drawn::Diagnosis)
 }

@@ -119,7 +119,7 @@ pub fn function_service(r: Request) -> Service
 {
     match r.fc % 16 {
         // a status request is an SD1
-        9 if r.kind == Kind::Sd1 => Service::Status,
+        9 if matches!(r.kind, Kind::Sd1) => Service::Status,
         // send with acknowledgement
         3 | 5 => Service::Reject,
         // send without

@@ -103,7 +103,7 @@ impl Reader {
     pub fn takes_data(self) -> bool
         ensures { result ≡ takes_data self }
     {
-        self.phase == Phase::Body && self.at < self.count
+        matches!(self.phase, Phase::Body) & (self.at < self.count)
     }
 
     // The step at a data octet, which most octets are.
@@ -283,10 +283,9 @@ impl Reader {
 fn after_sa(k: Kind) -> Phase
     ensures { result ≡ after_sa k }
 {
-    if k == Kind::Sd4 {
-        Phase::Done
-    } else {
-        Phase::Fc
+    match k {
+        Kind::Sd4 => Phase::Done,
+        _ => Phase::Fc,
     }
 }
 

@@ -82,14 +82,14 @@ impl Sender {
     pub fn left(self) -> bool
         ensures { result ≡ left self }
     {
-        self.stage != Stage::Empty
+        !matches!(self.stage, Stage::Empty)
     }
 
     // Which data octet is sent next, from 0; it is to be handed to `send`.
     pub fn asks(self) -> Option<u8>
         ensures { result ≡ asks self }
     {
-        (self.stage == Stage::Body && self.at < self.count).then_some(self.at)
+        (matches!(self.stage, Stage::Body) & (self.at < self.count)).then_some(self.at)
     }
 
     // The next octet. `datum` is the data octet asked for, without effect where none is; where nothing is left, 0.
@@ -211,10 +211,9 @@ fn start_octet(kind: Kind) -> u8
 fn after_start(kind: Kind) -> Stage
     ensures { result ≡ after_start kind }
 {
-    if kind == Kind::Sd2 {
-        Stage::Le
-    } else {
-        Stage::Da
+    match kind {
+        Kind::Sd2 => Stage::Le,
+        _ => Stage::Da,
     }
 }
 
@@ -222,9 +221,8 @@ fn after_start(kind: Kind) -> Stage
 fn stage_after_sa(kind: Kind) -> Stage
     ensures { result ≡ stage_after_sa kind }
 {
-    if kind == Kind::Sd4 {
-        Stage::Empty
-    } else {
-        Stage::Fc
+    match kind {
+        Kind::Sd4 => Stage::Empty,
+        _ => Stage::Fc,
     }
 }

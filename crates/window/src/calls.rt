@@ -19,7 +19,7 @@ fn eight_bits(answer: Answer, from: u32) -> Answer
     requires { from < 32 }
     ensures { result ≡ cut_to (bits from) answer }
 {
-    answer.map(|n| (n >> from) % 256)
+    answer.map(move |n| (n >> from) % 256)
 }
 
 // Eight bits of the event word.
