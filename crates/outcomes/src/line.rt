@@ -1,6 +1,5 @@
 // The line as the state has it: what is busy, and what waits for its end.
 ghost use Rattle.std.specs.Prelude.{◌≤◌, ◌&&◌, ◌||◌, ◌≡◌, length};
-ghost use Rattle.telegram.specs.Reading.{status};
 ghost use Rattle.telegram.specs.Sending.{left};
 ghost use Rattle.state.specs.Layout.{image_length};
 ghost use Rattle.state.specs.Unpack.{unpacked};
@@ -12,13 +11,12 @@ use rules::diagnosis::is_delayed;
 use rules::replies::is_diagnosis;
 use state::load;
 use state::state::{Reply, State};
-use telegram::reader::{Reader, Status};
-use telegram::sender::Sender;
+use telegram::reader::Status;
 
 pub fn is_inside(status: Status) -> bool
     ensures { result ≡ is_inside status }
 {
-    status == Status::Inside
+    matches!(status, Status::Inside)
 }
 
 // A telegram is begun and unfinished.
@@ -29,25 +27,18 @@ pub fn begun(s: State) -> bool
 }
 
 // A busy line: a telegram is begun or a reply is unfinished.
-fn is_busy(reader: Reader, sender: Sender) -> bool
-    ensures { result ≡ is_inside (status reader) || left sender }
-{
-    is_inside(reader.status()) | sender.left()
-}
-
-// The same over the state,
 pub fn busy(s: State) -> bool
     ensures { result ≡ busy s }
 {
-    is_busy(s.incoming.reader, s.reply.sender)
+    begun(s) | s.reply.sender.left()
 }
 
-// and over the memory.
+// The same over the memory: by a function on both parts, which busy could share, a send takes 4 instructions more while a clear waits.
 pub fn busy_in(mem: &[u8]) -> bool
     requires { image_length ≤ length mem.now }
     ensures { result ≡ busy (unpacked mem.now) }
 {
-    is_busy(load::incoming(mem).reader, load::reply(mem).sender)
+    is_inside(load::incoming(mem).reader.status()) | load::reply(mem).sender.left()
 }
 
 // A Slave_Diag reply is unfinished.

@@ -56,7 +56,7 @@ fn put_parameters(deed: SetDeed, count: u8, mem: &mut [u8])
     }
 }
 
-// Of the configuration received.
+// Of the configuration received. One function for both kinds of sets would be handed the reading and the saving, for this one line.
 fn put_configuration(deed: SetDeed, count: u8, mem: &mut [u8])
     requires { image_length ≤ length mem.old }
     ensures { (s : State) → s.configuration ≡ (unpacked mem.old).configuration → mem.old ≡ kept s mem.old → mem.new ≡ kept (with_configuration s (on_sets deed s.configuration count)) mem.old }
