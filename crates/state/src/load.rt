@@ -1,4 +1,6 @@
 // The octets of a memory read straight as a state, as a whole or a part of it alone.
+#![tactic(auto, unfolding(crate::specs::Unpack::unpacked))]
+
 ghost use Rattle.std.specs.Prelude.{◌≡◌, ◌+◌, ◌≤◌, ◌<◌, length};
 ghost use Rattle.telegram.specs.Reading.{takes_data};
 ghost use Rattle.state.specs.Layout.{image_length};
@@ -33,31 +35,6 @@ fn double_at(mem: &[u8], i: usize) -> u32
     word::half(mem, i)
 }
 
-// What Start was given, the ident number handed in.
-fn setup_in(mem: &[u8], ident: u16) -> Setup
-    requires { image_length ≤ length mem.now }
-    ensures { result ≡ setup_in mem.now ident }
-{
-    Setup {
-        address: mem[20],
-        ident,
-        output_len: mem[48],
-        input_len: mem[49],
-        parameter_len: mem[50],
-        configuration_len: mem[51],
-        diagnosis_len: mem[52],
-        get_cfg_len: mem[53],
-    }
-}
-
-// What Start was given.
-pub fn setup(mem: &[u8]) -> Setup
-    requires { image_length ≤ length mem.now }
-    ensures { result ≡ (unpacked mem.now).setup }
-{
-    setup_in(mem, word_at(mem, 42))
-}
-
 // The flags of an octet.
 fn flags_in(x: u8) -> Flags
     ensures { result ≡ flags_in x }
@@ -85,69 +62,6 @@ fn modes_in(x: u8) -> Modes
     }
 }
 
-// Diagnosis and the delayed one.
-pub fn diagnosis(mem: &[u8]) -> Diagnosis
-    requires { image_length ≤ length mem.now }
-    ensures { result ≡ (unpacked mem.now).control.diagnosis }
-{
-    Diagnosis {
-        count: mem[56],
-        delayed_count: mem[57],
-        delayed_flags: mem[26],
-    }
-}
-
-// The event word.
-pub fn events(mem: &[u8]) -> Events
-    requires { image_length ≤ length mem.now }
-    ensures { result ≡ (unpacked mem.now).control.events }
-{
-    Events {
-        word: word_at(mem, 4),
-    }
-}
-
-// Whether a clear is noted.
-pub fn noted(mem: &[u8]) -> bool
-    requires { image_length ≤ length mem.now }
-    ensures { result ≡ (unpacked mem.now).control.noted }
-{
-    mem[3] / 4 % 2 == 1
-}
-
-// The last request, with which the next is compared.
-pub fn chain(mem: &[u8]) -> Chain
-    requires { image_length ≤ length mem.now }
-    ensures { result ≡ (unpacked mem.now).control.chain }
-{
-    Chain {
-        code: mem[54],
-        master: mem[55],
-    }
-}
-
-// The control part.
-pub fn control(mem: &[u8]) -> Control
-    requires { image_length ≤ length mem.now }
-    ensures { result ≡ (unpacked mem.now).control }
-{
-    let remaining = double_at(mem, 44);
-    let reload = double_at(mem, 64);
-    Control {
-        phase: Phase::numbered(mem[21]),
-        owner: mem[0],
-        group: mem[1],
-        stored: mem[2],
-        watchdog: Watchdog { reload, remaining },
-        flags: flags_in(mem[3]),
-        events: events(mem),
-        noted: noted(mem),
-        diagnosis: diagnosis(mem),
-        modes: modes_in(mem[27]),
-        chain: chain(mem),
-    }
-}
-
 // Received sets, with their roles at k and their counts from i on.
 fn sets_in(mem: &[u8], k: usize, i: usize) -> Sets
     requires { (k < length mem.now) × (i + 1 < length mem.now) }
@@ -161,148 +75,226 @@ fn sets_in(mem: &[u8], k: usize, i: usize) -> Sets
     }
 }
 
-// The set of output buffers.
-pub fn outputs(mem: &[u8]) -> Outputs
-    requires { image_length ≤ length mem.now }
-    ensures { result ≡ (unpacked mem.now).outputs }
-{
-    let marks = mem[29];
-    let set = Quad::numbered(mem[22], marks % 2 == 1, marks / 4 % 2 == 1);
-    Outputs {
-        set,
-        zeros: marks / 2 % 2 == 1,
+// The front of a memory that is long enough for the state part.
+#[derive(Clone, Copy)]
+pub struct Image<'a> {
+    pub octets: &'a [u8],
+    pub ghost whole: { image_length ≤ length octets.now },
+}
+
+impl<'a> Image<'a> {
+    // What Start was given, the ident number handed in.
+    fn setup_in(self, ident: u16) -> Setup
+        ensures { result ≡ setup_in self.entry.octets.now ident }
+    {
+        Setup {
+            address: self.octets[20],
+            ident,
+            output_len: self.octets[48],
+            input_len: self.octets[49],
+            parameter_len: self.octets[50],
+            configuration_len: self.octets[51],
+            diagnosis_len: self.octets[52],
+            get_cfg_len: self.octets[53],
+        }
     }
-}
 
-// The set of input buffers.
-pub fn inputs(mem: &[u8]) -> Triple
-    requires { image_length ≤ length mem.now }
-    ensures { result ≡ (unpacked mem.now).inputs }
-{
-    let code = mem[23];
-    Triple::numbered(code / 2, code % 2 == 1)
-}
-
-// The parameters received.
-pub fn parameters(mem: &[u8]) -> Sets
-    requires { image_length ≤ length mem.now }
-    ensures { result ≡ (unpacked mem.now).parameters }
-{
-    sets_in(mem, 24, 58)
-}
-
-// The configuration received.
-pub fn configuration(mem: &[u8]) -> Sets
-    requires { image_length ≤ length mem.now }
-    ensures { result ≡ (unpacked mem.now).configuration }
-{
-    sets_in(mem, 25, 60)
-}
-
-// Whether the controller's diagnosis buffer is the second.
-pub fn swapped(mem: &[u8]) -> bool
-    requires { image_length ≤ length mem.now }
-    ensures { result ≡ (unpacked mem.now).swapped }
-{
-    mem[28] == 1
-}
-
-// The reader at a phase.
-fn reader_in(mem: &[u8], phase: reader::Phase, kind: Kind) -> Reader
-    requires { image_length ≤ length mem.now }
-    ensures { result ≡ reader_in mem.now phase kind }
-{
-    Reader {
-        phase,
-        kind,
-        count: mem[32],
-        at: mem[33],
-        da: mem[34],
-        sa: mem[35],
-        fc: mem[36],
-        dsap: mem[37],
-        ssap: mem[38],
-        sum: mem[39],
+    // What Start was given.
+    pub fn setup(self) -> Setup
+        ensures { result ≡ (unpacked self.entry.octets.now).setup }
+    {
+        self.setup_in(word_at(self.octets, 42))
     }
-}
 
-// The telegram that is coming.
-pub fn incoming(mem: &[u8]) -> Incoming
-    requires { image_length ≤ length mem.now }
-    ensures { result ≡ (unpacked mem.now).incoming }
-{
-    Incoming {
-        reader: reader_in(mem, reader::Phase::numbered(mem[31]), Kind::numbered(mem[30])),
-        first: mem[40],
-        second: mem[41],
+    // Diagnosis and the delayed one.
+    pub fn diagnosis(self) -> Diagnosis
+        ensures { result ≡ (unpacked self.entry.octets.now).control.diagnosis }
+    {
+        Diagnosis {
+            count: self.octets[56],
+            delayed_count: self.octets[57],
+            delayed_flags: self.octets[26],
+        }
     }
-}
 
-// Whether its next octet is data. By the octets as they stand, since most octets are data and nothing else of it is then looked at.
-pub fn takes_data(mem: &[u8]) -> bool
-    requires { image_length ≤ length mem.now }
-    ensures { result ≡ takes_data (unpacked mem.now).incoming.reader }
-{
-    (mem[31] == reader::Phase::Body.number()) & (mem[33] < mem[32])
-}
-
-// The sender at a stage.
-fn sender_in(mem: &[u8], stage: Stage, kind: Kind) -> Sender
-    requires { image_length ≤ length mem.now }
-    ensures { result ≡ sender_in mem.now stage kind }
-{
-    Sender {
-        stage,
-        kind,
-        count: mem[14],
-        at: mem[15],
-        da: mem[10],
-        sa: mem[11],
-        fc: mem[12],
-        sum: mem[13],
+    // The event word.
+    pub fn events(self) -> Events
+        ensures { result ≡ (unpacked self.entry.octets.now).control.events }
+    {
+        Events {
+            word: word_at(self.octets, 4),
+        }
     }
-}
 
-// The first diagnosis octets of the reply.
-fn header_in(mem: &[u8]) -> Header
-    requires { image_length ≤ length mem.now }
-    ensures { result ≡ header_in mem.now }
-{
-    Header {
-        status1: mem[6],
-        status2: mem[7],
-        status3: mem[8],
-        master: mem[9],
+    // Whether a clear is noted.
+    pub fn noted(self) -> bool
+        ensures { result ≡ (unpacked self.entry.octets.now).control.noted }
+    {
+        self.octets[3] / 4 % 2 == 1
     }
-}
 
-// The reply in progress.
-pub fn reply(mem: &[u8]) -> Reply
-    requires { image_length ≤ length mem.now }
-    ensures { result ≡ (unpacked mem.now).reply }
-{
-    Reply {
-        drawn: Drawn::numbered(mem[18]),
-        sender: sender_in(mem, Stage::numbered(mem[17]), Kind::numbered(mem[16])),
-        place: mem[19],
-        header: header_in(mem),
+    // The last request, with which the next is compared.
+    pub fn chain(self) -> Chain
+        ensures { result ≡ (unpacked self.entry.octets.now).control.chain }
+    {
+        Chain {
+            code: self.octets[54],
+            master: self.octets[55],
+        }
     }
-}
 
-// The state that the first octets hold.
-pub fn unpack(mem: &[u8]) -> State
-    requires { image_length ≤ length mem.now }
-    ensures { result ≡ unpacked mem.now }
-{
-    State {
-        setup: setup(mem),
-        control: control(mem),
-        outputs: outputs(mem),
-        inputs: inputs(mem),
-        parameters: parameters(mem),
-        configuration: configuration(mem),
-        swapped: swapped(mem),
-        incoming: incoming(mem),
-        reply: reply(mem),
+    // The control part.
+    pub fn control(self) -> Control
+        ensures { result ≡ (unpacked self.entry.octets.now).control }
+    {
+        let remaining = double_at(self.octets, 44);
+        let reload = double_at(self.octets, 64);
+        Control {
+            phase: Phase::numbered(self.octets[21]),
+            owner: self.octets[0],
+            group: self.octets[1],
+            stored: self.octets[2],
+            watchdog: Watchdog { reload, remaining },
+            flags: flags_in(self.octets[3]),
+            events: self.events(),
+            noted: self.noted(),
+            diagnosis: self.diagnosis(),
+            modes: modes_in(self.octets[27]),
+            chain: self.chain(),
+        }
+    }
+
+    // The set of output buffers.
+    pub fn outputs(self) -> Outputs
+        ensures { result ≡ (unpacked self.entry.octets.now).outputs }
+    {
+        let marks = self.octets[29];
+        let set = Quad::numbered(self.octets[22], marks % 2 == 1, marks / 4 % 2 == 1);
+        Outputs {
+            set,
+            zeros: marks / 2 % 2 == 1,
+        }
+    }
+
+    // The set of input buffers.
+    pub fn inputs(self) -> Triple
+        ensures { result ≡ (unpacked self.entry.octets.now).inputs }
+    {
+        let code = self.octets[23];
+        Triple::numbered(code / 2, code % 2 == 1)
+    }
+
+    // The parameters received.
+    pub fn parameters(self) -> Sets
+        ensures { result ≡ (unpacked self.entry.octets.now).parameters }
+    {
+        sets_in(self.octets, 24, 58)
+    }
+
+    // The configuration received.
+    pub fn configuration(self) -> Sets
+        ensures { result ≡ (unpacked self.entry.octets.now).configuration }
+    {
+        sets_in(self.octets, 25, 60)
+    }
+
+    // Whether the controller's diagnosis buffer is the second.
+    pub fn swapped(self) -> bool
+        ensures { result ≡ (unpacked self.entry.octets.now).swapped }
+    {
+        self.octets[28] == 1
+    }
+
+    // The reader at a phase.
+    fn reader_in(self, phase: reader::Phase, kind: Kind) -> Reader
+        ensures { result ≡ reader_in self.entry.octets.now phase kind }
+    {
+        Reader {
+            phase,
+            kind,
+            count: self.octets[32],
+            at: self.octets[33],
+            da: self.octets[34],
+            sa: self.octets[35],
+            fc: self.octets[36],
+            dsap: self.octets[37],
+            ssap: self.octets[38],
+            sum: self.octets[39],
+        }
+    }
+
+    // The telegram that is coming.
+    pub fn incoming(self) -> Incoming
+        ensures { result ≡ (unpacked self.entry.octets.now).incoming }
+    {
+        Incoming {
+            reader: self.reader_in(reader::Phase::numbered(self.octets[31]), Kind::numbered(self.octets[30])),
+            first: self.octets[40],
+            second: self.octets[41],
+        }
+    }
+
+    // Whether its next octet is data. By the octets as they stand, since most octets are data and nothing else of it is then looked at.
+    pub fn takes_data(self) -> bool
+        ensures { result ≡ takes_data (unpacked self.entry.octets.now).incoming.reader }
+    {
+        (self.octets[31] == reader::Phase::Body.number()) & (self.octets[33] < self.octets[32])
+    }
+
+    // The sender at a stage.
+    fn sender_in(self, stage: Stage, kind: Kind) -> Sender
+        ensures { result ≡ sender_in self.entry.octets.now stage kind }
+    {
+        Sender {
+            stage,
+            kind,
+            count: self.octets[14],
+            at: self.octets[15],
+            da: self.octets[10],
+            sa: self.octets[11],
+            fc: self.octets[12],
+            sum: self.octets[13],
+        }
+    }
+
+    // The first diagnosis octets of the reply.
+    fn header_in(self) -> Header
+        ensures { result ≡ header_in self.entry.octets.now }
+    {
+        Header {
+            status1: self.octets[6],
+            status2: self.octets[7],
+            status3: self.octets[8],
+            master: self.octets[9],
+        }
+    }
+
+    // The reply in progress.
+    pub fn reply(self) -> Reply
+        ensures { result ≡ (unpacked self.entry.octets.now).reply }
+    {
+        Reply {
+            drawn: Drawn::numbered(self.octets[18]),
+            sender: self.sender_in(Stage::numbered(self.octets[17]), Kind::numbered(self.octets[16])),
+            place: self.octets[19],
+            header: self.header_in(),
+        }
+    }
+
+    // The state that the first octets hold.
+    pub fn unpack(self) -> State
+        ensures { result ≡ unpacked self.entry.octets.now }
+    {
+        State {
+            setup: self.setup(),
+            control: self.control(),
+            outputs: self.outputs(),
+            inputs: self.inputs(),
+            parameters: self.parameters(),
+            configuration: self.configuration(),
+            swapped: self.swapped(),
+            incoming: self.incoming(),
+            reply: self.reply(),
+        }
     }
 }

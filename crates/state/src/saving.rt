@@ -1,5 +1,6 @@
 // A part of the state packed alone: its octets are written, and no other. Whatever state stands in front of the memory, afterwards it
 // is that state with the part changed.
+// The functions here ask for the image's length one by one: a type over &mut would need a clause in each that the reference stays the same.
 ghost use Rattle.std.specs.Prelude.{◌≤◌, length};
 ghost use Rattle.state.specs.Layout.{image_length};
 ghost use Rattle.state.specs.Memory.{Changes};

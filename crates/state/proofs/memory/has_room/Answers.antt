@@ -38,43 +38,43 @@ passed : (m : List ℕ) (nothing well : Bool) → nothing ≡ exchanges_nothing 
     → Passed (take 2 (tests m))
 passed m nothing well e f n w = (ap (λ (t : Bool). not (not t)) (sym e ∙ n), (ap not (sym f) ∙ w, tt))
 
-pub returns-then-short_lengths-mem : goal.returns-then-short_lengths-mem
-returns-then-short_lengths-mem c =
-    let m = c.args.mem.now in
+pub returns-then-short_lengths-image : goal.returns-then-short_lengths-image
+returns-then-short_lengths-image c =
+    let m = c.args.image.octets.now in
     let short = c.short_lengths in
     let fits = leb short_end (length m) in
     short_room m
-    (short_lengths_are m (sym short.ensures ∙ and_left short.result fits c.if-short_lengths-mem.true))
-    (leb-true short_end (length m) (and_right short.result fits c.if-short_lengths-mem.true))
+    (short_lengths_are m (sym short.ensures ∙ and_left short.result fits c.if-short_lengths-image.true))
+    (leb-true short_end (length m) (and_right short.result fits c.if-short_lengths-image.true))
 
-pub returns-then-short_inputs-mem : goal.returns-then-short_inputs-mem
-returns-then-short_inputs-mem c =
-    let m = c.args.mem.now in
+pub returns-then-short_inputs-image : goal.returns-then-short_inputs-image
+returns-then-short_inputs-image c =
+    let m = c.args.image.octets.now in
     let short = c.short_inputs in
     let fits = leb short_end (length m) in
     short_room m
-    (short_inputs_are m (sym short.ensures ∙ and_left short.result fits c.if-short_inputs-mem.true))
-    (leb-true short_end (length m) (and_right short.result fits c.if-short_inputs-mem.true))
+    (short_inputs_are m (sym short.ensures ∙ and_left short.result fits c.if-short_inputs-image.true))
+    (leb-true short_end (length m) (and_right short.result fits c.if-short_inputs-image.true))
 
 pub returns-then-exchanges_nothing : goal.returns-then-exchanges_nothing
 returns-then-exchanges_nothing c =
-    let m = c.args.mem.now in
+    let m = c.args.image.octets.now in
     all_fails (tests m) 0 (ap not (sym c.exchanges_nothing.ensures ∙ c.if-exchanges_nothing.true)) ∙ tests_are m
 
 pub returns-then-not-well_lengths : goal.returns-then-not-well_lengths
 returns-then-not-well_lengths c =
-    let m = c.args.mem.now in
+    let m = c.args.image.octets.now in
     all_fails (tests m) 1 (sym c.well_lengths.ensures ∙ c.if-not-well_lengths.true) ∙ tests_are m
 
-pub returns-then-mem-ge-LONG_END : goal.returns-then-mem-ge-LONG_END
-returns-then-mem-ge-LONG_END c =
-    let m = c.args.mem.now in
+pub returns-then-image-ge-LONG_END : goal.returns-then-image-ge-LONG_END
+returns-then-image-ge-LONG_END c =
+    let m = c.args.image.octets.now in
     let p = passed m _ _ c.exchanges_nothing.ensures c.well_lengths.ensures c.if-exchanges_nothing.false (ap not c.if-not-well_lengths.false) in
-    long_room m (lengths_pass m p) c.if-mem-ge-LONG_END.true
+    long_room m (lengths_pass m p) c.if-image-ge-LONG_END.true
 
 pub returns : goal.returns
 returns c =
-    let m = c.args.mem.now in
+    let m = c.args.image.octets.now in
     let p = passed m _ _ c.exchanges_nothing.ensures c.well_lengths.ensures c.if-exchanges_nothing.false (ap not c.if-not-well_lengths.false) in
     ap (λ (n : ℕ). leb n (length m)) (c.end_of.ensures.0 ∙ ap end_of c.setup.ensures)
     ∙ others_decide 2 (tests m) p ∙ tests_are m

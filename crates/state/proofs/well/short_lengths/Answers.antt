@@ -7,4 +7,4 @@ use Rattle.state.proofs.well.short_lengths.Goals as goal
 
 pub returns : goal.returns
 unfolding octets lows
-returns c = c.word_between.ensures ∙ short_word c.args.mem.now (omega arith)
+returns c = c.word_between.ensures ∙ short_word c.args.image.octets.now (omega arith)

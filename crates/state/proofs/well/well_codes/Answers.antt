@@ -8,4 +8,4 @@ use Rattle.state.proofs.well.well_codes.Goals as goal
 
 pub returns : goal.returns
 unfolding octets lows
-returns c = c.two_words_within.ensures ∙ limits_all c.args.mem.now 16 code_limits (omega arith)
+returns c = c.two_words_within.ensures ∙ limits_all c.args.image.octets.now 16 code_limits (omega arith)

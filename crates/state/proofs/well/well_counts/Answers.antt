@@ -14,23 +14,23 @@ use Rattle.state.proofs.well.well_counts.Goals as goal
 counted : (m : List ℕ) → 6 ≤ get_or m 56 0 → get_or m 56 0 ≤ get_or m 52 0 → not (get_or (count_tests m) 0 false) ≡ false
 counted m h k = ap not (within_holds 6 (get_or m 56 0) (get_or m 52 0) (h, k))
 
-pub returns-then-mem-lt6 : goal.returns-then-mem-lt6
-returns-then-mem-lt6 c =
-    let m = c.args.mem.now in
-    all_fails (count_tests m) 0 (within_below 6 (get_or m 56 0) (get_or m 52 0) c.if-mem-lt6.true)
+pub returns-then-image-lt6 : goal.returns-then-image-lt6
+returns-then-image-lt6 c =
+    let m = c.args.image.octets.now in
+    all_fails (count_tests m) 0 (within_below 6 (get_or m 56 0) (get_or m 52 0) c.if-image-lt6.true)
 
-pub returns-then-mem : goal.returns-then-mem
-returns-then-mem c =
-    let m = c.args.mem.now in
-    all_fails (count_tests m) 0 (within_above 6 (get_or m 56 0) (get_or m 52 0) c.if-mem-lt6.false c.if-mem.true)
+pub returns-then-image : goal.returns-then-image
+returns-then-image c =
+    let m = c.args.image.octets.now in
+    all_fails (count_tests m) 0 (within_above 6 (get_or m 56 0) (get_or m 52 0) c.if-image-lt6.false c.if-image.true)
 
 pub returns-then-nothing_behind : goal.returns-then-nothing_behind
 returns-then-nothing_behind c =
-    let m = c.args.mem.now in
+    let m = c.args.image.octets.now in
     let none = sym (limits_all m 57 (replicate 7 0) (omega arith)) ∙ sym c.nothing_behind.ensures ∙ c.if-nothing_behind.true in
-    sym (nothing_open m none) ∙ others_decide 1 (count_tests m) (counted m c.if-mem-lt6.false c.if-mem.false, tt)
+    sym (nothing_open m none) ∙ others_decide 1 (count_tests m) (counted m c.if-image-lt6.false c.if-image.false, tt)
 
 pub returns : goal.returns
 returns c =
-    let m = c.args.mem.now in
-    c.well_sets.ensures ∙ others_decide 1 (count_tests m) (counted m c.if-mem-lt6.false c.if-mem.false, tt)
+    let m = c.args.image.octets.now in
+    c.well_sets.ensures ∙ others_decide 1 (count_tests m) (counted m c.if-image-lt6.false c.if-image.false, tt)

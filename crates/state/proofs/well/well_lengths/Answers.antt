@@ -15,23 +15,23 @@ use Rattle.state.proofs.well.well_lengths.Goals as goal
 abbrev tests : List ℕ → List Bool
 tests m = (leb (get_or m 54 0) 17 && leb (get_or m 55 0) 127) ∷ range_tests (setup_in m 0)
 
-pub returns-then-not-mem : goal.returns-then-not-mem
-returns-then-not-mem c = all_fails (tests c.args.mem.now) 0 (c.if-not-mem.true)
+pub returns-then-not-image : goal.returns-then-not-image
+returns-then-not-image c = all_fails (tests c.args.image.octets.now) 0 (c.if-not-image.true)
 
-pub returns-then-not-mem-2 : goal.returns-then-not-mem-2
-returns-then-not-mem-2 c = all_fails (tests c.args.mem.now) 1 (lt-leb _ _ c.if-not-mem-2.true)
+pub returns-then-not-image-2 : goal.returns-then-not-image-2
+returns-then-not-image-2 c = all_fails (tests c.args.image.octets.now) 1 (lt-leb _ _ c.if-not-image-2.true)
 
-pub returns-then-not-mem-3 : goal.returns-then-not-mem-3
-returns-then-not-mem-3 c = all_fails (tests c.args.mem.now) 2 (lt-leb _ _ c.if-not-mem-3.true)
+pub returns-then-not-image-3 : goal.returns-then-not-image-3
+returns-then-not-image-3 c = all_fails (tests c.args.image.octets.now) 2 (lt-leb _ _ c.if-not-image-3.true)
 
 pub returns-then-not-within : goal.returns-then-not-within
-returns-then-not-within c = all_fails (tests c.args.mem.now) 3 (sym c.within.ensures ∙ c.if-not-within.true)
+returns-then-not-within c = all_fails (tests c.args.image.octets.now) 3 (sym c.within.ensures ∙ c.if-not-within.true)
 
 pub returns-then-not-within-2 : goal.returns-then-not-within-2
-returns-then-not-within-2 c = all_fails (tests c.args.mem.now) 4 (sym c.within-2.ensures ∙ c.if-not-within-2.true)
+returns-then-not-within-2 c = all_fails (tests c.args.image.octets.now) 4 (sym c.within-2.ensures ∙ c.if-not-within-2.true)
 
 pub returns-then-not-within-3 : goal.returns-then-not-within-3
-returns-then-not-within-3 c = all_fails (tests c.args.mem.now) 5 (sym c.within-3.ensures ∙ c.if-not-within-3.true)
+returns-then-not-within-3 c = all_fails (tests c.args.image.octets.now) 5 (sym c.within-3.ensures ∙ c.if-not-within-3.true)
 
 pub returns : goal.returns
 returns c =
@@ -39,5 +39,5 @@ returns c =
     let p₅ = ap not (sym c.within-2.ensures ∙ c.if-not-within-2.false) in
     let p₆ = ap not (sym c.within-3.ensures ∙ c.if-not-within-3.false) in
     c.within-4.ensures
-    ∙ others_decide 6 (tests c.args.mem.now)
-    (ap not c.if-not-mem.false, (ap not (le-leb _ _ c.if-not-mem-2.false), (ap not (le-leb _ _ c.if-not-mem-3.false), (p₄, (p₅, (p₆, tt))))))
+    ∙ others_decide 6 (tests c.args.image.octets.now)
+    (ap not c.if-not-image.false, (ap not (le-leb _ _ c.if-not-image-2.false), (ap not (le-leb _ _ c.if-not-image-3.false), (p₄, (p₅, (p₆, tt))))))

@@ -6,17 +6,17 @@ use Rattle.state.specs.Well.{line_tests}
 use Rattle.state.proofs.Tests.{all_fails, others_decide}
 use Rattle.state.proofs.well.well_line.Goals as goal
 
-pub returns-then-not-mem : goal.returns-then-not-mem
-returns-then-not-mem c = all_fails (line_tests c.args.mem.now) 0 (lt-leb _ _ c.if-not-mem.true)
+pub returns-then-not-image : goal.returns-then-not-image
+returns-then-not-image c = all_fails (line_tests c.args.image.octets.now) 0 (lt-leb _ _ c.if-not-image.true)
 
 pub returns-then-not-part_done : goal.returns-then-not-part_done
-returns-then-not-part_done c = all_fails (line_tests c.args.mem.now) 1 (sym c.part_done.ensures ∙ c.if-not-part_done.true)
+returns-then-not-part_done c = all_fails (line_tests c.args.image.octets.now) 1 (sym c.part_done.ensures ∙ c.if-not-part_done.true)
 
-pub returns-then-not-mem-2 : goal.returns-then-not-mem-2
-returns-then-not-mem-2 c = all_fails (line_tests c.args.mem.now) 2 (lt-leb _ _ c.if-not-mem-2.true)
+pub returns-then-not-image-2 : goal.returns-then-not-image-2
+returns-then-not-image-2 c = all_fails (line_tests c.args.image.octets.now) 2 (lt-leb _ _ c.if-not-image-2.true)
 
 pub returns : goal.returns
 returns c =
     let p₂ = ap not (sym c.part_done.ensures ∙ c.if-not-part_done.false) in
     c.part_done-2.ensures
-    ∙ others_decide 3 (line_tests c.args.mem.now) (ap not (le-leb _ _ c.if-not-mem.false), (p₂, (ap not (le-leb _ _ c.if-not-mem-2.false), tt)))
+    ∙ others_decide 3 (line_tests c.args.image.octets.now) (ap not (le-leb _ _ c.if-not-image.false), (p₂, (ap not (le-leb _ _ c.if-not-image-2.false), tt)))

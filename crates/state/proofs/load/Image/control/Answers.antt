@@ -1,12 +1,12 @@
--- `state::load::control` meets its contract.
+-- `state::load::Image::control` meets its contract.
 use lib.ListN.{get_or}
 use Rattle.state.specs.Unpack.{unpacked}
-use Rattle.state.proofs.load.control.Goals as goal
+use Rattle.state.proofs.load.Image.control.Goals as goal
 
 pub returns : goal.returns
 unfolding unpacked
 returns c =
-    let m = c.args.mem.now in
+    let m = c.args.self.octets.now in
     λ i.
     record {
       phase = c.numbered.ensures i;

@@ -1,8 +1,8 @@
--- `state::load::events` meets its contract.
+-- `state::load::Image::events` meets its contract.
 use Prim.Native.Nat.{ℕ}
 use mathlib.Core.Path.{ap}
 use Rattle.state.specs.Unpack.{unpacked}
-use Rattle.state.proofs.load.events.Goals as goal
+use Rattle.state.proofs.load.Image.events.Goals as goal
 
 pub returns : goal.returns
 unfolding unpacked
