@@ -1,5 +1,7 @@
 // A channel by value, and its place in the state part: one octet in each of four rows of sixteen.
-ghost use Rattle.std.specs.Prelude.{◌≡◌, ◌<◌, ◌≤◌, length};
+#![tactic(auto, unfolding(crate::specs::Image::loaded, crate::specs::Image::saved))]
+
+ghost use Rattle.std.specs.Prelude.{ℕ, ◌≡◌, ◌<◌, ◌≤◌, length, slice_index_or};
 ghost use Rattle.channels.specs.Image.{channels, rows_end, loaded, saved};
 
 // The lengths of both buffers, 0 and 0 for a channel that is not set up, and how many octets of each are in use, 0 for none.
@@ -27,16 +29,26 @@ pub const INDICATION_COUNTS: usize = CHANNELS_AT + 2 * CHANNELS;
 
 pub const RESPONSE_COUNTS: usize = CHANNELS_AT + 3 * CHANNELS;
 
-// Channel n.
-pub fn load(mem: &[u8], n: usize) -> Channel
-    requires { (n < channels) × (rows_end ≤ length mem.now) }
-    ensures { result ≡ loaded mem.now n }
-{
-    Channel {
-        indication_len: mem[INDICATION_LENGTHS + n],
-        response_len: mem[RESPONSE_LENGTHS + n],
-        indication_count: mem[INDICATION_COUNTS + n],
-        response_count: mem[RESPONSE_COUNTS + n],
+// A memory that has the rows, to read. small: of a slice in a struct the checker does not know that its octets are below 256.
+#[derive(Clone, Copy)]
+pub struct Rows<'a> {
+    pub octets: &'a [u8],
+    pub ghost whole: { rows_end ≤ length octets.now },
+    pub ghost small: { (i : ℕ) → slice_index_or octets.now i 0 < 256 },
+}
+
+impl<'a> Rows<'a> {
+    // Channel n.
+    pub fn load(self, n: usize) -> Channel
+        requires { n < channels }
+        ensures { result ≡ loaded self.entry.octets.now n }
+    {
+        Channel {
+            indication_len: self.octets[INDICATION_LENGTHS + n],
+            response_len: self.octets[RESPONSE_LENGTHS + n],
+            indication_count: self.octets[INDICATION_COUNTS + n],
+            response_count: self.octets[RESPONSE_COUNTS + n],
+        }
     }
 }
 

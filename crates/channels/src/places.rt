@@ -1,37 +1,37 @@
 // Where the buffers of channel n lie: behind those of the channels before it. The sum is made where it is needed; nothing of it is kept.
-ghost use Rattle.std.specs.Prelude.{◌≡◌, ◌<◌, ◌≤◌, length};
-ghost use Rattle.channels.specs.Image.{channels, rows_end};
+ghost use Rattle.std.specs.Prelude.{◌≡◌, ◌<◌, ◌≤◌};
+ghost use Rattle.channels.specs.Image.{channels};
 ghost use Rattle.channels.specs.Places.{indication, response, lengths_in, room_from, buffer_at};
 
-use crate::channel::load;
+use crate::channel::Rows;
 use octets::rounded_up;
 
 // How much room the buffers of the channels before channel n take.
-fn room_before(mem: &[u8], n: usize) -> usize
-    requires { (n < channels) × (rows_end ≤ length mem.now) }
-    ensures { (result ≡ room_from (lengths_in mem.now) 0 n) × (result ≤ 8192) }
+fn room_before(rows: Rows, n: usize) -> usize
+    requires { n < channels }
+    ensures { (result ≡ room_from (lengths_in rows.entry.octets.now) 0 n) × (result ≤ 8192) }
 {
     let mut room = 0;
     for k in 0..n {
-        let c = load(mem, k);
+        let c = rows.load(k);
         room += rounded_up(c.indication_len) + rounded_up(c.response_len);
     }
     room
 }
 
 // Where its indication begins. from: where the first channel's buffers begin.
-pub fn indication_at(mem: &[u8], from: usize, n: usize) -> usize
-    requires { (n < channels) × (rows_end ≤ length mem.now) × (from ≤ 65536) }
-    ensures { (result ≡ buffer_at (lengths_in mem.now) from n indication) × (result ≤ 73728) }
+pub fn indication_at(rows: Rows, from: usize, n: usize) -> usize
+    requires { (n < channels) × (from ≤ 65536) }
+    ensures { (result ≡ buffer_at (lengths_in rows.entry.octets.now) from n indication) × (result ≤ 73728) }
 {
-    from + room_before(mem, n)
+    from + room_before(rows, n)
 }
 
 // Where its response begins.
-pub fn response_at(mem: &[u8], from: usize, n: usize) -> usize
-    requires { (n < channels) × (rows_end ≤ length mem.now) × (from ≤ 65536) }
-    ensures { result ≡ buffer_at (lengths_in mem.now) from n response }
+pub fn response_at(rows: Rows, from: usize, n: usize) -> usize
+    requires { (n < channels) × (from ≤ 65536) }
+    ensures { result ≡ buffer_at (lengths_in rows.entry.octets.now) from n response }
 {
-    let c = load(mem, n);
-    indication_at(mem, from, n) + rounded_up(c.indication_len)
+    let c = rows.load(n);
+    indication_at(rows, from, n) + rounded_up(c.indication_len)
 }

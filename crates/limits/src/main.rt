@@ -9,11 +9,11 @@ use buffers::events::Events;
 use buffers::quad::Quad;
 use buffers::triple::Triple;
 use channels::channel;
-use channels::channel::Channel;
+use channels::channel::{Channel, Rows};
 use state::chain::Chain;
 use state::control::{Control, Diagnosis, Flags, Modes, Phase, Watchdog};
 use state::image::save;
-use state::load::unpack;
+use state::load::Image;
 use state::memory::holds_state;
 use state::setup::Setup;
 use state::state::{Drawn, Header, Incoming, Outputs, Reply, Sets, State};
@@ -207,11 +207,8 @@ fn print_front(rt: &impl Print, mem: &[u8; 512]) -> io::Result<()> {
 fn through(rt: &impl Print, s: State, c: Channel) -> io::Result<()> {
     let mem = saved(s, c, c);
     print_front(rt, &mem)?;
-    let again = saved(
-        unpack(&mem),
-        channel::load(&mem, 0),
-        channel::load(&mem, 15),
-    );
+    let rows = Rows { octets: &mem };
+    let again = saved(Image { octets: &mem }.unpack(), rows.load(0), rows.load(15));
     print_front(rt, &again)
 }
 

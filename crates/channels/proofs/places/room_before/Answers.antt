@@ -15,7 +15,7 @@ loop-k-init c = (refl, omega arith)
 pub loop-k-preserved : goal.loop-k-preserved
 unfolding loaded
 loop-k-preserved c =
-    let m = c.args.mem.now in
+    let m = c.args.rows.octets.now in
     let e = c.load-c.ensures in
     let u = c.rounded_up.ensures in
     let v = c.rounded_up-in-loop-k.ensures in (

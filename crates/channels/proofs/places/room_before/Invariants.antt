@@ -5,4 +5,4 @@ use Rattle.channels.specs.Places.{lengths_in, room_from}
 use Rattle.channels.proofs.places.room_before.Given as goal
 
 abbrev pub invariant-loop-k : goal.invariant-loop-k
-invariant-loop-k l = (l.room ≡ room_from (lengths_in l.mem) 0 l.k) × (l.room ≤ 512 * l.k)
+invariant-loop-k l = (l.room ≡ room_from (lengths_in l.rows.octets.now) 0 l.k) × (l.room ≤ 512 * l.k)

@@ -11,4 +11,4 @@ unfolding surveyed
 returns-then-all_broken-ne0 c = says_none _ _ (sym c.all_broken.ensures ∙ ne_eqb _ 0 c.if-all_broken-ne0.true)
 
 pub returns : goal.returns
-returns c = found_says c.args.mem.now 0 channels _ (sym c.all_broken.ensures ∙ eq-eqb _ 0 c.if-all_broken-ne0.false, c.all_eighths.ensures.0)
+returns c = found_says c.args.rows.octets.now 0 channels _ (sym c.all_broken.ensures ∙ eq-eqb _ 0 c.if-all_broken-ne0.false, c.all_eighths.ensures.0)

@@ -9,4 +9,4 @@ returns c =
     let x2 = c.broken_at-2 in
     let x3 = c.broken_at-3 in
     let x4 = c.broken_at-4 in
-    groups_keep (well_at c.args.mem.now) x.result x2.result x3.result x4.result x.ensures x2.ensures x3.ensures x4.ensures
+    groups_keep (well_at c.args.rows.octets.now) x.result x2.result x3.result x4.result x.ensures x2.ensures x3.ensures x4.ensures

@@ -12,11 +12,11 @@ use Rattle.channels.proofs.survey.broken_at.Goals as goal
 
 pub returns : goal.returns
 returns c =
-    let m = c.args.mem.now in
+    let m = c.args.rows.octets.now in
     let k = c.args.k in
-    let near : k + 4 ≤ channels = c.requires.0 in
-    let long : rows_end ≤ length m = c.requires.1 in
-    let small : (i : ℕ) → get_or m i 0 < 256 = λ i. (c.type_inv.mem i).fits in
+    let near : k + 4 ≤ channels = c.requires in
+    let long : rows_end ≤ length m = c.args.rows.whole in
+    let small : (i : ℕ) → get_or m i 0 < 256 = c.args.rows.small in
     let row0 = ap (octets 4) c.half.ensures ∙ octets_part m small 4 (128 + k) (omega arith) in
     let row1 = ap (octets 4) c.half-2.ensures ∙ octets_part m small 4 (144 + k) (omega arith) in
     let row2 = ap (octets 4) c.half-3.ensures ∙ octets_part m small 4 (160 + k) (omega arith) in

@@ -11,26 +11,26 @@ use Rattle.channels.proofs.survey.eighths_at.Goals as goal
 
 pub eighths-indications-requires : goal.eighths-indications-requires
 eighths-indications-requires c =
-    let m = c.args.mem.now in
+    let m = c.args.rows.octets.now in
     let k = c.args.k in
     let near : k + 4 ≤ channels = c.requires.0 in
-    let long : rows_end ≤ length m = c.requires.1 in
-    let small : (i : ℕ) → get_or m i 0 < 256 = λ i. (c.type_inv.mem i).fits in
+    let long : rows_end ≤ length m = c.args.rows.whole in
+    let small : (i : ℕ) → get_or m i 0 < 256 = c.args.rows.small in
     ap (λ l. at_most l (replicate 4 248)) (ap (octets 4) c.half.ensures ∙ octets_part m small 4 (128 + k) (omega arith))
-    ∙ rows_short m long 0 k 4 (omega arith) near c.requires.2
+    ∙ rows_short m long 0 k 4 (omega arith) near c.requires.1
 
 pub eighths-responses-requires : goal.eighths-responses-requires
 eighths-responses-requires c =
-    let m = c.args.mem.now in
+    let m = c.args.rows.octets.now in
     let k = c.args.k in
     let near : k + 4 ≤ channels = c.requires.0 in
-    let long : rows_end ≤ length m = c.requires.1 in
-    let small : (i : ℕ) → get_or m i 0 < 256 = λ i. (c.type_inv.mem i).fits in
+    let long : rows_end ≤ length m = c.args.rows.whole in
+    let small : (i : ℕ) → get_or m i 0 < 256 = c.args.rows.small in
     ap (λ l. at_most l (replicate 4 248)) (ap (octets 4) c.half-2.ensures ∙ octets_part m small 4 (144 + k) (omega arith))
-    ∙ rows_short m long 1 k 4 (omega arith) near c.requires.2
+    ∙ rows_short m long 1 k 4 (omega arith) near c.requires.1
 
 pub returns : goal.returns
-returns c = eighths_room c.args.mem.now c.requires.1 (λ i. (c.type_inv.mem i).fits) c.args.k _ _ _ _ _ c.requires.0
+returns c = eighths_room c.args.rows.octets.now c.args.rows.whole c.args.rows.small c.args.k _ _ _ _ _ c.requires.0
     c.half.ensures
     c.half-2.ensures
     c.eighths-indications.ensures.0

@@ -10,4 +10,4 @@ unfolding surveyed
 returns-then-broken_at-ne0 c = says_none _ _ (sym c.broken_at.ensures ∙ ne_eqb _ 0 c.if-broken_at-ne0.true)
 
 pub returns : goal.returns
-returns c = found_says c.args.mem.now 0 4 _ (sym c.broken_at.ensures ∙ eq-eqb _ 0 c.if-broken_at-ne0.false, c.eighths_at.ensures.0)
+returns c = found_says c.args.rows.octets.now 0 4 _ (sym c.broken_at.ensures ∙ eq-eqb _ 0 c.if-broken_at-ne0.false, c.eighths_at.ensures.0)
