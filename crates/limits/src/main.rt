@@ -2,7 +2,7 @@
 // and less room, is damaged or not.
 #![tactic(auto)]
 
-ghost use Rattle.std.specs.Prelude.{◌≤◌};
+ghost use Rattle.std.specs.Prelude.{◌≤◌, length};
 ghost use Rattle.channels.specs.Image.{rows_end};
 
 use buffers::events::Events;
@@ -203,13 +203,19 @@ fn print_front(rt: &impl Print, mem: &[u8; 512]) -> io::Result<()> {
     println!(rt; "{}", Hex(&mem[..192]))
 }
 
+// What a memory holds, saved in another.
+fn saved_again(mem: &[u8]) -> [u8; 512]
+    requires { rows_end ≤ length mem.now }
+{
+    let rows = Rows { octets: mem };
+    saved(Image { octets: mem }.unpack(), rows.load(0), rows.load(15))
+}
+
 // Saved, with the first and the last channel so, loaded, and what was loaded saved again.
 fn through(rt: &impl Print, s: State, c: Channel) -> io::Result<()> {
     let mem = saved(s, c, c);
     print_front(rt, &mem)?;
-    let rows = Rows { octets: &mem };
-    let again = saved(Image { octets: &mem }.unpack(), rows.load(0), rows.load(15));
-    print_front(rt, &again)
+    print_front(rt, &saved_again(&mem))
 }
 
 // Whether a memory holds a state.
