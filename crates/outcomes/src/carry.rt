@@ -1,4 +1,5 @@
 // An outcome of the rules carried out on the state and the buffers, and what waits for the end of the line's business.
+// Safe is asked in each function here: a type over &mut would need a clause in each that the reference stays the same.
 #![tactic(auto, using(crate::proofs::NextRoom::next_room, steps::proofs::NothingWaits::unsettled), unfolding(steps::specs::Outcome::carried, steps::specs::Outcome::after_reply, steps::specs::Outcome::settle))]
 
 ghost use Rattle.std.specs.Prelude.{◌+◌, ◌≤◌, ◌≡◌, length, replicate};

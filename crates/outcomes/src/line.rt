@@ -1,7 +1,6 @@
 // The line as the state has it: what is busy, and what waits for its end.
-ghost use Rattle.std.specs.Prelude.{◌≤◌, ◌&&◌, ◌||◌, ◌≡◌, length};
+ghost use Rattle.std.specs.Prelude.{◌&&◌, ◌||◌, ◌≡◌};
 ghost use Rattle.telegram.specs.Sending.{left};
-ghost use Rattle.state.specs.Layout.{image_length};
 ghost use Rattle.state.specs.Unpack.{unpacked};
 ghost use Rattle.rules.specs.Diagnosis.{delayed};
 ghost use Rattle.rules.specs.Replies.{diagnoses};
@@ -9,7 +8,7 @@ ghost use Rattle.steps.specs.Line.{is_inside, begun, busy, diagnosis_leaves};
 
 use rules::diagnosis::is_delayed;
 use rules::replies::is_diagnosis;
-use state::load;
+use state::load::Image;
 use state::state::{Reply, State};
 use telegram::reader::Status;
 
@@ -34,11 +33,10 @@ pub fn busy(s: State) -> bool
 }
 
 // The same over the memory: by a function on both parts, which busy could share, a send takes 4 instructions more while a clear waits.
-pub fn busy_in(mem: &[u8]) -> bool
-    requires { image_length ≤ length mem.now }
-    ensures { result ≡ busy (unpacked mem.now) }
+pub fn busy_in(image: Image) -> bool
+    ensures { result ≡ busy (unpacked image.entry.octets.now) }
 {
-    is_inside(load::incoming(mem).reader.status()) | load::reply(mem).sender.left()
+    is_inside(image.incoming().reader.status()) | image.reply().sender.left()
 }
 
 // A Slave_Diag reply is unfinished.
@@ -56,17 +54,15 @@ pub fn diagnosis_leaves(s: State) -> bool
 }
 
 // and over the memory.
-pub fn diagnosis_leaves_in(mem: &[u8]) -> bool
-    requires { image_length ≤ length mem.now }
-    ensures { result ≡ diagnosis_leaves (unpacked mem.now) }
+pub fn diagnosis_leaves_in(image: Image) -> bool
+    ensures { result ≡ diagnosis_leaves (unpacked image.entry.octets.now) }
 {
-    sends_diagnosis(load::reply(mem))
+    sends_diagnosis(image.reply())
 }
 
 // Whether a diagnosis is delayed or a clear noted.
-pub fn waits(mem: &[u8]) -> bool
-    requires { image_length ≤ length mem.now }
-    ensures { result ≡ delayed (unpacked mem.now).control || (unpacked mem.now).control.noted }
+pub fn waits(image: Image) -> bool
+    ensures { result ≡ delayed (unpacked image.entry.octets.now).control || (unpacked image.entry.octets.now).control.noted }
 {
-    is_delayed(load::diagnosis(mem)) | load::noted(mem)
+    is_delayed(image.diagnosis()) | image.noted()
 }

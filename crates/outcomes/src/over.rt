@@ -1,4 +1,5 @@
 // An outcome of the rules carried out over the memory that holds the state: a set that the rules keep is not written.
+// What a memory has to hold is asked in each function here: a type over &mut would need a clause in each that the reference stays the same.
 ghost use Rattle.std.specs.Prelude.{◌≤◌, ◌≡◌, length};
 ghost use Rattle.state.specs.declared.state.State.{State};
 ghost use Rattle.state.specs.Layout.{image_length};
@@ -12,7 +13,7 @@ ghost use Rattle.steps.specs.Outcome.{on_outputs, on_inputs, on_sets, on_memory,
 
 use crate::carry::{clear_next, on_inputs, on_outputs, on_sets};
 use rules::outcome::{InputsDeed, Outcome, OutputsDeed, SetDeed};
-use state::load;
+use state::load::Image;
 use state::saving::{save_configuration, save_control, save_inputs, save_outputs, save_parameters};
 
 // The buffers, where the deed asks for it.
@@ -22,7 +23,8 @@ fn carry_buffers(deed: OutputsDeed, mem: &mut [u8])
     ensures { mem.new ≡ on_memory deed (unpacked mem.old) mem.old }
 {
     if deed == OutputsDeed::Zeros {
-        clear_next(load::setup(&mem[..]), load::outputs(&mem[..]), mem);
+        let image = Image { octets: &mem[..] };
+        clear_next(image.setup(), image.outputs(), mem);
     }
 }
 
@@ -32,7 +34,8 @@ fn put_outputs(deed: OutputsDeed, mem: &mut [u8])
     ensures { (s : State) → s.outputs ≡ (unpacked mem.old).outputs → mem.old ≡ kept s mem.old → mem.new ≡ kept (with_outputs s (on_outputs deed s.outputs)) mem.old }
 {
     if deed != OutputsDeed::Keep {
-        save_outputs(on_outputs(deed, load::outputs(&mem[..])), mem);
+        let outputs = Image { octets: &mem[..] }.outputs();
+        save_outputs(on_outputs(deed, outputs), mem);
     }
 }
 
@@ -42,7 +45,8 @@ fn put_inputs(deed: InputsDeed, mem: &mut [u8])
     ensures { (s : State) → s.inputs ≡ (unpacked mem.old).inputs → mem.old ≡ kept s mem.old → mem.new ≡ kept (with_inputs s (on_inputs deed s.inputs)) mem.old }
 {
     if deed != InputsDeed::Keep {
-        save_inputs(on_inputs(deed, load::inputs(&mem[..])), mem);
+        let inputs = Image { octets: &mem[..] }.inputs();
+        save_inputs(on_inputs(deed, inputs), mem);
     }
 }
 
@@ -52,7 +56,8 @@ fn put_parameters(deed: SetDeed, count: u8, mem: &mut [u8])
     ensures { (s : State) → s.parameters ≡ (unpacked mem.old).parameters → mem.old ≡ kept s mem.old → mem.new ≡ kept (with_parameters s (on_sets deed s.parameters count)) mem.old }
 {
     if deed != SetDeed::Keep {
-        save_parameters(on_sets(deed, load::parameters(&mem[..]), count), mem);
+        let parameters = Image { octets: &mem[..] }.parameters();
+        save_parameters(on_sets(deed, parameters, count), mem);
     }
 }
 
@@ -62,7 +67,8 @@ fn put_configuration(deed: SetDeed, count: u8, mem: &mut [u8])
     ensures { (s : State) → s.configuration ≡ (unpacked mem.old).configuration → mem.old ≡ kept s mem.old → mem.new ≡ kept (with_configuration s (on_sets deed s.configuration count)) mem.old }
 {
     if deed != SetDeed::Keep {
-        save_configuration(on_sets(deed, load::configuration(&mem[..]), count), mem);
+        let configuration = Image { octets: &mem[..] }.configuration();
+        save_configuration(on_sets(deed, configuration, count), mem);
     }
 }
 

@@ -1,4 +1,5 @@
 // What waits for the end of the line's business, over the memory that holds the state: nothing is written where nothing comes of it.
+// What a memory has to hold is asked in each function here: a type over &mut would need a clause in each that the reference stays the same.
 #![tactic(auto, using(state::proofs::Damage::fronted_same, steps::proofs::NothingWaits::idle), unfolding(steps::specs::Outcome::carried, steps::specs::Outcome::after_reply, rules::specs::Phases::wait_prm, rules::specs::Diagnosis::diagnosed))]
 
 ghost use Rattle.std.specs.Prelude.{◌≤◌, ◌≡◌, length};
@@ -17,7 +18,7 @@ use crate::over::carry_over;
 use rules::diagnosis::{caught_up, is_delayed};
 use rules::line::clearing;
 use state::control::Control;
-use state::load;
+use state::load::Image;
 use state::saving::{save_control, save_swapped};
 
 // The two diagnosis buffers change, with that control part but for its chain.
@@ -25,7 +26,7 @@ pub fn change_diagnosis(mem: &mut [u8], control: Control)
     requires { image_length ≤ length mem.old }
     ensures { (s : State) → unpacked mem.old ≡ s → mem.old ≡ kept s mem.old → mem.new ≡ kept (diagnosis_changed s (with_chain control s.control.chain)) mem.old }
 {
-    let swapped = load::swapped(&mem[..]);
+    let swapped = Image { octets: &mem[..] }.swapped();
     save_control(control, mem);
     save_swapped(!swapped, mem);
 }
@@ -35,9 +36,10 @@ fn catch_up(mem: &mut [u8])
     requires { Holds mem.old (unpacked mem.old) }
     ensures { mem.new ≡ kept (after_reply (unpacked mem.old)) mem.old }
 {
-    let delayed = is_delayed(load::diagnosis(&mem[..]));
-    if delayed & !diagnosis_leaves_in(&mem[..]) {
-        change_diagnosis(mem, caught_up(load::control(&mem[..])));
+    let image = Image { octets: &mem[..] };
+    if is_delayed(image.diagnosis()) & !diagnosis_leaves_in(image) {
+        let control = caught_up(image.control());
+        change_diagnosis(mem, control);
     }
 }
 
@@ -46,9 +48,10 @@ fn clear_noted_in(mem: &mut [u8])
     requires { Holds mem.old (unpacked mem.old) }
     ensures { mem.new ≡ packed_after (carried (unpacked mem.old) mem.old (clear_noted (busy (unpacked mem.old)) (unpacked mem.old).control) 0) }
 {
-    let noted = load::noted(&mem[..]);
-    if noted & !busy_in(&mem[..]) {
-        carry_over(mem, clearing(load::control(&mem[..])), 0);
+    let image = Image { octets: &mem[..] };
+    if image.noted() & !busy_in(image) {
+        let control = clearing(image.control());
+        carry_over(mem, control, 0);
     }
 }
 
@@ -66,7 +69,7 @@ pub fn settle_over(mem: &mut [u8])
     requires { Holds mem.old (unpacked mem.old) }
     ensures { mem.new ≡ packed_after (settle (unpacked mem.old) mem.old) }
 {
-    if waits(&mem[..]) {
+    if waits(Image { octets: &mem[..] }) {
         settle_waiting(mem);
     }
 }
