@@ -40,7 +40,10 @@ pub fn flags(f: Flags, noted: bool) -> u8
 pub fn modes(m: Modes) -> u8
     ensures { result ≡ modes_of m }
 {
-    u8::from(m.sync) + 2 * u8::from(m.freeze) + 4 * u8::from(m.sync_allowed) + 8 * u8::from(m.freeze_allowed)
+    u8::from(m.sync)
+        + 2 * u8::from(m.freeze)
+        + 4 * u8::from(m.sync_allowed)
+        + 8 * u8::from(m.freeze_allowed)
 }
 
 // The marks of the output set in one octet: whether it is new, whether it is zeros by the station, whether something is held back.

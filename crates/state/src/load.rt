@@ -228,7 +228,10 @@ impl<'a> Image<'a> {
         ensures { result ≡ (unpacked self.entry.octets.now).incoming }
     {
         Incoming {
-            reader: self.reader_in(reader::Phase::numbered(self.octets[31]), Kind::numbered(self.octets[30])),
+            reader: self.reader_in(
+                reader::Phase::numbered(self.octets[31]),
+                Kind::numbered(self.octets[30]),
+            ),
             first: self.octets[40],
             second: self.octets[41],
         }
@@ -275,7 +278,10 @@ impl<'a> Image<'a> {
     {
         Reply {
             drawn: Drawn::numbered(self.octets[18]),
-            sender: self.sender_in(Stage::numbered(self.octets[17]), Kind::numbered(self.octets[16])),
+            sender: self.sender_in(
+                Stage::numbered(self.octets[17]),
+                Kind::numbered(self.octets[16]),
+            ),
             place: self.octets[19],
             header: self.header_in(),
         }

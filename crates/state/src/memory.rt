@@ -3,7 +3,7 @@ ghost use Rattle.std.specs.Prelude.{◌≡◌, ◌&&◌, ◌≤◌, leb, length}
 ghost use Rattle.state.specs.Layout.{state_length, end_of, last_end};
 ghost use Rattle.channels.specs.Rules.{well_channels};
 ghost use Rattle.channels.specs.Places.{lengths_in};
-ghost use Rattle.state.specs.Memory.{holds_state};
+ghost use Rattle.state.specs.Memory.{holds_state, Holds};
 ghost use Rattle.state.specs.Unpack.{unpacked};
 ghost use Rattle.state.specs.Well.{all, lengths_tests};
 
@@ -91,4 +91,11 @@ pub fn holds_state(mem: &[u8]) -> bool
         return has_room(image);
     }
     has_room_for_channels(mem)
+}
+
+// The image in front of a memory that holds a state.
+#[derive(Clone, Copy)]
+pub struct Held<'a> {
+    pub image: Image<'a>,
+    pub ghost holds: { ∥ Holds image.octets.now (unpacked image.octets.now) ∥₁ },
 }

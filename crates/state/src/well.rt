@@ -102,14 +102,24 @@ pub fn well_counts(image: Image) -> bool
 pub fn well_codes(image: Image) -> bool
     ensures { result ≡ all (code_tests image.entry.octets.now) }
 {
-    checks::two_words_within(image.octets, 16, 0x0b17_027e_0308_0a03, 0x0c03_0701_0f07_0505)
+    checks::two_words_within(
+        image.octets,
+        16,
+        0x0b17_027e_0308_0a03,
+        0x0c03_0701_0f07_0505,
+    )
 }
 
 // The lengths of a station with outputs, where all of them are short, and the chain, which shares their word.
 pub fn short_lengths(image: Image) -> bool
     ensures { result ≡ all (short_tests image.entry.octets.now) }
 {
-    checks::word_between(image.octets, 48, 0x0000_0106_0107_0001, 0x7f11_4040_4040_4040)
+    checks::word_between(
+        image.octets,
+        48,
+        0x0000_0106_0107_0001,
+        0x7f11_4040_4040_4040,
+    )
 }
 
 // The same of a station without outputs. Its word begins behind their length: of a word that is tested twice the compiler would keep a
@@ -120,7 +130,12 @@ pub fn short_inputs(image: Image) -> bool
     if image.octets[48] != 0 {
         return false;
     }
-    checks::word_between(image.octets, 49, 0x0000_0001_0601_0701, 0x7f7f_1140_4040_4040)
+    checks::word_between(
+        image.octets,
+        49,
+        0x0000_0001_0601_0701,
+        0x7f7f_1140_4040_4040,
+    )
 }
 
 // Neither outputs nor inputs.
