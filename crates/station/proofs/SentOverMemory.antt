@@ -1,6 +1,8 @@
 -- A gap, and a reply that leaves octet by octet: the buffers that it is read from lie in the memory, one part of the state is written, and
 -- then the line is settled.
 use Rattle.std.proofs.Common.{◌≡◌, ℕ, ◌+◌, ◌-◌, ◌≤◌, Bool, true, false, eqb, List, length, sym, refl, ap, ◌∙◌, arith}
+use Rattle.std.proofs.Math.Logic.{∥∥₁_elim}
+use Rattle.std.specs.Coded.{le_prop}
 use Rattle.buffers.specs.Roles.{fill_of}
 use Rattle.buffers.specs.Roles as role
 use Rattle.telegram.specs.declared.reader.Reader.{Reader}
@@ -11,7 +13,7 @@ use Rattle.telegram.proofs.Counts.{start_counts, sent_counts}
 use Rattle.state.specs.declared.state.Incoming.{Incoming}
 use Rattle.state.specs.declared.state.Reply.{Reply}
 use Rattle.state.specs.declared.state.State.{State}
-use Rattle.state.specs.Layout.{output_row, input_row, diagnosis_row, outputs_at, inputs_at, diagnosis_at, get_cfg_at}
+use Rattle.state.specs.Layout.{output_row, input_row, diagnosis_row, outputs_at, inputs_at, parameters_at, diagnosis_at, get_cfg_at}
 use Rattle.state.specs.Memory.{kept, Holds, Changes}
 use Rattle.state.specs.With.{with_incoming, with_sender}
 use Rattle.steps.specs.Stepped.{packed_after}
@@ -21,31 +23,36 @@ use Rattle.steps.specs.Replies.{own_place, content_at, datum_at, asked_for}
 use Rattle.steps.specs.Reading.{read_on, read_by}
 use Rattle.steps.specs.Bus.{sent_by, send_told, send_left}
 use Rattle.steps.proofs.SoundWith.{sound_read_by, sound_reply}
-use Rattle.steps.proofs.KeepsSafe.{own_in, buffer_room, get_cfg_room}
+use Rattle.steps.proofs.KeepsSafe.{own_in, buffer_room, get_cfg_room, prm_room}
 use Rattle.steps.proofs.Holding.{holds_safe}
 use Rattle.state.proofs.Damage.{fronted_same}
 use Rattle.outcomes.proofs.Settled.{Fronts}
 
--- ---- the buffers that a reply is read from
+-- ---- the buffers that are read
 
-module _ (m : List ℕ) (s : State) (h : Holds m s) where
+module _ (m : List ℕ) (s : State) (held : ∥ Holds m s ∥₁) where
   -- the inputs that are sent
   pub inputs_room : inputs_at s.setup (fill_of s.inputs.place) + s.setup.input_len ≤ length m
-  inputs_room = buffer_room s m input_row (fill_of s.inputs.place) (holds_safe m s h) ((holds_safe m s h).inputs.within role.fill (omega arith))
+  inputs_room = ∥∥₁_elim held le_prop (λ h. buffer_room s m input_row (fill_of s.inputs.place) (holds_safe m s h) ((holds_safe m s h).inputs.within role.fill (omega arith)))
 
   -- the outputs that the reply leaves from
   pub outputs_room : outputs_at s.setup s.reply.place + s.setup.output_len ≤ length m
   outputs_room =
+      ∥∥₁_elim held le_prop (λ h.
       let g = (holds_safe m s h).reply in
-      buffer_room s m output_row s.reply.place (holds_safe m s h) (omega arith)
+      buffer_room s m output_row s.reply.place (holds_safe m s h) (omega arith))
 
   -- the controller's diagnosis
   pub diagnosis_room : diagnosis_at s.setup (own_place s.swapped) + s.setup.diagnosis_len ≤ length m
-  diagnosis_room = buffer_room s m diagnosis_row (own_place s.swapped) (holds_safe m s h) (own_in s.swapped)
+  diagnosis_room = ∥∥₁_elim held le_prop (λ h. buffer_room s m diagnosis_row (own_place s.swapped) (holds_safe m s h) (own_in s.swapped))
 
   -- and what Get_Cfg sends
   pub get_cfg_in : get_cfg_at s.setup + s.setup.get_cfg_len ≤ length m
-  get_cfg_in = get_cfg_room s m (holds_safe m s h)
+  get_cfg_in = ∥∥₁_elim held le_prop (λ h. get_cfg_room s m (holds_safe m s h))
+
+  -- the octets of Set_Prm
+  pub prm_in : parameters_at s.setup (fill_of s.parameters.set.place) + 8 ≤ length m
+  prm_in = ∥∥₁_elim held le_prop (λ h. prm_room s m (holds_safe m s h))
 
 -- ---- a gap
 

@@ -1,4 +1,5 @@
 // Gap, send and tick.
+// Holds is asked of a plain &mut [u8]: it is broken between two saves, and that it holds again is shown above (agreement).
 #![tactic(auto, using(crate::proofs::Stepping::still, crate::proofs::Ticking::tick_drops, crate::proofs::Ticking::tick_carries_over, crate::proofs::Ticking::tick_rests, crate::proofs::Ticking::tick_counts), unfolding(steps::specs::Bus::paused))]
 
 ghost use Rattle.std.specs.Prelude.{◌≡◌, unwrap_or};
@@ -21,7 +22,8 @@ use outcomes::line::{begun, busy, busy_in, is_inside};
 use outcomes::over::carry_over;
 use outcomes::settling::{settle_over, settle_waiting};
 use rules::line::{counts, ticked};
-use state::load;
+use state::load::Image;
+use state::memory::Held;
 use state::saving::{save_incoming, save_sender, save_ticks};
 use state::state::State;
 use telegram::reader::Reader;
@@ -39,7 +41,7 @@ pub fn gap(mem: &mut [u8])
     requires { Holds mem.old (unpacked mem.old) }
     ensures { mem.new ≡ packed_after (paused (unpacked mem.old) mem.old) }
 {
-    let old = load::incoming(&mem[..]);
+    let old = Image { octets: &mem[..] }.incoming();
     save_incoming(read_on(old, Reader::start()), mem);
     settle_over(mem);
 }
@@ -49,11 +51,12 @@ pub fn send(mem: &mut [u8]) -> Option<u8>
     requires { Holds mem.old (unpacked mem.old) }
     ensures { (unwrap_or result 256 ≡ send_told (unpacked mem.old) mem.old) × (mem.new ≡ packed_after (send_left (unpacked mem.old) mem.old)) }
 {
-    let sender = load::reply(&mem[..]).sender;
+    let image = Image { octets: &mem[..] };
+    let sender = image.reply().sender;
     if !sender.left() {
         return None;
     }
-    let datum = asked_for(&mem[..]);
+    let datum = asked_for(Held { image });
     let sent = sender.send(datum);
     save_sender(sent.sender, mem);
     settle_over(mem);
@@ -82,7 +85,7 @@ fn silence_over(mem: &mut [u8])
     requires { Holds mem.old (unpacked mem.old) }
     ensures { mem.new ≡ packed_after (settle (with_reply (read_by (unpacked mem.old) (silenced_reader (begun (unpacked mem.old)) (unpacked mem.old).incoming.reader)) no_reply) mem.old) }
 {
-    let old = load::incoming(&mem[..]);
+    let old = Image { octets: &mem[..] }.incoming();
     let inside = is_inside(old.reader.status());
     drop_reply(mem, read_on(old, silenced_reader(inside, old.reader)));
     settle_waiting(mem);
@@ -113,12 +116,14 @@ fn tick_whole(mem: &mut [u8])
     requires { Holds mem.old (unpacked mem.old) }
     ensures { mem.new ≡ packed_after (elapsed (unpacked mem.old) mem.old) }
 {
-    let control = load::control(&mem[..]);
+    let image = Image { octets: &mem[..] };
+    let control = image.control();
     if control.noted {
         silence_over(mem);
         return;
     }
-    carry_over(mem, ticked(busy_in(&mem[..]), control), 0);
+    let busy = busy_in(image);
+    carry_over(mem, ticked(busy, control), 0);
 }
 
 // A Tick over the memory: nearly always only the ticks that remain are packed. Whatever else comes of it is called at two places, since
@@ -127,7 +132,7 @@ pub fn tick(mem: &mut [u8])
     requires { Holds mem.old (unpacked mem.old) }
     ensures { mem.new ≡ packed_after (elapsed (unpacked mem.old) mem.old) }
 {
-    let control = load::control(&mem[..]);
+    let control = Image { octets: &mem[..] }.control();
     if control.noted {
         tick_whole(mem);
         return;

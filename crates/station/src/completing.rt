@@ -2,6 +2,7 @@
 // good Data_Exchange, which nearly every telegram to the station is, a telegram that does not act, which is nearly every other one on
 // the line, Slave_Diag, which a master sends more often than the rest, and a repeat, which changes the watchdog alone, have ways of
 // their own.
+// Holds is asked of a plain &mut [u8]: it is broken between two saves, and that it holds again is shown above (agreement).
 ghost use Rattle.std.specs.Prelude.{◌≡◌, ◌≤◌, true, false, length, if◌then◌else◌};
 ghost use Rattle.state.specs.Layout.{image_length};
 ghost use Rattle.state.specs.Memory.{Holds, Changes};
@@ -27,7 +28,8 @@ use rules::requests::{acts, function_service, master_of, refilled};
 use rules::retries::{asks, chain_by, repeats};
 use rules::services::{exchanges, serve, slave_diag};
 use state::control::Control;
-use state::load;
+use state::load::Image;
+use state::memory::Held;
 use state::saving::{
     save_chain, save_control, save_events, save_incoming, save_inputs, save_outputs, save_reply,
     save_ticks,
@@ -38,16 +40,17 @@ use telegram::Kind;
 use telegram::sender::Sender;
 
 // What comes of the service that a telegram asks for: `outcome_of` without the chain, since no repeat comes here.
-#[tactic(auto, using(steps::proofs::KeepsSafe::prm_room, steps::proofs::Holding::holds_safe))]
-fn served_in(mem: &[u8], r: Request, service: Service) -> Outcome
-    requires { (Holds mem.now (unpacked mem.now)) × (service ≡ service_of (unpacked mem.now).setup r) }
-    ensures { result ≡ served (unpacked mem.now) mem.now r }
+#[tactic(auto, using(crate::proofs::SentOverMemory::prm_in))]
+fn served_in(held: Held, r: Request, service: Service) -> Outcome
+    requires { service ≡ service_of (unpacked held.image.octets.now).setup r }
+    ensures { result ≡ served (unpacked held.entry.image.octets.now) held.entry.image.octets.now r }
 {
-    let setup = load::setup(mem);
-    let parameters = load::parameters(mem);
-    let control = refilled(setup, load::control(mem), r);
-    let occupied = occupied(parameters, load::configuration(mem), load::outputs(mem));
-    let octets = data_in(mem, setup, load::incoming(mem), parameters);
+    let image = held.image;
+    let setup = image.setup();
+    let parameters = image.parameters();
+    let control = refilled(setup, image.control(), r);
+    let occupied = occupied(parameters, image.configuration(), image.outputs());
+    let octets = data_in(image.octets, setup, image.incoming(), parameters);
     serve(service, setup, control, occupied, r, octets)
 }
 
@@ -68,8 +71,9 @@ fn answer(mem: &mut [u8], o: Outcome, i: Incoming, r: Request)
     ensures { mem.new ≡ answered_by mem.old i r o }
 {
     let drawn = o.drawn;
-    let setup = load::setup(&mem[..]);
-    let outputs = on_outputs(o.outputs, load::outputs(&mem[..]));
+    let image = Image { octets: &mem[..] };
+    let setup = image.setup();
+    let outputs = on_outputs(o.outputs, image.outputs());
     let reply = draw(drawn, setup, o.control, outputs.set.held(), master_of(r));
     carry_over(mem, o, r.count);
     save_incoming(i, mem);
@@ -78,13 +82,13 @@ fn answer(mem: &mut [u8], o: Outcome, i: Incoming, r: Request)
 }
 
 // Whether a telegram is a good Data_Exchange.
-fn is_good_exchange(mem: &[u8], r: Request, service: Service) -> bool
-    requires { (Holds mem.now (unpacked mem.now)) × (service ≡ service_of (unpacked mem.now).setup r) }
-    ensures { result ≡ is_good_exchange (unpacked mem.now) r }
+fn is_good_exchange(image: Image, r: Request, service: Service) -> bool
+    requires { service ≡ service_of (unpacked image.octets.now).setup r }
+    ensures { result ≡ is_good_exchange (unpacked image.entry.octets.now) r }
 {
-    let setup = load::setup(mem);
+    let setup = image.setup();
     (service == Service::DataExchange)
-        & exchanges(load::control(mem), r)
+        & exchanges(image.control(), r)
         & (r.count == setup.output_len)
 }
 
@@ -137,11 +141,12 @@ fn exchange(mem: &mut [u8], i: Incoming, r: Request)
     requires { (Holds mem.old (unpacked mem.old)) × (is_good_exchange (unpacked mem.old) r ≡ true) × (is_repeat_in (unpacked mem.old) r ≡ false) }
     ensures { mem.new ≡ completed_by mem.old i r }
 {
-    let setup = load::setup(&mem[..]);
-    let control = refilled(setup, load::control(&mem[..]), r);
+    let image = Image { octets: &mem[..] };
+    let setup = image.setup();
+    let control = refilled(setup, image.control(), r);
     let deed = exchange_outputs(control.modes);
-    let outputs = on_outputs(deed, load::outputs(&mem[..]));
-    let inputs = on_inputs(exchange_inputs(control.modes), load::inputs(&mem[..]));
+    let outputs = on_outputs(deed, image.outputs());
+    let inputs = on_inputs(exchange_inputs(control.modes), image.inputs());
     let header = header_of(control);
     let held = outputs.set.held();
     save_incoming(i, mem);
@@ -157,9 +162,10 @@ fn diagnose(mem: &mut [u8], i: Incoming, r: Request)
     requires { (Holds mem.old (unpacked mem.old)) × (service_of (unpacked mem.old).setup r ≡ SlaveDiag) × (is_repeat_in (unpacked mem.old) r ≡ false) }
     ensures { mem.new ≡ completed_by mem.old i r }
 {
-    let setup = load::setup(&mem[..]);
-    let o = slave_diag(refilled(setup, load::control(&mem[..]), r), r);
-    let outputs = load::outputs(&mem[..]);
+    let image = Image { octets: &mem[..] };
+    let setup = image.setup();
+    let o = slave_diag(refilled(setup, image.control(), r), r);
+    let outputs = image.outputs();
     let reply = draw(
         Drawn::Diagnosis,
         setup,
@@ -178,9 +184,10 @@ fn repeat(mem: &mut [u8], i: Incoming, r: Request)
     requires { (Holds mem.old (unpacked mem.old)) × (is_repeat_in (unpacked mem.old) r ≡ true) }
     ensures { mem.new ≡ completed_by mem.old i r }
 {
-    let setup = load::setup(&mem[..]);
-    let control = refilled(setup, load::control(&mem[..]), r);
-    let outputs = load::outputs(&mem[..]);
+    let image = Image { octets: &mem[..] };
+    let setup = image.setup();
+    let control = refilled(setup, image.control(), r);
+    let outputs = image.outputs();
     let reply = draw(
         control.chain.drawn(),
         setup,
@@ -199,7 +206,8 @@ fn apply(mem: &mut [u8], i: Incoming, r: Request, service: Service)
     requires { (Holds mem.old (unpacked mem.old)) × (service ≡ service_of (unpacked mem.old).setup r) × (acts (unpacked mem.old).setup r ≡ true) × (is_repeat_in (unpacked mem.old) r ≡ false) }
     ensures { mem.new ≡ completed_by mem.old i r }
 {
-    if is_good_exchange(&mem[..], r, service) {
+    let image = Image { octets: &mem[..] };
+    if is_good_exchange(image, r, service) {
         exchange(mem, i, r);
         return;
     }
@@ -207,7 +215,8 @@ fn apply(mem: &mut [u8], i: Incoming, r: Request, service: Service)
         diagnose(mem, i, r);
         return;
     }
-    answer(mem, served_in(&mem[..], r, service), i, r);
+    let o = served_in(Held { image }, r, service);
+    answer(mem, o, i, r);
 }
 
 // A telegram that does not act draws nothing.
@@ -215,8 +224,9 @@ fn pass_by(mem: &mut [u8], i: Incoming, r: Request)
     requires { (Holds mem.old (unpacked mem.old)) × (acts (unpacked mem.old).setup r ≡ false) }
     ensures { mem.new ≡ completed_by mem.old i r }
 {
-    let control = load::control(&mem[..]);
-    let outputs = load::outputs(&mem[..]);
+    let image = Image { octets: &mem[..] };
+    let control = image.control();
+    let outputs = image.outputs();
     let reply = Reply {
         drawn: Drawn::Nothing,
         sender: Sender::empty(),
@@ -234,11 +244,12 @@ pub fn complete(mem: &mut [u8], i: Incoming)
     ensures { mem.new ≡ completed_by mem.old i (request_by i.reader) }
 {
     let r = request_by(i.reader);
-    if !acts(load::setup(&mem[..]), r) {
+    let image = Image { octets: &mem[..] };
+    if !acts(image.setup(), r) {
         pass_by(mem, i, r);
         return;
     }
-    if repeats(load::chain(&mem[..]), r) {
+    if repeats(image.chain(), r) {
         repeat(mem, i, r);
         return;
     }

@@ -1,5 +1,6 @@
 // The bus's octet over the memory that holds the state: an octet reads and writes only the parts of the state that it needs.
 // Every step leaves the memory as the step on the unpacked state (`reading`) would leave it, packed again.
+// Holds is asked of a plain &mut [u8]: it is broken between two saves, and that it holds again is shown above (agreement).
 ghost use Rattle.std.specs.Prelude.{◌≡◌, ℕ, ◌≤◌, true, false, length};
 ghost use Rattle.telegram.specs.Reading.{takes_data};
 ghost use Rattle.state.specs.Layout.{image_length};
@@ -16,7 +17,7 @@ use crate::reading::{is_ignored, read_on};
 use outcomes::line::is_inside;
 use outcomes::settling::settle_over;
 use state::layout::{configuration_at, outputs_at, parameters_at};
-use state::load;
+use state::load::Image;
 use state::saving::{keep_octet, save_incoming, save_read, save_reply};
 use state::start::no_reply;
 use state::state::Incoming;
@@ -29,22 +30,23 @@ fn store_received(mem: &mut [u8], k: u8, b: u8)
     requires { Holds mem.old (unpacked mem.old) }
     ensures { mem.new ≡ stored_data (unpacked mem.old) mem.old k b }
 {
-    let setup = load::setup(&mem[..]);
-    let incoming = load::incoming(&mem[..]);
+    let image = Image { octets: &mem[..] };
+    let setup = image.setup();
+    let incoming = image.incoming();
     if incoming.reader.da < 128 {
-        let outputs = load::outputs(&mem[..]);
+        let outputs = image.outputs();
         let from = outputs_at(setup, outputs.set.fill());
         octets::store_at(mem, from, setup.output_len as usize, k as usize, b);
         return;
     }
     if incoming.reader.dsap == 61 {
-        let parameters = load::parameters(&mem[..]);
+        let parameters = image.parameters();
         let from = parameters_at(setup, parameters.set.fill());
         octets::store_at(mem, from, setup.parameter_len as usize, k as usize, b);
         return;
     }
     if incoming.reader.dsap == 62 {
-        let configuration = load::configuration(&mem[..]);
+        let configuration = image.configuration();
         let from = configuration_at(setup, configuration.set.fill());
         octets::store_at(mem, from, setup.configuration_len as usize, k as usize, b);
     }
@@ -55,7 +57,7 @@ fn hear_data(mem: &mut [u8], b: u8)
     requires { (Holds mem.old (unpacked mem.old)) × (takes_data (unpacked mem.old).incoming.reader ≡ true) }
     ensures { mem.new ≡ packed_after (heard (unpacked mem.old) mem.old b false) }
 {
-    let old = load::incoming(&mem[..]);
+    let old = Image { octets: &mem[..] }.incoming();
     let reader = old.reader;
     let k = reader.at;
     store_received(mem, k, b);
@@ -107,7 +109,7 @@ fn hear_other(mem: &mut [u8], b: u8, bad: bool)
     requires { (Holds mem.old (unpacked mem.old)) × (takes_data (unpacked mem.old).incoming.reader ≡ true → bad ≡ true) }
     ensures { mem.new ≡ packed_after (heard (unpacked mem.old) mem.old b bad) }
 {
-    let old = load::incoming(&mem[..]);
+    let old = Image { octets: &mem[..] }.incoming();
     let reader = old.reader;
     if is_ignored(reader.status()) {
         return;
@@ -125,7 +127,7 @@ pub fn hear_octet(mem: &mut [u8], b: u8, bad: bool)
     requires { Holds mem.old (unpacked mem.old) }
     ensures { mem.new ≡ packed_after (heard (unpacked mem.old) mem.old b bad) }
 {
-    let data = load::takes_data(&mem[..]);
+    let data = Image { octets: &mem[..] }.takes_data();
     if data & !bad {
         hear_data(mem, b);
         return;

@@ -1,5 +1,6 @@
 // Each call as a step over the memory that holds its state; nothing of the memory is checked here. Each reads and writes only what it
 // needs of the state.
+// Holds is asked of a plain &mut [u8]: it is broken between two saves, and that it holds again is shown above (agreement).
 #![tactic(auto, using(crate::proofs::Stepping::still, crate::proofs::Stepping::answered), unfolding(steps::specs::Step::step_over))]
 
 ghost use Rattle.state.specs.Answer.{Meets};
@@ -10,7 +11,8 @@ ghost use Rattle.steps.specs.Step.{step_over};
 
 use crate::{bus, hearing, user};
 use state::answer::Answer;
-use state::load;
+use state::load::Image;
+use state::memory::Held;
 
 // The bus's octet, flagged bad by the receiver or not.
 pub fn octet(mem: &mut [u8], value: u8, bad: bool) -> Answer
@@ -63,7 +65,8 @@ pub fn read(mem: &mut [u8], kind: u32, index: u32) -> Answer
     requires { Holds mem.old (unpacked mem.old) }
     ensures { Meets (step_over mem.old (read kind index)) result mem.new }
 {
-    user::read_octet(&mem[..], kind, index)
+    let image = Image { octets: &mem[..] };
+    user::read_octet(Held { image }, kind, index)
 }
 
 // Write an octet of kind 4 or 5.
@@ -111,7 +114,7 @@ pub fn events(mem: &mut [u8]) -> Answer
     requires { Holds mem.old (unpacked mem.old) }
     ensures { Meets (step_over mem.old events) result mem.new }
 {
-    Ok(u32::from(load::events(&mem[..]).word))
+    Ok(u32::from(Image { octets: &mem[..] }.events().word))
 }
 
 // Acknowledge the events of a mask.
@@ -127,7 +130,7 @@ pub fn pending(mem: &mut [u8]) -> Answer
     requires { Holds mem.old (unpacked mem.old) }
     ensures { Meets (step_over mem.old pending) result mem.new }
 {
-    Ok(u32::from(load::events(&mem[..]).pending()))
+    Ok(u32::from(Image { octets: &mem[..] }.events().pending()))
 }
 
 // Leave master: a clear.

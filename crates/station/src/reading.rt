@@ -1,4 +1,5 @@
 // The bus's octet: a telegram's data goes into the fill buffer that its header names, as it comes.
+// Safe is asked in each function here: a type over &mut would need a clause in each that the reference stays the same.
 #![tactic(auto, using(crate::proofs::StoredOverMemory::outputs_in, crate::proofs::StoredOverMemory::parameters_in, crate::proofs::StoredOverMemory::configuration_in, steps::proofs::KeepsSafe::prm_room, steps::proofs::KeepsSafe::safe_steps, steps::proofs::KeepsSafe::safe_completed), unfolding(steps::specs::Reading::outcome_of, steps::specs::Reading::answered, steps::specs::Reading::heard))]
 
 ghost use Rattle.std.specs.Prelude.{◌≡◌, ◌+◌, ◌≤◌, true, false, length};

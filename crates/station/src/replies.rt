@@ -5,7 +5,6 @@ ghost use Rattle.std.specs.Prelude.{◌≡◌, ◌+◌, ◌≤◌, length, slice
 ghost use Rattle.buffers.specs.Roles.{held_of};
 ghost use Rattle.octets.specs.Part.{part};
 ghost use Rattle.state.specs.declared.state.State.{State};
-ghost use Rattle.state.specs.Memory.{Holds};
 ghost use Rattle.state.specs.Unpack.{unpacked};
 ghost use Rattle.steps.specs.Replies.{servicing, exchange_sender, sender_for, reply_for, own_place, user_place, header_at, content_at, reply_point, datum_at, asked_for};
 
@@ -13,7 +12,8 @@ use rules::diagnosis::header_of;
 use rules::replies::{exchange_fc, is_exchange};
 use state::control::Control;
 use state::layout::{diagnosis_at, get_cfg_at, inputs_at, outputs_at};
-use state::load;
+use state::load::Image;
+use state::memory::Held;
 use state::setup::Setup;
 use state::state::{Drawn, Header, Reply, State};
 use telegram::Kind;
@@ -119,58 +119,57 @@ fn octet_in(mem: &[u8], from: usize, len: u8, i: u8) -> u8
 }
 
 // Data octet i of a diagnosis reply behind DSAP and SSAP.
-fn diagnosis_octet(mem: &[u8], i: u8) -> u8
-    requires { Holds mem.now (unpacked mem.now) }
-    ensures { result ≡ content_at Drawn.Diagnosis (unpacked mem.now) mem.now i }
+fn diagnosis_octet(held: Held, i: u8) -> u8
+    ensures { result ≡ content_at Drawn.Diagnosis (unpacked held.entry.image.octets.now) held.entry.image.octets.now i }
 {
-    let setup = load::setup(mem);
+    let image = held.image;
+    let setup = image.setup();
     if i < 6 {
-        return header_at(load::reply(mem).header, setup.ident, i);
+        return header_at(image.reply().header, setup.ident, i);
     }
-    let from = diagnosis_at(setup, own_place(load::swapped(mem)));
-    octet_in(mem, from, setup.diagnosis_len, i)
+    let from = diagnosis_at(setup, own_place(image.swapped()));
+    octet_in(image.octets, from, setup.diagnosis_len, i)
 }
 
 // Octet i of the inputs that are sent.
-fn input_octet(mem: &[u8], i: u8) -> u8
-    requires { Holds mem.now (unpacked mem.now) }
-    ensures { result ≡ content_at Drawn.Inputs (unpacked mem.now) mem.now i }
+fn input_octet(held: Held, i: u8) -> u8
+    ensures { result ≡ content_at Drawn.Inputs (unpacked held.entry.image.octets.now) held.entry.image.octets.now i }
 {
-    let setup = load::setup(mem);
-    let from = inputs_at(setup, load::inputs(mem).fill());
-    octet_in(mem, from, setup.input_len, i)
+    let image = held.image;
+    let setup = image.setup();
+    let from = inputs_at(setup, image.inputs().fill());
+    octet_in(image.octets, from, setup.input_len, i)
 }
 
 // Octet i of the outputs that the reply leaves from.
-fn output_octet(mem: &[u8], i: u8) -> u8
-    requires { Holds mem.now (unpacked mem.now) }
-    ensures { result ≡ content_at Drawn.Outputs (unpacked mem.now) mem.now i }
+fn output_octet(held: Held, i: u8) -> u8
+    ensures { result ≡ content_at Drawn.Outputs (unpacked held.entry.image.octets.now) held.entry.image.octets.now i }
 {
-    let setup = load::setup(mem);
-    let from = outputs_at(setup, load::reply(mem).place);
-    octet_in(mem, from, setup.output_len, i)
+    let image = held.image;
+    let setup = image.setup();
+    let from = outputs_at(setup, image.reply().place);
+    octet_in(image.octets, from, setup.output_len, i)
 }
 
 // Octet i of what Get_Cfg sends.
-fn get_cfg_octet(mem: &[u8], i: u8) -> u8
-    requires { Holds mem.now (unpacked mem.now) }
-    ensures { result ≡ content_at Drawn.Configuration (unpacked mem.now) mem.now i }
+fn get_cfg_octet(held: Held, i: u8) -> u8
+    ensures { result ≡ content_at Drawn.Configuration (unpacked held.entry.image.octets.now) held.entry.image.octets.now i }
 {
-    let setup = load::setup(mem);
-    octet_in(mem, get_cfg_at(setup), setup.get_cfg_len, i)
+    let image = held.image;
+    let setup = image.setup();
+    octet_in(image.octets, get_cfg_at(setup), setup.get_cfg_len, i)
 }
 
 // Data octet i of the reply behind DSAP and SSAP.
-fn content_at(drawn: Drawn, mem: &[u8], i: u8) -> u8
-    requires { Holds mem.now (unpacked mem.now) }
-    ensures { result ≡ content_at drawn (unpacked mem.now) mem.now i }
+fn content_at(drawn: Drawn, held: Held, i: u8) -> u8
+    ensures { result ≡ content_at drawn (unpacked held.entry.image.octets.now) held.entry.image.octets.now i }
 {
     match drawn {
         Drawn::Nothing | Drawn::Acknowledge | Drawn::Status | Drawn::Rejected => 0,
-        Drawn::Exchange | Drawn::Inputs => input_octet(mem, i),
-        Drawn::Outputs => output_octet(mem, i),
-        Drawn::Configuration => get_cfg_octet(mem, i),
-        Drawn::Diagnosis => diagnosis_octet(mem, i),
+        Drawn::Exchange | Drawn::Inputs => input_octet(held, i),
+        Drawn::Outputs => output_octet(held, i),
+        Drawn::Configuration => get_cfg_octet(held, i),
+        Drawn::Diagnosis => diagnosis_octet(held, i),
     }
 }
 
@@ -189,13 +188,12 @@ fn reply_point(drawn: Drawn) -> u8
 
 // Data octet k of the reply: 3E and the service point first, but in the reply to Data_Exchange.
 #[tactic(auto, unfolding(steps::specs::Replies::datum_at))]
-fn datum_at(mem: &[u8], k: u8) -> u8
-    requires { Holds mem.now (unpacked mem.now) }
-    ensures { result ≡ datum_at (unpacked mem.now) mem.now k }
+fn datum_at(held: Held, k: u8) -> u8
+    ensures { result ≡ datum_at (unpacked held.entry.image.octets.now) held.entry.image.octets.now k }
 {
-    let drawn = load::reply(mem).drawn;
+    let drawn = held.image.reply().drawn;
     if is_exchange(drawn) {
-        return input_octet(mem, k);
+        return input_octet(held, k);
     }
     if k == 0 {
         return 0x3E;
@@ -203,16 +201,15 @@ fn datum_at(mem: &[u8], k: u8) -> u8
     if k == 1 {
         return reply_point(drawn);
     }
-    content_at(drawn, mem, k - 2)
+    content_at(drawn, held, k - 2)
 }
 
 // The data octet that the sender asks for, read where the memory has it: only what the reply needs is unpacked.
-pub fn asked_for(mem: &[u8]) -> u8
-    requires { Holds mem.now (unpacked mem.now) }
-    ensures { result ≡ asked_for (unpacked mem.now) mem.now }
+pub fn asked_for(held: Held) -> u8
+    ensures { result ≡ asked_for (unpacked held.entry.image.octets.now) held.entry.image.octets.now }
 {
-    match load::reply(mem).sender.asks() {
-        Some(k) => datum_at(mem, k),
+    match held.image.reply().sender.asks() {
+        Some(k) => datum_at(held, k),
         None => 0,
     }
 }

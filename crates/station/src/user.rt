@@ -1,4 +1,5 @@
 // The calls of the vat program over the memory that holds the state: each reads and writes the parts that it needs.
+// Holds is asked of a plain &mut [u8]: it is broken between two saves, and that it holds again is shown above (agreement).
 #![tactic(auto, using(crate::proofs::Stepping::still), unfolding(steps::specs::User::take_outputs, steps::specs::User::read_octet, steps::specs::User::write_octet, steps::specs::User::hand_over, steps::specs::User::new_diagnosis, steps::specs::User::judge_parameters, steps::specs::User::judge_configuration, steps::specs::User::acknowledge_events))]
 
 ghost use Rattle.std.specs.Prelude.{◌≡◌, true, false, eqb, leb, IfOk, IfErr};
@@ -22,7 +23,8 @@ use rules::line::clear_on;
 use rules::user::{judged_configuration, judged_parameters};
 use state::answer::{Answer, Refusal};
 use state::layout::{configuration_at, diagnosis_at, inputs_at, outputs_at, parameters_at};
-use state::load;
+use state::load::Image;
+use state::memory::Held;
 use state::saving::{save_control, save_events, save_inputs, save_outputs};
 
 // Take outputs: 0 nothing new; else 1, or 2 where the station published zeros, and next and held change.
@@ -30,7 +32,7 @@ pub fn take_outputs(mem: &mut [u8]) -> Answer
     requires { Holds mem.old (unpacked mem.old) }
     ensures { Meets (packed mem.old (take_outputs (unpacked mem.old) mem.old)) result mem.new }
 {
-    let mut outputs = load::outputs(&mem[..]);
+    let mut outputs = Image { octets: &mem[..] }.outputs();
     if !outputs.set.fresh {
         return Ok(0);
     }
@@ -40,45 +42,44 @@ pub fn take_outputs(mem: &mut [u8]) -> Answer
 }
 
 // Kind 2 or 3 with no set shown or at an index not below its count, kind 5 while a new diagnosis is delayed.
-fn absent(mem: &[u8], kind: Octets, index: u32) -> bool
-    requires { Holds mem.now (unpacked mem.now) }
-    ensures { result ≡ absent (unpacked mem.now) (kind_number kind) index }
+fn absent(held: Held, kind: Octets, index: u32) -> bool
+    ensures { result ≡ absent (unpacked held.entry.image.octets.now) (kind_number kind) index }
 {
+    let image = held.image;
     match kind {
-        Octets::Parameters => u32::from(load::parameters(mem).shown) <= index,
-        Octets::Configuration => u32::from(load::configuration(mem).shown) <= index,
-        Octets::Diagnosis => is_delayed(load::diagnosis(mem)),
+        Octets::Parameters => u32::from(image.parameters().shown) <= index,
+        Octets::Configuration => u32::from(image.configuration().shown) <= index,
+        Octets::Diagnosis => is_delayed(image.diagnosis()),
         Octets::Outputs | Octets::Inputs => false,
     }
 }
 
 // Where the octets of a kind begin.
-fn kind_at(mem: &[u8], kind: Octets) -> usize
-    requires { Holds mem.now (unpacked mem.now) }
-    ensures { result ≡ kind_at (unpacked mem.now) (kind_number kind) }
+fn kind_at(held: Held, kind: Octets) -> usize
+    ensures { result ≡ kind_at (unpacked held.entry.image.octets.now) (kind_number kind) }
 {
-    let setup = load::setup(mem);
+    let image = held.image;
+    let setup = image.setup();
     match kind {
-        Octets::Outputs => outputs_at(setup, load::outputs(mem).set.held()),
-        Octets::Parameters => parameters_at(setup, load::parameters(mem).set.held()),
-        Octets::Configuration => configuration_at(setup, load::configuration(mem).set.held()),
-        Octets::Inputs => inputs_at(setup, load::inputs(mem).held()),
-        Octets::Diagnosis => diagnosis_at(setup, user_place(load::swapped(mem))),
+        Octets::Outputs => outputs_at(setup, image.outputs().set.held()),
+        Octets::Parameters => parameters_at(setup, image.parameters().set.held()),
+        Octets::Configuration => configuration_at(setup, image.configuration().set.held()),
+        Octets::Inputs => inputs_at(setup, image.inputs().held()),
+        Octets::Diagnosis => diagnosis_at(setup, user_place(image.swapped())),
     }
 }
 
 // Reading answers the octet; the state is not unpacked as a whole.
-pub fn read_octet(mem: &[u8], kind: u32, index: u32) -> Answer
-    requires { Holds mem.now (unpacked mem.now) }
-    ensures { Tells (read_octet (unpacked mem.now) mem.now kind index) result (unpacked mem.now) mem.now }
+pub fn read_octet(held: Held, kind: u32, index: u32) -> Answer
+    ensures { Tells (read_octet (unpacked held.entry.image.octets.now) held.entry.image.octets.now kind index) result (unpacked held.entry.image.octets.now) held.entry.image.octets.now }
 {
-    let Some(octets) = addressed(load::setup(mem), kind, index) else {
+    let Some(octets) = addressed(held.image.setup(), kind, index) else {
         return Err(Refusal::Range);
     };
-    if absent(mem, octets, index) {
+    if absent(held, octets, index) {
         return Err(Refusal::Absent);
     }
-    Ok(u32::from(mem[kind_at(mem, octets) + index as usize]))
+    Ok(u32::from(held.image.octets[kind_at(held, octets) + index as usize]))
 }
 
 // Kinds 4 and 5 are written.
@@ -86,16 +87,18 @@ pub fn write_octet(mem: &mut [u8], kind: u32, index: u32, octet: u8) -> Answer
     requires { Holds mem.old (unpacked mem.old) }
     ensures { Tells (write_octet (unpacked mem.old) mem.old kind index octet) result (unpacked mem.old) mem.new }
 {
-    let Some(octets) = addressed(load::setup(&mem[..]), kind, index) else {
+    let image = Image { octets: &mem[..] };
+    let held = Held { image };
+    let Some(octets) = addressed(image.setup(), kind, index) else {
         return Err(Refusal::Range);
     };
     if !octets.is_writable() {
         return Err(Refusal::Range);
     }
-    if absent(&mem[..], octets, index) {
+    if absent(held, octets, index) {
         return Err(Refusal::Absent);
     }
-    let from = kind_at(&mem[..], octets);
+    let from = kind_at(held, octets);
     mem[from + index as usize] = octet;
     Ok(0)
 }
@@ -105,7 +108,7 @@ pub fn hand_over(mem: &mut [u8]) -> Answer
     requires { Holds mem.old (unpacked mem.old) }
     ensures { Meets (packed mem.old (hand_over (unpacked mem.old) mem.old)) result mem.new }
 {
-    let inputs = load::inputs(&mem[..]);
+    let inputs = Image { octets: &mem[..] }.inputs();
     save_inputs(inputs.hand_over(), mem);
     Ok(0)
 }
@@ -115,8 +118,9 @@ pub fn new_diagnosis(mem: &mut [u8], count: u32, flags: u32) -> Answer
     requires { Holds mem.old (unpacked mem.old) }
     ensures { Meets (packed mem.old (new_diagnosis (unpacked mem.old) mem.old count flags)) result mem.new }
 {
-    let setup = load::setup(&mem[..]);
-    let control = load::control(&mem[..]);
+    let image = Image { octets: &mem[..] };
+    let setup = image.setup();
+    let control = image.control();
     if !((6 <= count) & (count <= u32::from(setup.diagnosis_len)) & (flags <= 7)) {
         return Err(Refusal::Range);
     }
@@ -125,7 +129,7 @@ pub fn new_diagnosis(mem: &mut [u8], count: u32, flags: u32) -> Answer
     }
     let n = count as u8;
     let f = flags as u8;
-    if diagnosis_leaves_in(&mem[..]) {
+    if diagnosis_leaves_in(image) {
         save_control(delaying(control, n, f), mem);
         return Ok(0);
     }
@@ -150,13 +154,14 @@ pub fn judge_parameters(mem: &mut [u8], judgement: u32) -> Answer
     requires { Holds mem.old (unpacked mem.old) }
     ensures { Meets (packed mem.old (judge_parameters (unpacked mem.old) mem.old judgement)) result mem.new }
 {
-    let parameters = load::parameters(&mem[..]);
+    let image = Image { octets: &mem[..] };
+    let parameters = image.parameters();
     if !is_open(parameters) {
         return Err(Refusal::Judging);
     }
     let good = is_good(judgement)?;
     let waits = parameters.set.fresh;
-    let control = load::control(&mem[..]);
+    let control = image.control();
     carry_over(mem, judged_parameters(control, waits, good), 0);
     Ok(u32::from(waits))
 }
@@ -166,8 +171,9 @@ pub fn judge_configuration(mem: &mut [u8], judgement: u32) -> Answer
     requires { Holds mem.old (unpacked mem.old) }
     ensures { Meets (packed mem.old (judge_configuration (unpacked mem.old) mem.old judgement)) result mem.new }
 {
-    let configuration = load::configuration(&mem[..]);
-    let control = load::control(&mem[..]);
+    let image = Image { octets: &mem[..] };
+    let configuration = image.configuration();
+    let control = image.control();
     if !(is_open(configuration) & control.flags.parameters_good) {
         return Err(Refusal::Judging);
     }
@@ -182,7 +188,7 @@ pub fn acknowledge(mem: &mut [u8], mask: u16) -> Answer
     requires { Holds mem.old (unpacked mem.old) }
     ensures { Meets (packed mem.old (acknowledge_events (unpacked mem.old) mem.old mask)) result mem.new }
 {
-    let events = load::events(&mem[..]);
+    let events = Image { octets: &mem[..] }.events();
     save_events(events.acknowledge(mask), mem);
     Ok(0)
 }
@@ -192,7 +198,9 @@ pub fn leave(mem: &mut [u8]) -> Answer
     requires { Holds mem.old (unpacked mem.old) }
     ensures { Meets (packed mem.old (leave_master (unpacked mem.old) mem.old)) result mem.new }
 {
-    let control = load::control(&mem[..]);
-    carry_over(mem, clear_on(busy_in(&mem[..]), control), 0);
+    let image = Image { octets: &mem[..] };
+    let control = image.control();
+    let busy = busy_in(image);
+    carry_over(mem, clear_on(busy, control), 0);
     Ok(0)
 }

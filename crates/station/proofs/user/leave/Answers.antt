@@ -3,4 +3,4 @@ use Rattle.station.proofs.UserOverMemory.{leaves_master}
 use Rattle.station.proofs.user.leave.Goals as goal
 
 pub returns : goal.returns
-returns c = leaves_master _ _ c.control-control.ensures c.carry_over.ensures c.busy_in.ensures c.clear_on.ensures
+returns c = leaves_master _ _ c.control-control.ensures c.carry_over.ensures c.busy_in-busy.ensures c.clear_on.ensures

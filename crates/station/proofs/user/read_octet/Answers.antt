@@ -1,13 +1,15 @@
 -- `station::user::read_octet` meets its contract.
 use Rattle.std.proofs.Common.{arith}
+use Rattle.std.proofs.Math.Logic.{∥∥₁_elim}
+use Rattle.std.specs.Coded.{le_prop}
 use Rattle.steps.proofs.Holding.{holds_safe}
 use Rattle.station.proofs.UserOverMemory.{lies}
 use Rattle.station.proofs.user.read_octet.Goals as goal
 
 pub overflow_add-kind_at : goal.overflow_add-kind_at
 overflow_add-kind_at c =
-    let inside = lies _ c.args.mem.now _ _ c.setup.ensures c.in-Some.ensures (holds_safe _ _ c.requires) c.kind_at.ensures in
+    let inside = ∥∥₁_elim c.args.held.holds le_prop (λ h. lies _ c.args.held.image.octets.now _ _ c.setup.ensures c.in-Some.ensures (holds_safe _ _ h) c.kind_at.ensures) in
     omega arith
 
-pub bounds-mem-kind_at : goal.bounds-mem-kind_at
-bounds-mem-kind_at c = lies _ _ _ _ c.setup.ensures c.in-Some.ensures (holds_safe _ _ c.requires) c.kind_at.ensures
+pub bounds-held-kind_at : goal.bounds-held-kind_at
+bounds-held-kind_at c = ∥∥₁_elim c.args.held.holds le_prop (λ h. lies _ _ _ _ c.setup.ensures c.in-Some.ensures (holds_safe _ _ h) c.kind_at.ensures)
