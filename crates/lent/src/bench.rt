@@ -8,7 +8,7 @@ ghost use Rattle.lent.specs.Run.{run_beats, well_received, ticks, turn, calls};
 
 use crate::{octet, tick};
 use state::image::save;
-use state::load;
+use state::load::Image;
 use state::state::State;
 use station::bus::pause;
 use station::memory::is_well;
@@ -54,7 +54,7 @@ pub fn exchange(memory: &mut [u8], first: &[u8], second: &[u8], count: usize) ->
     if !is_well(&memory[..]) {
         return false;
     }
-    let state = load::unpack(&memory[..]);
+    let state = Image { octets: &memory[..] }.unpack();
     let held = take_turn(state, memory, first, count);
     let done = take_turn(held, memory, second, count);
     save(done, memory);

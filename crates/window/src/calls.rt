@@ -10,7 +10,7 @@ ghost use Rattle.window.specs.Calls.{entered_by};
 
 use rules::diagnosis::present_flags;
 use state::answer::{Answer, Refusal};
-use state::load;
+use state::load::Image;
 use station::memory::checked;
 use station::{calls, over_memory};
 
@@ -36,7 +36,7 @@ pub fn renew_diagnosis(mem: &mut [u8]) -> Answer
     ensures { Meets (called mem.old (new_diagnosis_call (unpacked mem.old).control.diagnosis.count (present_flags (unpacked mem.old).control.flags))) result mem.new }
 {
     checked(&mem[..])?;
-    let control = load::control(&mem[..]);
+    let control = Image { octets: &mem[..] }.control();
     let count = u32::from(control.diagnosis.count);
     let flags = u32::from(present_flags(control.flags));
     over_memory::new_diagnosis(mem, count, flags)
