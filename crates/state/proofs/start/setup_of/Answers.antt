@@ -1,7 +1,6 @@
 -- `state::start::setup_of` meets its contract.
-use native.Mathlib.Omega.{arith}
-use mathlib.Core.Path.{sym, ap, ◌∙◌}
-use mathlib.Core.Bool.{◌&&◌, not}
+use mathlib.Core.Path.{sym, ◌∙◌}
+use mathlib.Core.Bool.{◌&&◌}
 use borrow.Author.Tests.{lt-ltb, le-ltb}
 use Rattle.state.specs.Start.{asked}
 use Rattle.state.proofs.Asking.{lengths_ranged}
