@@ -1,7 +1,7 @@
 -- An octet heard over the memory that holds the state: the step changes no more than the code writes.
 use Rattle.std.proofs.Common.{◌≡◌, ℕ, ◌+◌, ◌<◌, ◌≤◌, Bool, true, false, cond, not, ◌&&◌, eqb, ltb, List, take, set, sym, refl, ap, ◌∙◌, arith, Option, Some}
 use lib.Seq.{take-set-le}
-use borrow.Author.Tests.{not-true, not-false}
+use borrow.Author.Tests.{not-true}
 use Rattle.buffers.specs.Roles.{fill_of}
 use Rattle.buffers.specs.Roles as role
 use Rattle.octets.specs.Part.{stored_in}

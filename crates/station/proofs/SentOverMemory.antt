@@ -18,8 +18,7 @@ use Rattle.state.specs.Memory.{kept, Holds, Changes}
 use Rattle.state.specs.With.{with_incoming, with_sender}
 use Rattle.steps.specs.Stepped.{packed_after}
 use Rattle.steps.specs.Outcome.{settle}
-use Rattle.rules.specs.Replies.{is_exchange}
-use Rattle.steps.specs.Replies.{own_place, content_at, datum_at, asked_for}
+use Rattle.steps.specs.Replies.{own_place, asked_for}
 use Rattle.steps.specs.Reading.{read_on, read_by}
 use Rattle.steps.specs.Bus.{sent_by, send_told, send_left}
 use Rattle.steps.proofs.SoundWith.{sound_read_by, sound_reply}

@@ -1,34 +1,29 @@
 -- The calls of the vat program over the memory, with the parts of the state as the code read them and wrote them again.
-use Rattle.std.specs.Prelude.{Ok, Err}
+use Rattle.std.specs.Prelude.{Ok}
 use Rattle.std.specs.Int.{from_bool}
-use Rattle.std.proofs.Common.{◌≡◌, ℕ, ◌+◌, ◌<◌, Bool, true, false, cond, not, ◌&&◌, eqb, leb, List, length, get_or, set, sym, refl, ap, ◌∙◌}
-use Rattle.std.proofs.Math.Bool.{and-false}
-use Rattle.buffers.specs.declared.quad.Quad.{Quad}
-use Rattle.buffers.specs.Quad.{taken}
-use Rattle.state.specs.declared.answer.Refusal.TheVariants.{Range, Absent}
+use Rattle.std.proofs.Common.{◌≡◌, ℕ, ◌+◌, ◌<◌, Bool, true, false, cond, not, ◌&&◌, eqb, leb, List, length, sym, refl, ap, ◌∙◌}
 use Rattle.state.specs.declared.control.Control.{Control}
 use Rattle.state.specs.declared.setup.Setup.{Setup}
-use Rattle.state.specs.declared.state.Outputs.{Outputs}
 use Rattle.state.specs.declared.state.Sets.{Sets}
 use Rattle.state.specs.declared.state.State.{State}
 use Rattle.state.specs.Answer.{Meets}
 use Rattle.state.specs.Memory.{kept}
 use Rattle.state.specs.Well.{within}
-use Rattle.state.specs.With.{with_control, with_control_but_chain, with_outputs}
+use Rattle.state.specs.With.{with_control, with_control_but_chain}
 use Rattle.rules.specs.declared.outcome.Outcome.{Outcome}
 use Rattle.rules.specs.Control.{with_chain}
 use Rattle.rules.specs.Diagnosis.{delayed, diagnosed, delaying}
-use Rattle.rules.specs.Kinds.{in_range, writable}
+use Rattle.rules.specs.Kinds.{in_range}
 use Rattle.rules.specs.Line.{clear_on}
 use Rattle.rules.specs.User.{judged_parameters, judged_configuration}
 use Rattle.rules.specs.Retries.{on_chain}
 use Rattle.rules.proofs.Served.{Quiet, clear_quiet, parameters_quiet, configuration_quiet, chain_stays}
 use Rattle.steps.specs.Safe.{Safe}
-use Rattle.steps.specs.Stepped.{packed_after, told, told_of, Tells}
+use Rattle.steps.specs.Stepped.{packed_after, told, told_of}
 use Rattle.steps.specs.Line.{busy, diagnosis_leaves}
 use Rattle.steps.specs.Outcome.{is_open, diagnosis_changed, carried}
 use Rattle.steps.specs.Step.{packed}
-use Rattle.steps.specs.User.{absent, kind_at, take_outputs, read_octet, write_octet, new_diagnosis, judge_parameters, judge_configuration, leave_master}
+use Rattle.steps.specs.User.{kind_at, new_diagnosis, judge_parameters, judge_configuration, leave_master}
 use Rattle.station.proofs.KindsInMemory.{reached}
 
 -- a flag as a number

@@ -91,14 +91,25 @@ fn silence_over(mem: &mut [u8])
     settle_waiting(mem);
 }
 
-// A Tick: 1 ms. Nearly always the watchdog counts down or is off.
-#[tactic(auto, using(crate::proofs::Ticking::tick_rests, crate::proofs::Ticking::tick_counts), unfolding(steps::specs::Bus::elapsed))]
-pub fn elapse(mut s: State, mem: &mut [u8]) -> State
+// A Tick, whatever comes of it.
+#[tactic(auto, unfolding(steps::specs::Bus::elapsed))]
+fn elapse_whole(s: State, mem: &mut [u8]) -> State
     requires { Safe s mem.old }
     ensures { Steps (elapsed s mem.old) result mem.new }
 {
     if s.control.noted {
         return silence(s, mem);
+    }
+    carry_out(s, mem, ticked(busy(s), s.control), 0)
+}
+
+// A Tick: 1 ms. Nearly always the watchdog counts down or is off. Whatever else comes of it is called at two places, as in `tick`.
+pub fn elapse(mut s: State, mem: &mut [u8]) -> State
+    requires { Safe s mem.old }
+    ensures { Steps (elapsed s mem.old) result mem.new }
+{
+    if s.control.noted {
+        return elapse_whole(s, mem);
     }
     if !counts(s.control) {
         return s;
@@ -108,7 +119,7 @@ pub fn elapse(mut s: State, mem: &mut [u8]) -> State
         s.control.watchdog.remaining = remaining - 1;
         return s;
     }
-    carry_out(s, mem, ticked(busy(s), s.control), 0)
+    elapse_whole(s, mem)
 }
 
 // A Tick over the memory, whatever comes of it.

@@ -142,11 +142,10 @@ fn is_good(judgement: u32) -> Result<bool, Refusal>
     ensures known { IfOk result (λ good. (leb judgement 1 ≡ true) × (good ≡ eqb judgement 1)) }
     ensures unknown { IfErr result (λ why. (why ≡ Range) × (leb judgement 1 ≡ false)) }
 {
-    match judgement {
-        0 => Ok(false),
-        1 => Ok(true),
-        _ => Err(Refusal::Range),
+    if 1 < judgement {
+        return Err(Refusal::Range);
     }
+    Ok(judgement == 1)
 }
 
 // Judge parameters: a set has to be open. 1 if a newer set waited, else 0.

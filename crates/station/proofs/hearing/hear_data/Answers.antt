@@ -1,7 +1,4 @@
 -- `station::hearing::hear_data` meets its contract.
-use Rattle.std.proofs.Common.{ap, ◌∙◌}
-use Rattle.telegram.specs.Reading.{takes_data}
-use Rattle.state.specs.declared.state.Incoming.{Incoming}
 use Rattle.state.specs.Unpack.{unpacked}
 use Rattle.station.proofs.HeardOverMemory.{leaves_data}
 use Rattle.station.proofs.hearing.hear_data.Goals as goal

@@ -1,7 +1,5 @@
 -- `station::user::judge_configuration` meets its contract.
-use Rattle.std.proofs.Common.{Err, not, refl, ap, ◌∙◌}
-use Rattle.std.proofs.lemmas.Result.{err_from_is_err_and}
-use Rattle.steps.specs.User.{judge_configuration}
+use Rattle.std.proofs.Common.{not, ap}
 use Rattle.station.proofs.UserOverMemory.{judges_configuration}
 use Rattle.station.proofs.user.judge_configuration.Goals as goal
 

@@ -1,9 +1,6 @@
 -- `station::user::new_diagnosis` meets its contract.
-use Rattle.std.proofs.Common.{not, ap, ℕ, ◌≡◌, true, ◌≤◌, leb, [], ◌∷◌, refl, leb-true}
-use Rattle.state.specs.Well.{all}
-use Rattle.state.proofs.Tests.{all_at}
+use Rattle.std.proofs.Common.{not, ap, refl}
 use Rattle.state.proofs.Damage.{fronted_same}
-use Rattle.steps.specs.User.{new_diagnosis}
 use Rattle.station.proofs.UserOverMemory.{delays_diagnosis, changes_diagnosis}
 use Rattle.station.proofs.user.new_diagnosis.Goals as goal
 
