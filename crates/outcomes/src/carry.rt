@@ -125,7 +125,7 @@ pub fn carry_out(s: State, mem: &mut [u8], o: Outcome, count: u8) -> State
     requires { Safe s mem.old }
     ensures { Steps (carried s mem.old o count) result mem.new }
 {
-    if o.outputs == OutputsDeed::Zeros {
+    if matches!(o.outputs, OutputsDeed::Zeros) {
         clear_next(s.setup, s.outputs, mem);
     }
     on_state(s, o, count)

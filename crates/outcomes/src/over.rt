@@ -22,7 +22,7 @@ fn carry_buffers(deed: OutputsDeed, mem: &mut [u8])
     requires { Safe (unpacked mem.old) mem.old }
     ensures { mem.new ≡ on_memory deed (unpacked mem.old) mem.old }
 {
-    if deed == OutputsDeed::Zeros {
+    if matches!(deed, OutputsDeed::Zeros) {
         let image = Image { octets: &mem[..] };
         clear_next(image.setup(), image.outputs(), mem);
     }
@@ -33,7 +33,7 @@ fn put_outputs(deed: OutputsDeed, mem: &mut [u8])
     requires { image_length ≤ length mem.old }
     ensures { (s : State) → s.outputs ≡ (unpacked mem.old).outputs → mem.old ≡ kept s mem.old → mem.new ≡ kept (with_outputs s (on_outputs deed s.outputs)) mem.old }
 {
-    if deed != OutputsDeed::Keep {
+    if !matches!(deed, OutputsDeed::Keep) {
         let outputs = Image { octets: &mem[..] }.outputs();
         save_outputs(on_outputs(deed, outputs), mem);
     }
@@ -44,7 +44,7 @@ fn put_inputs(deed: InputsDeed, mem: &mut [u8])
     requires { image_length ≤ length mem.old }
     ensures { (s : State) → s.inputs ≡ (unpacked mem.old).inputs → mem.old ≡ kept s mem.old → mem.new ≡ kept (with_inputs s (on_inputs deed s.inputs)) mem.old }
 {
-    if deed != InputsDeed::Keep {
+    if !matches!(deed, InputsDeed::Keep) {
         let inputs = Image { octets: &mem[..] }.inputs();
         save_inputs(on_inputs(deed, inputs), mem);
     }
@@ -55,7 +55,7 @@ fn put_parameters(deed: SetDeed, count: u8, mem: &mut [u8])
     requires { image_length ≤ length mem.old }
     ensures { (s : State) → s.parameters ≡ (unpacked mem.old).parameters → mem.old ≡ kept s mem.old → mem.new ≡ kept (with_parameters s (on_sets deed s.parameters count)) mem.old }
 {
-    if deed != SetDeed::Keep {
+    if !matches!(deed, SetDeed::Keep) {
         let parameters = Image { octets: &mem[..] }.parameters();
         save_parameters(on_sets(deed, parameters, count), mem);
     }
@@ -66,7 +66,7 @@ fn put_configuration(deed: SetDeed, count: u8, mem: &mut [u8])
     requires { image_length ≤ length mem.old }
     ensures { (s : State) → s.configuration ≡ (unpacked mem.old).configuration → mem.old ≡ kept s mem.old → mem.new ≡ kept (with_configuration s (on_sets deed s.configuration count)) mem.old }
 {
-    if deed != SetDeed::Keep {
+    if !matches!(deed, SetDeed::Keep) {
         let configuration = Image { octets: &mem[..] }.configuration();
         save_configuration(on_sets(deed, configuration, count), mem);
     }

@@ -87,7 +87,7 @@ fn is_good_exchange(image: Image, r: Request, service: Service) -> bool
     ensures { result ≡ is_good_exchange (unpacked image.entry.octets.now) r }
 {
     let setup = image.setup();
-    (service == Service::DataExchange)
+    matches!(service, Service::DataExchange)
         & exchanges(image.control(), r)
         & (r.count == setup.output_len)
 }
@@ -211,7 +211,7 @@ fn apply(mem: &mut [u8], i: Incoming, r: Request, service: Service)
         exchange(mem, i, r);
         return;
     }
-    if service == Service::SlaveDiag {
+    if matches!(service, Service::SlaveDiag) {
         diagnose(mem, i, r);
         return;
     }
