@@ -28,14 +28,19 @@ fn carry_buffers(deed: OutputsDeed, mem: &mut [u8])
     }
 }
 
-// What becomes of the output set.
+// What becomes of the output set. Here and at the sets below each deed has an arm: of one call for all but Keep the compiler makes less, and
+// a clear takes some 55 instructions more on x86-64.
 fn put_outputs(deed: OutputsDeed, mem: &mut [u8])
     requires { image_length ≤ length mem.old }
     ensures { (s : State) → s.outputs ≡ (unpacked mem.old).outputs → mem.old ≡ kept s mem.old → mem.new ≡ kept (with_outputs s (on_outputs deed s.outputs)) mem.old }
 {
-    if !matches!(deed, OutputsDeed::Keep) {
-        let outputs = Image { octets: &mem[..] }.outputs();
-        save_outputs(on_outputs(deed, outputs), mem);
+    let outputs = Image { octets: &mem[..] }.outputs();
+    match deed {
+        OutputsDeed::Keep => {}
+        OutputsDeed::Publish => save_outputs(on_outputs(OutputsDeed::Publish, outputs), mem),
+        OutputsDeed::HoldBack => save_outputs(on_outputs(OutputsDeed::HoldBack, outputs), mem),
+        OutputsDeed::Release => save_outputs(on_outputs(OutputsDeed::Release, outputs), mem),
+        OutputsDeed::Zeros => save_outputs(on_outputs(OutputsDeed::Zeros, outputs), mem),
     }
 }
 
@@ -55,20 +60,32 @@ fn put_parameters(deed: SetDeed, count: u8, mem: &mut [u8])
     requires { image_length ≤ length mem.old }
     ensures { (s : State) → s.parameters ≡ (unpacked mem.old).parameters → mem.old ≡ kept s mem.old → mem.new ≡ kept (with_parameters s (on_sets deed s.parameters count)) mem.old }
 {
-    if !matches!(deed, SetDeed::Keep) {
-        let parameters = Image { octets: &mem[..] }.parameters();
-        save_parameters(on_sets(deed, parameters, count), mem);
+    let parameters = Image { octets: &mem[..] }.parameters();
+    match deed {
+        SetDeed::Keep => {}
+        SetDeed::Receive => save_parameters(on_sets(SetDeed::Receive, parameters, count), mem),
+        SetDeed::Advance => save_parameters(on_sets(SetDeed::Advance, parameters, count), mem),
+        SetDeed::Drop => save_parameters(on_sets(SetDeed::Drop, parameters, count), mem),
     }
 }
 
-// Of the configuration received. One function for both kinds of sets would be handed the reading and the saving, for this one line.
+// Of the configuration received. One function for both kinds of sets would be handed the reading and the saving.
 fn put_configuration(deed: SetDeed, count: u8, mem: &mut [u8])
     requires { image_length ≤ length mem.old }
     ensures { (s : State) → s.configuration ≡ (unpacked mem.old).configuration → mem.old ≡ kept s mem.old → mem.new ≡ kept (with_configuration s (on_sets deed s.configuration count)) mem.old }
 {
-    if !matches!(deed, SetDeed::Keep) {
-        let configuration = Image { octets: &mem[..] }.configuration();
-        save_configuration(on_sets(deed, configuration, count), mem);
+    let configuration = Image { octets: &mem[..] }.configuration();
+    match deed {
+        SetDeed::Keep => {}
+        SetDeed::Receive => save_configuration(
+            on_sets(SetDeed::Receive, configuration, count),
+            mem,
+        ),
+        SetDeed::Advance => save_configuration(
+            on_sets(SetDeed::Advance, configuration, count),
+            mem,
+        ),
+        SetDeed::Drop => save_configuration(on_sets(SetDeed::Drop, configuration, count), mem),
     }
 }
 
