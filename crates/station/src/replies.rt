@@ -97,13 +97,14 @@ pub fn user_place(swapped: bool) -> u8
 fn header_at(header: Header, ident: u16, i: u8) -> u8
     ensures { result ≡ header_at header ident i }
 {
+    let [high, low] = ident.to_be_bytes();
     match i {
         0 => header.status1,
         1 => header.status2,
         2 => header.status3,
         3 => header.master,
-        4 => (ident / 256) as u8,
-        _ => (ident % 256) as u8,
+        4 => high,
+        _ => low,
     }
 }
 
