@@ -23,8 +23,8 @@ use state::start::no_reply;
 use state::state::Incoming;
 use telegram::reader::{Reader, Status};
 
-// A data octet into the fill buffer of the set that the header names. Written beside `store_data`, which has all places in the state: no set
-// but the named one is read here.
+// A data octet into the fill buffer of the set that the header names; no other set is read. Written beside `store_data`, which has the places
+// in the state: one function of both would take three closures that read them, and be no plainer.
 #[tactic(auto, using(steps::proofs::Holding::holds_safe, crate::proofs::StoredOverMemory::outputs_in, crate::proofs::StoredOverMemory::parameters_in, crate::proofs::StoredOverMemory::configuration_in))]
 fn store_received(mem: &mut [u8], k: u8, b: u8)
     requires { Holds mem.old (unpacked mem.old) }

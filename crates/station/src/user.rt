@@ -165,7 +165,8 @@ pub fn judge_parameters(mem: &mut [u8], judgement: u32) -> Answer
     Ok(u32::from(waits))
 }
 
-// Judge configuration: likewise, and not before good parameters.
+// Judge configuration: likewise, and not before good parameters. Its set, test and outcome are its own; one function of both would take them as
+// closures, and be no plainer.
 pub fn judge_configuration(mem: &mut [u8], judgement: u32) -> Answer
     requires { Holds mem.old (unpacked mem.old) }
     ensures { Meets (packed mem.old (judge_configuration (unpacked mem.old) mem.old judgement)) result mem.new }
