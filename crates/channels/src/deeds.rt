@@ -1,4 +1,5 @@
 // What becomes of a channel. A request is open, so that the channel is occupied, exactly if the indication's count is not 0.
+// The functions that write ask for the rows one by one: a type over &mut would need a clause in each that the reference stays the same.
 ghost use Rattle.std.specs.Prelude.{◌≡◌, ◌+◌, ◌<◌, ◌≤◌, length};
 ghost use Rattle.channels.specs.Image.{channels, rows_end};
 ghost use Rattle.channels.specs.Deeds.{is_open, is_given, takes_response, is_set_up, filled, responded, freed, channel_in, filled_in, freed_in, responded_in, emptied};

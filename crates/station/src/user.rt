@@ -42,10 +42,9 @@ pub fn take_outputs(mem: &mut [u8]) -> Answer
 }
 
 // Kind 2 or 3 with no set shown or at an index not below its count, kind 5 while a new diagnosis is delayed.
-fn absent(held: Held, kind: Octets, index: u32) -> bool
-    ensures { result ≡ absent (unpacked held.entry.image.octets.now) (kind_number kind) index }
+fn absent(image: Image, kind: Octets, index: u32) -> bool
+    ensures { result ≡ absent (unpacked image.entry.octets.now) (kind_number kind) index }
 {
-    let image = held.image;
     match kind {
         Octets::Parameters => u32::from(image.parameters().shown) <= index,
         Octets::Configuration => u32::from(image.configuration().shown) <= index,
@@ -55,10 +54,9 @@ fn absent(held: Held, kind: Octets, index: u32) -> bool
 }
 
 // Where the octets of a kind begin.
-fn kind_at(held: Held, kind: Octets) -> usize
-    ensures { result ≡ kind_at (unpacked held.entry.image.octets.now) (kind_number kind) }
+fn kind_at(image: Image, kind: Octets) -> usize
+    ensures { result ≡ kind_at (unpacked image.entry.octets.now) (kind_number kind) }
 {
-    let image = held.image;
     let setup = image.setup();
     match kind {
         Octets::Outputs => outputs_at(setup, image.outputs().set.held()),
@@ -73,13 +71,14 @@ fn kind_at(held: Held, kind: Octets) -> usize
 pub fn read_octet(held: Held, kind: u32, index: u32) -> Answer
     ensures { Tells (read_octet (unpacked held.entry.image.octets.now) held.entry.image.octets.now kind index) result (unpacked held.entry.image.octets.now) held.entry.image.octets.now }
 {
-    let Some(octets) = addressed(held.image.setup(), kind, index) else {
+    let image = held.image;
+    let Some(octets) = addressed(image.setup(), kind, index) else {
         return Err(Refusal::Range);
     };
-    if absent(held, octets, index) {
+    if absent(image, octets, index) {
         return Err(Refusal::Absent);
     }
-    Ok(u32::from(held.image.octets[kind_at(held, octets) + index as usize]))
+    Ok(u32::from(image.octets[kind_at(image, octets) + index as usize]))
 }
 
 // Kinds 4 and 5 are written.
@@ -88,17 +87,16 @@ pub fn write_octet(mem: &mut [u8], kind: u32, index: u32, octet: u8) -> Answer
     ensures { Tells (write_octet (unpacked mem.old) mem.old kind index octet) result (unpacked mem.old) mem.new }
 {
     let image = Image { octets: &mem[..] };
-    let held = Held { image };
     let Some(octets) = addressed(image.setup(), kind, index) else {
         return Err(Refusal::Range);
     };
     if !octets.is_writable() {
         return Err(Refusal::Range);
     }
-    if absent(held, octets, index) {
+    if absent(image, octets, index) {
         return Err(Refusal::Absent);
     }
-    let from = kind_at(held, octets);
+    let from = kind_at(image, octets);
     mem[from + index as usize] = octet;
     Ok(0)
 }

@@ -11,5 +11,5 @@ overflow_add-kind_at c =
     let inside = ∥∥₁_elim c.args.held.holds le_prop (λ h. lies _ c.args.held.image.octets.now _ _ c.setup.ensures c.in-Some.ensures (holds_safe _ _ h) c.kind_at.ensures) in
     omega arith
 
-pub bounds-held-kind_at : goal.bounds-held-kind_at
-bounds-held-kind_at c = ∥∥₁_elim c.args.held.holds le_prop (λ h. lies _ _ _ _ c.setup.ensures c.in-Some.ensures (holds_safe _ _ h) c.kind_at.ensures)
+pub bounds-image-kind_at : goal.bounds-image-kind_at
+bounds-image-kind_at c = ∥∥₁_elim c.args.held.holds le_prop (λ h. lies _ _ _ _ c.setup.ensures c.in-Some.ensures (holds_safe _ _ h) c.kind_at.ensures)
