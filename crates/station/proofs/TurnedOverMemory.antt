@@ -92,6 +92,20 @@ unflagged r b bad g e = go (takes_data r) refl
     go true f = no_true (ap (λ (x : Bool). is_inside (status (reader_after r b x))) (sym (g f)) ∙ e)
     go false f = f
 
+and_not : (x y t : Bool) → (y ≡ true → t ≡ false) → (x && y) ≡ (x && y && not t)
+and_not true true t h = sym (ap not (h refl))
+and_not true false t h = refl
+and_not false y t h = refl
+
+-- what is no good data is plain if it is inner
+pub inner_plain : (m : List ℕ) (i : Incoming) (b : ℕ) (bad : Bool) (next : Reader) → (takes_data (unpacked m).incoming.reader ≡ true → bad ≡ true)
+    → i ≡ (unpacked m).incoming → next ≡ reader_after i.reader b bad → (is_inside (status i.reader) && is_inside (status next)) ≡ is_plain i.reader next
+inner_plain m i b bad next flagged same goes =
+    and_not (is_inside (status i.reader)) (is_inside (status next)) (takes_data i.reader)
+    (λ inner.
+    unflagged i.reader b bad (λ t. flagged ((λ j. takes_data (sym same j).reader) ∙ t))
+    (ap (λ (x : Reader). is_inside (status x)) (sym goes) ∙ inner))
+
 -- by the tests as the code makes them: neither plain nor good data
 pub turning : (m : List ℕ) (i : Incoming) (b : ℕ) (bad : Bool) (next : Reader) (y : Status) → Holds m (unpacked m)
     → (takes_data (unpacked m).incoming.reader ≡ true → bad ≡ true) → i ≡ (unpacked m).incoming → next ≡ reader_after i.reader b bad → (plain : Bool)

@@ -1,8 +1,8 @@
 // The bus's octet over the memory that holds the state: an octet reads and writes only the parts of the state that it needs.
 // Every step leaves the memory as the step on the unpacked state (`reading`) would leave it, packed again.
 // Holds is asked of a plain &mut [u8]: it is broken between two saves, and that it holds again is shown above (agreement).
-ghost use Rattle.std.specs.Prelude.{◌≡◌, ℕ, ◌≤◌, true, false, length};
-ghost use Rattle.telegram.specs.Reading.{takes_data};
+ghost use Rattle.std.specs.Prelude.{◌≡◌, ℕ, ◌≤◌, true, false, ◌&&◌, length};
+ghost use Rattle.telegram.specs.Reading.{status, takes_data};
 ghost use Rattle.state.specs.Layout.{image_length};
 ghost use Rattle.state.specs.Memory.{Holds, Changes};
 ghost use Rattle.state.specs.Start.{no_reply};
@@ -10,7 +10,8 @@ ghost use Rattle.state.specs.Unpack.{unpacked};
 ghost use Rattle.state.specs.With.{with_incoming, with_reply};
 ghost use Rattle.steps.specs.Stepped.{packed_after};
 ghost use Rattle.steps.specs.Reading.{stored_data, heard_as, heard};
-ghost use Rattle.station.specs.Hearing.{is_plain, Turns};
+ghost use Rattle.steps.specs.Line.{is_inside};
+ghost use Rattle.station.specs.Hearing.{Turns};
 
 use crate::completing::complete;
 use crate::reading::{is_ignored, read_on};
@@ -66,11 +67,11 @@ fn hear_data(mem: &mut [u8], b: u8)
     keep_octet(k, b, mem);
 }
 
-// Whether an octet is inner and no data, by the reader before it and after it.
-fn is_plain(reader: Reader, next: Reader) -> bool
-    ensures { result ≡ is_plain reader next }
+// Whether an octet is inner, by the reader before it and after it.
+fn is_inner(reader: Reader, next: Reader) -> bool
+    ensures { result ≡ (is_inside (status reader) && is_inside (status next)) }
 {
-    is_inside(reader.status()) & is_inside(next.status()) & !reader.takes_data()
+    is_inside(reader.status()) & is_inside(next.status())
 }
 
 // The telegram that is coming, with an unfinished reply dropped.
@@ -115,7 +116,7 @@ fn hear_other(mem: &mut [u8], b: u8, bad: bool)
         return;
     }
     let next = reader.receive(b, bad);
-    if is_plain(reader, next) {
+    if is_inner(reader, next) {
         save_incoming(read_on(old, next), mem);
         return;
     }

@@ -34,7 +34,8 @@ pub fn is_well(mem: &[u8]) -> bool
     holds_state(mem)
 }
 
-// Refused where the memory is damaged.
+// Refused where the memory is damaged. Taken in where it is called, so that the refusal is no value there but a way of its own.
+#[inline(always)]
 pub fn checked(mem: &[u8]) -> Result<(), Refusal>
     ensures well { OnOk result (well_memory mem.now ≡ true) }
     ensures damaged { IfErr result (λ why. (why ≡ Damaged) × (well_memory mem.now ≡ false)) }
