@@ -129,9 +129,9 @@ pub fn hear_octet(mem: &mut [u8], b: u8, bad: bool)
     ensures { mem.new ≡ packed_after (heard (unpacked mem.old) mem.old b bad) }
 {
     let data = Image { octets: &mem[..] }.takes_data();
-    if data & !bad {
-        hear_data(mem, b);
+    if bad | !data {
+        hear_other(mem, b, bad);
         return;
     }
-    hear_other(mem, b, bad);
+    hear_data(mem, b);
 }
