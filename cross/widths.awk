@@ -148,7 +148,7 @@ BEGIN {
     var = "%[A-Za-z0-9._]+"
     pair = "[{] " type ", " type " [}]"
     value = "(" var "|-?[0-9]+|true|false)"
-    name = "@(\"[a-z0-9_]+(::[A-Za-z0-9_]+)+\"|dp_[a-z_]+|llvm[.]memmove[.]p0[.]p0[.]i64|llvm[.]cttz[.]" type ")"
+    name = "@(\"[a-z0-9_]+(::[^\"]+)+\"|dp_[a-z_]+|llvm[.]memmove[.]p0[.]p0[.]i64|llvm[.]cttz[.]" type ")"
     given = "(ptr " var "|" type " " value ")"
     wanted = "(ptr|" type ")( noundef| zeroext)* " var
     aligned = ", ptr " var ", align [0-9]+"
@@ -172,7 +172,7 @@ BEGIN {
     inner[++inners] = "^  (\\]|unreachable|ret void|ret " type " " value "|ret " pair " " var ")$"
 
     outer[++outers] = "^(}|;.*)?$"
-    outer[++outers] = "^[A-Za-z0-9._]+:( +; preds = .*)?$"
+    outer[++outers] = "^[A-Za-z0-9._]+:( +; (preds = .*|No predecessors!))?$"
     outer[++outers] = "^(source_filename|target datalayout|target triple) = \"[^\"]*\"$"
     outer[++outers] = "^define (internal )?(noundef |zeroext )*(void|" type "|" pair ") " name \
         "\\((" wanted "(, " wanted ")*)?\\) #[0-9]+ {$"
@@ -213,7 +213,7 @@ function check_ends(n, callee,    list, count, i) {
 
 function check_calls(    n, callee) {
     for (n in called) {
-        callee = substr(called[n], 1, index(called[n], "("))
+        callee = name_in(called[n])
         if (!(callee in defined)) tell(n, "a function that is not the module's is called")
         else if (called[n] != callee defined[callee]) tell(n, "a call with other types than the function's")
     }
