@@ -54,7 +54,8 @@ pub fn exchange(memory: &mut [u8], first: &[u8], second: &[u8], count: usize) ->
     if !is_well(&memory[..]) {
         return false;
     }
-    let state = Image { octets: &memory[..] }.unpack();
+    let octets = &memory[..];
+    let state = Image { octets }.unpack();
     let held = take_turn(state, memory, first, count);
     let done = take_turn(held, memory, second, count);
     save(done, memory);
