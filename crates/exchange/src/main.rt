@@ -61,6 +61,7 @@ fn print_seen(rt: &impl Print, memory: &mut [u8]) -> io::Result<()> {
 
 // Two Data_Exchange telegrams. The frame count bit alternates, so that none is a repeat.
 const FIRST: &[u8] = b"\x68\x04\x04\x68\x05\x02\x5D\x7A\xDE\x16";
+
 const SECOND: &[u8] = b"\x68\x04\x04\x68\x05\x02\x7D\x7B\xFF\x16";
 
 // Both with count Ticks after each, by the exported calls.

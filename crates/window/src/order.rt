@@ -33,6 +33,10 @@ impl From<u32> for Order {
     ghost from_gives = { λ number order. order ≡ order_of number };
 
     fn from(number: u32) -> Self {
-        if number == 0 { Self::Intel } else { Self::Motorola }
+        if number == 0 {
+            Self::Intel
+        } else {
+            Self::Motorola
+        }
     }
 }
