@@ -1,4 +1,4 @@
-// The station as firmware in C calls it: the memory first, plain numbers, a refusal negated.
+// The station as firmware in C calls it: the memory first, plain numbers, a refusal negated. One function for each call, as C has them.
 #![tactic(auto, using(crate::proofs::Exporting::exported, crate::proofs::Exporting::handed_on, crate::proofs::Exporting::by_call, crate::proofs::Exporting::by_command, crate::proofs::Exporting::by_access))]
 
 ghost use Rattle.std.specs.Prelude.{not, eqb, length};

@@ -1,4 +1,4 @@
-// The exports to C: each is the function of its name in the crate card, and promises what that does.
+// The exports to C: each is the function of its name in the crate card, and promises what that does. C has one name for each.
 #![tactic(auto)]
 
 ghost use Rattle.std.specs.Prelude.{not, eqb, length};

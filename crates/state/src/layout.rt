@@ -43,7 +43,7 @@ fn place_at(base: usize, n: u8, k: u8) -> usize
     base + rounded_up(n) * (k as usize)
 }
 
-// Where output buffer k begins.
+// Where output buffer k begins. One function for each kind of buffers: each lies behind the one before and has a length of its own.
 pub fn outputs_at(s: Setup, k: u8) -> usize
     ensures { result ≡ outputs_at s k }
 {

@@ -183,7 +183,7 @@ pub fn save_parameters(parameters: Sets, mem: &mut [u8])
     mem[59] = parameters.waiting;
 }
 
-// The configuration received: octets 25, 60 and 61.
+// The configuration received: octets 25, 60 and 61. Apart from the parameters: what is promised names another part of the state.
 pub fn save_configuration(configuration: Sets, mem: &mut [u8])
     requires { image_length ≤ length mem.old }
     ensures { Changes mem.old mem.new (λ s. with_configuration s configuration) }

@@ -110,7 +110,8 @@ pub fn well_codes(image: Image) -> bool
     )
 }
 
-// The lengths of a station with outputs, where all of them are short, and the chain, which shares their word.
+// The lengths of a station with outputs, where all of them are short, and the chain, which shares their word. Like the codes one test with
+// limits, but another promise.
 pub fn short_lengths(image: Image) -> bool
     ensures { result ≡ all (short_tests image.entry.octets.now) }
 {

@@ -1,4 +1,5 @@
-// Each call over the one lent memory: refused with 5 where it is damaged, else its step.
+// Each call over the one lent memory: refused with 5 where it is damaged, else its step. One function for each: one that is handed the call
+// would choose among them once more, for every octet.
 #![tactic(auto, using(steps::proofs::Guarded::well_holds), unfolding(steps::specs::Calls::called))]
 
 ghost use Rattle.state.specs.Answer.{Meets};

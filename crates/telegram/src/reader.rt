@@ -224,6 +224,7 @@ impl Reader {
         self.summed(b, after_fc(self.da))
     }
 
+    // Apart from on_ssap: a field is no parameter.
     fn on_dsap(mut self, b: u8) -> Reader
         ensures { result ≡ step_at Phase.Dsap self b }
     {

@@ -161,7 +161,8 @@ impl Sender {
         self.onto(Stage::End)
     }
 
-    // On to another stage, with the octet added to the checksum.
+    // On to another stage, with the octet added to the checksum. This and `give` are all that a sender and a reader have in common: a trait
+    // for both would be longer.
     fn adding(self, octet: u8, stage: Stage) -> Sender
         ensures { result ≡ adding self octet stage }
     {
