@@ -14,7 +14,7 @@ tell 1c "kinds, judgements and orders as plain numbers in a signature" "$(cat $s
 tell 1d "functions from an enum's case to a number or back" "$(cat $src | grep -cE 'fn (number_of|number|code|[a-z]+_number(ed)?)\(.*(case|point|self: |n: u8\) -> [A-Za-z:]*(Phase|Kind|Stage|Drawn))')"
 tell 2 "groups of functions alike but for names, types and numbers" "$(python3 tools/twins.py | grep -vc groups)"
 tell 3 "loops that count by hand: while, and for over the indices of a slice" \
-    "$(cat $src | grep -cE '^ *while |for [a-z_]+ in [^{]*\.\.[a-z_.]*(len\(\)|to|end|count) *\{')"
+    "$(cat $src | grep -cE '^ *while |for [a-z][a-z_]* in [^{]*\.\.[a-z_.]*(len\(\)|to|end|count) *\{')"
 tell 4a "equality by cases" "$(cat $src | grep -cE '=> (true|false),$')"
 tell 4b "conversions by hand" \
     "$(cat $src | grep -cE 'std::num::wrapping_|fn (wide|one|bit|low|high|join|join_half|own_place|user_place|new_number|waited_number)\(')"

@@ -71,7 +71,7 @@ impl Events {
         self
     }
 
-    // The smallest number of a set event, or COUNT for none.
+    // The smallest number of a set event, or COUNT for none: what the call answers.
     pub fn pending(self) -> u8
         ensures { result ≡ pending_of self }
     {

@@ -10,7 +10,7 @@ use crate::state::Drawn;
 pub struct Chain {
     // the number of what it drew, doubled, and its frame count bit
     pub code: u8,
-    // the address of the master that sent it, or NO_MASTER
+    // the address of the master that sent it, or NO_MASTER: an octet, as the image has it
     pub master: u8,
 }
 

@@ -38,7 +38,8 @@ pub struct Modes {
     pub freeze_allowed: bool,
 }
 
-// How many octets diagnosis has, and a new diagnosis that is delayed: its count, 0 where none is, and its flags.
+// How many octets diagnosis has, and a new diagnosis that is delayed: its count, 0 where none is, and its flags. Here and below an octet stands
+// for none and no Option: it is what the image has and, of the owner, what diagnosis shows.
 #[derive(Clone, Copy, Default)]
 pub struct Diagnosis {
     pub count: u8,

@@ -13,7 +13,8 @@ pub struct Outputs {
     pub zeros: bool,
 }
 
-// Received sets of parameters or of configuration: the count of the set that is shown and of the one that waits, 0 for none.
+// Received sets of parameters or of configuration: the count of the set that is shown and of the one that waits, 0 for none, as the image has
+// them.
 #[derive(Clone, Copy)]
 pub struct Sets {
     pub set: Triple,

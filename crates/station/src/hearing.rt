@@ -17,6 +17,7 @@ use crate::completing::complete;
 use crate::reading::{is_ignored, read_on};
 use outcomes::line::is_inside;
 use outcomes::settling::settle_over;
+use points::Point;
 use state::layout::{configuration_at, outputs_at, parameters_at};
 use state::load::Image;
 use state::saving::{keep_octet, save_incoming, save_read, save_reply};
@@ -40,13 +41,13 @@ fn store_received(mem: &mut [u8], k: u8, b: u8)
         octets::store_at(mem, from, setup.output_len as usize, k as usize, b);
         return;
     }
-    if incoming.reader.dsap == 61 {
+    if incoming.reader.dsap == Point::SetPrm as u8 {
         let parameters = image.parameters();
         let from = parameters_at(setup, parameters.set.fill());
         octets::store_at(mem, from, setup.parameter_len as usize, k as usize, b);
         return;
     }
-    if incoming.reader.dsap == 62 {
+    if incoming.reader.dsap == Point::ChkCfg as u8 {
         let configuration = image.configuration();
         let from = configuration_at(setup, configuration.set.fill());
         octets::store_at(mem, from, setup.configuration_len as usize, k as usize, b);

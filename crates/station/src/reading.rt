@@ -15,6 +15,7 @@ ghost use Rattle.steps.specs.Reading.{stored_data, kept_octets, stored_as, read_
 use crate::replies::reply_for;
 use outcomes::carry::{carry_out, is_open, settle};
 use outcomes::line::begun;
+use points::Point;
 use rules::outcome::Outcome;
 use rules::request::{Data, Occupied, Prm, Request};
 use rules::requests::{master_of, service_of};
@@ -37,12 +38,12 @@ fn store_data(s: State, mem: &mut [u8], k: u8, b: u8)
         octets::store_at(mem, from, setup.output_len as usize, k as usize, b);
         return;
     }
-    if reader.dsap == 61 {
+    if reader.dsap == Point::SetPrm as u8 {
         let from = parameters_at(setup, s.parameters.set.fill());
         octets::store_at(mem, from, setup.parameter_len as usize, k as usize, b);
         return;
     }
-    if reader.dsap == 62 {
+    if reader.dsap == Point::ChkCfg as u8 {
         let from = configuration_at(setup, s.configuration.set.fill());
         octets::store_at(mem, from, setup.configuration_len as usize, k as usize, b);
     }

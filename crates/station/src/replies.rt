@@ -8,6 +8,7 @@ ghost use Rattle.state.specs.declared.state.State.{State};
 ghost use Rattle.state.specs.Unpack.{unpacked};
 ghost use Rattle.steps.specs.Replies.{servicing, exchange_sender, sender_for, reply_for, own_place, user_place, header_at, content_at, reply_point, datum_at, asked_for};
 
+use points::Point;
 use rules::diagnosis::header_of;
 use rules::replies::{exchange_fc, is_exchange};
 use state::control::Control;
@@ -179,10 +180,10 @@ fn reply_point(drawn: Drawn) -> u8
     ensures { result ≡ reply_point drawn }
 {
     match drawn {
-        Drawn::Inputs => 56,
-        Drawn::Outputs => 57,
-        Drawn::Configuration => 59,
-        Drawn::Diagnosis => 60,
+        Drawn::Inputs => Point::ReadInputs as u8,
+        Drawn::Outputs => Point::ReadOutputs as u8,
+        Drawn::Configuration => Point::GetCfg as u8,
+        Drawn::Diagnosis => Point::SlaveDiag as u8,
         _ => 0,
     }
 }
