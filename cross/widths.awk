@@ -148,7 +148,7 @@ BEGIN {
     var = "%[A-Za-z0-9._]+"
     pair = "[{] " type ", " type " [}]"
     value = "(" var "|-?[0-9]+|true|false)"
-    name = "@(\"[a-z0-9_]+(::[^\"]+)+\"|dp_[a-z_]+|llvm[.]memmove[.]p0[.]p0[.]i64|llvm[.]cttz[.]" type ")"
+    name = "@(\"[a-z0-9_]+(::[^\" ]+)+\"|dp_[a-z_]+|llvm[.]memmove[.]p0[.]p0[.]i64|llvm[.]cttz[.]" type ")"
     given = "(ptr " var "|" type " " value ")"
     wanted = "(ptr|" type ")( noundef| zeroext)* " var
     aligned = ", ptr " var ", align [0-9]+"

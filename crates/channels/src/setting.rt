@@ -9,7 +9,7 @@ use crate::survey;
 use octets::rounded_up;
 
 // Whether there are 32 octets, and every channel's lengths are allowed.
-// A loop over numbers here and below, not one over pairs: an iterator keeps addresses beside numbers (cross/widths.awk refuses that).
+// A loop over numbers here and below, not one over pairs: an iterator over pairs keeps addresses beside numbers (cross/widths.awk refuses that).
 pub fn lengths_ok(lengths: &[u8]) -> bool
     ensures { result ≡ lengths_ok lengths.now }
 {

@@ -11,8 +11,7 @@ use crate::channel::{
 };
 use ranges::{checks, word};
 
-// Both lengths of a channel: 0 and 0, or each 4 to 240.
-// Not a range's `contains`: the check of the library's module knows no generic function's name (cross/widths.awk).
+// Both lengths of a channel: 0 and 0, or each 4 to 240. By comparisons: with a range's `contains` the proof does not close by itself.
 pub fn lengths_ok(a: u8, b: u8) -> bool
     ensures { result ≡ lengths_test a b }
 {

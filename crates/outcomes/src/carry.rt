@@ -1,5 +1,5 @@
 // An outcome of the rules carried out on the state and the buffers, and what waits for the end of the line's business.
-// Safe is asked in each function here: a type over &mut would need a clause in each that the reference stays the same.
+// Safe is asked in each function here that changes buffers: a type over &mut would need a clause in each that the reference stays the same.
 #![tactic(auto, using(crate::proofs::NextRoom::next_room, steps::proofs::NothingWaits::unsettled), unfolding(steps::specs::Outcome::carried, steps::specs::Outcome::after_reply, steps::specs::Outcome::settle))]
 
 ghost use Rattle.std.specs.Prelude.{◌+◌, ◌≤◌, ◌≡◌, length, replicate};
@@ -27,6 +27,7 @@ pub fn is_open(s: Sets) -> bool
     s.shown != 0
 }
 
+// What a deed makes of the output set,
 pub fn on_outputs(deed: OutputsDeed, o: Outputs) -> Outputs
     ensures { result ≡ on_outputs deed o }
 {
@@ -51,6 +52,7 @@ pub fn on_outputs(deed: OutputsDeed, o: Outputs) -> Outputs
     }
 }
 
+// of the input set, where something new waits,
 pub fn on_inputs(deed: InputsDeed, t: Triple) -> Triple
     ensures { result ≡ on_inputs deed t }
 {
@@ -78,6 +80,7 @@ fn received_set(s: Sets, count: u8) -> Sets
     }
 }
 
+// and of received sets; count: of the data received.
 pub fn on_sets(deed: SetDeed, s: Sets, count: u8) -> Sets
     ensures { result ≡ on_sets deed s count }
 {

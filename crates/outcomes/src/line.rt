@@ -12,6 +12,7 @@ use state::load::Image;
 use state::state::{Reply, State};
 use telegram::reader::Status;
 
+// A telegram is begun and unfinished, by what the octets tell.
 pub fn is_inside(status: Status) -> bool
     ensures { result ≡ is_inside status }
 {
@@ -46,14 +47,14 @@ fn sends_diagnosis(reply: Reply) -> bool
     is_diagnosis(reply.drawn) & reply.sender.left()
 }
 
-// The same over the state,
+// The same, over the state.
 pub fn diagnosis_leaves(s: State) -> bool
     ensures { result ≡ diagnosis_leaves s }
 {
     sends_diagnosis(s.reply)
 }
 
-// and over the memory.
+// The same, over the memory.
 pub fn diagnosis_leaves_in(image: Image) -> bool
     ensures { result ≡ diagnosis_leaves (unpacked image.entry.octets.now) }
 {

@@ -50,8 +50,8 @@ fn clear_noted_in(mem: &mut [u8])
 {
     let image = Image { octets: &mem[..] };
     if image.noted() & !busy_in(image) {
-        let control = clearing(image.control());
-        carry_over(mem, control, 0);
+        let outcome = clearing(image.control());
+        carry_over(mem, outcome, 0);
     }
 }
 

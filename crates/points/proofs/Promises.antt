@@ -1,11 +1,10 @@
 -- Answers that keep the lookup's promise, and what the promise says to a caller.
 use Prim.Native.Nat.{ℕ}
 use mathlib.Core.Path.{◌≡◌, refl, sym, ap, subst, ◌∙◌}
-use lib.ListN.{length}
 use Rattle.std.specs.Prelude.{Option, Some, None}
 use Rattle.points.specs.declared.Point.{Point}
 use Rattle.points.specs.declared.Lookup.{Lookup}
-use Rattle.points.specs.Points.{number_of, table, Stands}
+use Rattle.points.specs.Points.{number_of, Stands}
 use Rattle.points.specs.Lookup.{Promised, OneAnswer}
 use Rattle.points.proofs.EachOnce.{place_of, stands, each_once}
 
@@ -37,13 +36,6 @@ promised_hit dsap p k s =
         λ t. let same = each_once.once dsap p q k j s t in ap (λ r. found_at r k) same.0 ∙ ap (found_at q) same.1,
       );
       none = (λ e. absurd (hit_is_not_none p k _ e), λ absent. absurd (absent p k s));
-    }
-
-pub promised_none : (dsap : ℕ) {n : ℕ} → length table ≡ n → ((p : Point) (k : ℕ) → ¬ Stands dsap p k) → Promised dsap (none_after n)
-promised_none dsap all absent =
-    record {
-      hit = λ q j. (λ e. absurd (hit_is_not_none q j _ (sym e)), λ t. absurd (absent q j t));
-      none = (λ e. absent, λ a. ap none_after (sym all));
     }
 
 -- the point found has the number that was looked for

@@ -30,7 +30,7 @@ pub fn is_exchange(drawn: Drawn) -> bool
     matches!(drawn, Drawn::Exchange)
 }
 
-// A Slave_Diag's.
+// The reply to Slave_Diag.
 pub fn is_diagnosis(drawn: Drawn) -> bool
     ensures { result ≡ diagnoses drawn }
 {

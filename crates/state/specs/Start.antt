@@ -38,7 +38,7 @@ given address ident outputs inputs parameters configuration diagnosis n =
       get_cfg_len = n;
     }
 
--- the same of the numbers in one
+-- what Start is given, its numbers in one value, as it is kept
 abbrev pub given_by : Given → ℕ → Setup
 given_by g n = given g.address g.ident g.output_len g.input_len g.parameter_len g.configuration_len g.diagnosis_len n
 

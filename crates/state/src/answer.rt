@@ -29,6 +29,7 @@ impl Refusal {
     }
 }
 
+// A value, or why the call is refused.
 pub type Answer = Result<u32, Refusal>;
 
 // As the firmware gets it: a value as itself, a refusal's number negated.

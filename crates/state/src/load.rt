@@ -75,7 +75,7 @@ fn sets_in(mem: &[u8], k: usize, i: usize) -> Sets
     }
 }
 
-// The front of a memory that is long enough for the state part.
+// A memory that is long enough for the image of a state, to read.
 #[derive(Clone, Copy)]
 pub struct Image<'a> {
     pub octets: &'a [u8],

@@ -8,7 +8,7 @@ use crate::state::Drawn;
 use telegram::sender::Stage;
 use telegram::{Kind, reader};
 
-// An enum whose cases are numbered from 0, in their order.
+// An enum whose cases are numbered from 0, in their order: one law for both functions of each.
 pub trait Numbered: Copy {
     ghost number_of: { Self → ℕ };
 

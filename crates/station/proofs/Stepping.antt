@@ -1,7 +1,6 @@
 -- A call's step as the code makes it: one that only answers, and one that writes an octet.
 use Rattle.std.specs.Prelude.{Ok, Err}
-use Rattle.std.proofs.Common.{◌≡◌, ℕ, List, take, refl, sym, ap, ◌∙◌, subst}
-use Rattle.state.specs.declared.state.State.{State}
+use Rattle.std.proofs.Common.{◌≡◌, ℕ, List, take, refl, ap, ◌∙◌, subst}
 use Rattle.state.specs.Answer.{Answer, Meets}
 use Rattle.state.specs.Layout.{image_length}
 use Rattle.state.specs.Memory.{kept, Holds}
@@ -13,10 +12,6 @@ use Rattle.steps.specs.Step.{step_over, packed, packed_as}
 use Rattle.steps.proofs.Holding.{holds_safe, step_whole}
 use Rattle.state.proofs.Damage.{fronted, fronted_same}
 use Rattle.station.proofs.KindsInMemory.{written_front}
-
--- the state that the code unpacked
-pub holding : (m : List ℕ) (s : State) → Holds m (unpacked m) → s ≡ unpacked m → Holds m s
-holding m s h e = subst (Holds m) (sym e) h
 
 -- the state stands in front of the memory as it is
 pub still : {m : List ℕ} → Holds m (unpacked m) → m ≡ kept (unpacked m) m

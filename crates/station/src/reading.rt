@@ -1,5 +1,5 @@
 // The bus's octet: a telegram's data goes into the fill buffer that its header names, as it comes.
-// Safe is asked in each function here: a type over &mut would need a clause in each that the reference stays the same.
+// Safe is asked in each function here that changes buffers: a type over &mut would need a clause in each that the reference stays the same.
 #![tactic(auto, using(crate::proofs::StoredOverMemory::outputs_in, crate::proofs::StoredOverMemory::parameters_in, crate::proofs::StoredOverMemory::configuration_in, steps::proofs::KeepsSafe::prm_room, steps::proofs::KeepsSafe::safe_steps, steps::proofs::KeepsSafe::safe_completed), unfolding(steps::specs::Reading::outcome_of, steps::specs::Reading::answered, steps::specs::Reading::heard))]
 
 ghost use Rattle.std.specs.Prelude.{◌≡◌, ◌+◌, ◌≤◌, true, false, length};
@@ -168,9 +168,8 @@ fn answer(s: State, mem: &mut [u8], o: Outcome, r: Request) -> State
     requires { Safe s mem.old }
     ensures { Steps (answered s mem.old o r) result mem.new }
 {
-    let drawn = o.drawn;
     let mut t = carry_out(s, mem, o, r.count);
-    t.reply = reply_for(drawn, t, master_of(r));
+    t.reply = reply_for(o.drawn, t, master_of(r));
     t
 }
 
@@ -262,8 +261,7 @@ pub fn hear(s: State, mem: &mut [u8], b: u8, bad: bool) -> State
     if bad {
         return hear_any(s, mem, b, true);
     }
-    let reader = s.incoming.reader;
-    if reader.takes_data() {
+    if s.incoming.reader.takes_data() {
         return hear_datum(s, mem, b);
     }
     hear_any(s, mem, b, false)

@@ -13,7 +13,6 @@ use rules::diagnosis::header_of;
 use rules::replies::{exchange_fc, is_exchange};
 use state::control::Control;
 use state::layout::{diagnosis_at, get_cfg_at, inputs_at, outputs_at};
-use state::load::Image;
 use state::memory::Held;
 use state::setup::Setup;
 use state::state::{Drawn, Header, Reply, State};

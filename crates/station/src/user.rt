@@ -1,5 +1,5 @@
 // The calls of the vat program over the memory that holds the state: each reads and writes the parts that it needs.
-// Holds is asked of a plain &mut [u8]: it is broken between two saves, and that it holds again is shown above (agreement).
+// Holds is asked of a plain &mut [u8]: it is broken between two saves, and that it holds again is no promise of a step but a theorem (steps/proofs/StaysUndamaged.antt).
 #![tactic(auto, using(crate::proofs::Stepping::still), unfolding(steps::specs::User::take_outputs, steps::specs::User::read_octet, steps::specs::User::write_octet, steps::specs::User::hand_over, steps::specs::User::new_diagnosis, steps::specs::User::judge_parameters, steps::specs::User::judge_configuration, steps::specs::User::acknowledge_events))]
 
 ghost use Rattle.std.specs.Prelude.{◌≡◌, true, false, eqb, leb, IfOk, IfErr};
@@ -72,13 +72,13 @@ pub fn read_octet(held: Held, kind: u32, index: u32) -> Answer
     ensures { Tells (read_octet (unpacked held.entry.image.octets.now) held.entry.image.octets.now kind index) result (unpacked held.entry.image.octets.now) held.entry.image.octets.now }
 {
     let image = held.image;
-    let Some(octets) = addressed(image.setup(), kind, index) else {
+    let Some(kind) = addressed(image.setup(), kind, index) else {
         return Err(Refusal::Range);
     };
-    if absent(image, octets, index) {
+    if absent(image, kind, index) {
         return Err(Refusal::Absent);
     }
-    Ok(u32::from(image.octets[kind_at(image, octets) + index as usize]))
+    Ok(u32::from(image.octets[kind_at(image, kind) + index as usize]))
 }
 
 // Kinds 4 and 5 are written.
@@ -87,16 +87,16 @@ pub fn write_octet(mem: &mut [u8], kind: u32, index: u32, octet: u8) -> Answer
     ensures { Tells (write_octet (unpacked mem.old) mem.old kind index octet) result (unpacked mem.old) mem.new }
 {
     let image = Image { octets: &mem[..] };
-    let Some(octets) = addressed(image.setup(), kind, index) else {
+    let Some(kind) = addressed(image.setup(), kind, index) else {
         return Err(Refusal::Range);
     };
-    if !octets.is_writable() {
+    if !kind.is_writable() {
         return Err(Refusal::Range);
     }
-    if absent(image, octets, index) {
+    if absent(image, kind, index) {
         return Err(Refusal::Absent);
     }
-    let from = kind_at(image, octets);
+    let from = kind_at(image, kind);
     mem[from + index as usize] = octet;
     Ok(0)
 }

@@ -115,6 +115,7 @@ impl Reader {
         self.summed(b, Phase::Body)
     }
 
+    // The reader after an octet that was well received.
     pub fn step(self, b: u8) -> Reader
         ensures { result ≡ reader_step self b }
     {

@@ -1,7 +1,6 @@
 -- What is behind an entry, over a memory: refused where the memory is damaged.
-use Rattle.std.specs.Prelude.{Err}
 use Prim.Native.Nat.{ℕ}
-use mathlib.Core.Path.{◌≡◌, refl, sym, ap, ◌∙◌}
+use mathlib.Core.Path.{◌≡◌, refl, ap, ◌∙◌}
 use mathlib.Core.Bool.{Bool, true, false, cond}
 use mathlib.Core.List.{List}
 use Rattle.state.specs.declared.answer.Refusal.TheVariants.{Damaged}
