@@ -2,7 +2,7 @@
 // becomes of the buffers, and what is drawn. No buffer and no memory here.
 #![tactic(auto)]
 
-pub mod bits;
+mod bits;
 pub mod diagnosis;
 pub mod kinds;
 pub mod line;

@@ -85,7 +85,7 @@ pub fn entering_wait_prm(control: Control, drawn: Drawn) -> Outcome
 }
 
 // A fault of the parameters: Prm_Fault, WAIT_PRM. Not one function with cfg_fault: a field is no parameter.
-pub fn prm_fault(mut control: Control, drawn: Drawn) -> Outcome
+pub(crate) fn prm_fault(mut control: Control, drawn: Drawn) -> Outcome
     ensures { result ≡ entering_wait_prm (with_flags control (with_prm_fault control.flags)) drawn }
 {
     control.flags.prm_fault = true;
@@ -93,7 +93,7 @@ pub fn prm_fault(mut control: Control, drawn: Drawn) -> Outcome
 }
 
 // A fault of the configuration: Cfg_Fault, WAIT_PRM.
-pub fn cfg_fault(mut control: Control, drawn: Drawn) -> Outcome
+pub(crate) fn cfg_fault(mut control: Control, drawn: Drawn) -> Outcome
     ensures { result ≡ entering_wait_prm (with_flags control (with_cfg_fault control.flags)) drawn }
 {
     control.flags.cfg_fault = true;

@@ -22,7 +22,7 @@ pub fn master_of(r: Request) -> u8
 }
 
 // Functions 4 and 6: send without acknowledgement.
-pub fn wants_none(r: Request) -> bool
+pub(crate) fn wants_none(r: Request) -> bool
     ensures { result ≡ wants_none r }
 {
     let function = r.fc % 16;

@@ -9,7 +9,7 @@ use crate::state::{Outputs, State};
 use buffers::triple::Triple;
 
 // The octets of a word, low first.
-pub fn word_octets(x: u16) -> [u8; 2]
+pub(crate) fn word_octets(x: u16) -> [u8; 2]
     ensures { result ≡ x % 256 ∷ x / 256 ∷ [] }
 {
     x.to_le_bytes()

@@ -1,5 +1,6 @@
 // Each call over the one lent memory: refused with 5 where it is damaged, else its step. One function for each: one that is handed the call
 // would choose among them once more, for every octet.
+// Kinds and judgements come as the numbers that the vat program gives: what is none of them is refused in its turn, behind the damage check.
 #![tactic(auto, using(steps::proofs::Guarded::well_holds), unfolding(steps::specs::Calls::called))]
 
 ghost use Rattle.state.specs.Answer.{Meets};

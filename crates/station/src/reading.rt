@@ -124,7 +124,7 @@ pub fn prm_at(mem: &[u8], from: usize) -> Prm
 }
 
 // All data octets that the rules look at, by the parts of any state: those of Set_Prm stand in the parameters' fill buffer.
-pub fn data_in(mem: &[u8], setup: Setup, incoming: Incoming, parameters: Sets) -> Data
+pub(crate) fn data_in(mem: &[u8], setup: Setup, incoming: Incoming, parameters: Sets) -> Data
     requires { parameters_at setup (fill_of parameters.set.place) + 8 ≤ length mem.now }
     ensures { (s : State) → s.setup ≡ setup → s.incoming ≡ incoming → s.parameters ≡ parameters → result ≡ data_in s mem.now }
 {
@@ -136,7 +136,7 @@ pub fn data_in(mem: &[u8], setup: Setup, incoming: Incoming, parameters: Sets) -
 }
 
 // Which buffers are occupied, by the parts of any state.
-pub fn occupied(parameters: Sets, configuration: Sets, outputs: Outputs) -> Occupied
+pub(crate) fn occupied(parameters: Sets, configuration: Sets, outputs: Outputs) -> Occupied
     ensures { (s : State) → s.parameters ≡ parameters → s.configuration ≡ configuration → s.outputs ≡ outputs → result ≡ occupied s }
 {
     Occupied {
@@ -185,7 +185,7 @@ fn complete(s: State, mem: &mut [u8], reader: Reader) -> State
 }
 
 // The reader goes on, and an unfinished reply is dropped: so by a beginning.
-pub fn drop_reply(s: State, reader: Reader) -> State
+pub(crate) fn drop_reply(s: State, reader: Reader) -> State
     ensures { result ≡ beginning s reader }
 {
     let mut t = read_by(s, reader);
