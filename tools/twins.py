@@ -13,7 +13,7 @@ KEPT = set("if else match let mut return for while in fn self Self true false as
 
 def functions(text):
     """Name and body of every function; a clause in braces between the two is left out."""
-    for head in re.finditer(r"^ *(?:pub )?(?:extern \"C\" )?fn ([a-z_0-9]+)", text, re.M):
+    for head in re.finditer(r"^ *(?:pub(?:\([a-z]+\))? )?(?:extern \"C\" )?fn ([a-z_0-9]+)", text, re.M):
         at = text.index("(", head.end())
         indent = len(head.group(0)) - len(head.group(0).lstrip())
         begin = text.find("\n" + " " * indent + "{\n", at)
