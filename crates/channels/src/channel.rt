@@ -52,7 +52,7 @@ impl<'a> Rows<'a> {
     }
 }
 
-// Channel n is c.
+// Channel n is c. A plain slice, since it is written (deeds.rt).
 pub fn save(c: Channel, n: usize, mem: &mut [u8])
     requires { (n < channels) × (rows_end ≤ length mem.old) }
     ensures { mem.new ≡ saved mem.old n c }

@@ -36,7 +36,7 @@ pub fn room_for(lengths: &[u8]) -> usize
     room
 }
 
-// Every channel with its lengths, and free.
+// Every channel with its lengths, and free. A plain slice, since it is written (deeds.rt).
 pub fn set_up(mem: &mut [u8], lengths: &[u8])
     requires { (length lengths.now ≡ length_octets) × (rows_end ≤ length mem.old) }
     ensures { mem.new ≡ set_up mem.old lengths.now channels }

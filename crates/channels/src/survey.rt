@@ -94,6 +94,7 @@ fn all(rows: Rows) -> Option<usize>
 }
 
 // How much room the buffers of all channels take; none where one breaks the rules. Few stations use more than four channels.
+// A plain slice: here its Rows are made.
 pub fn survey_of(mem: &[u8]) -> Option<usize>
     requires { rows_end ≤ length mem.now }
     ensures { result ≡ surveyed mem.now 0 channels }

@@ -1,5 +1,6 @@
 // The bench loop: it holds the unpacked state in a local and lends it for every octet and Tick; the state is unpacked once,
-// and packed again at the end.
+// and packed again at the end. Safe is asked as it is at the steps (station/src/reading.rt); whether the memory is well is an answer here and no
+// refusal.
 ghost use Rattle.std.specs.Prelude.{◌≡◌, ◌++◌};
 ghost use Rattle.steps.specs.Calls.{well_memory, memory_after};
 ghost use Rattle.steps.specs.Safe.{Safe};

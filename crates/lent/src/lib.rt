@@ -1,5 +1,5 @@
 // The unpacked state, lent to be changed by octet and tick. Each hands it by value to the station's step and stores what
-// comes back.
+// comes back. Safe is asked as it is at the steps (station/src/reading.rt).
 #![tactic(auto)]
 
 pub mod bench;

@@ -203,7 +203,7 @@ fn print_front(rt: &impl Print, mem: &[u8; 512]) -> io::Result<()> {
     println!(rt; "{}", Hex(&mem[..192]))
 }
 
-// What a memory holds, saved in another.
+// What a memory holds, saved in another. A plain slice: here its Rows and its Image are made.
 fn saved_again(mem: &[u8]) -> [u8; 512]
     requires { rows_end ≤ length mem.now }
 {

@@ -52,7 +52,7 @@ const TABLE: [Point; 7] = [
     Point::GlobalControl,
 ];
 
-// The number that a telegram to the point has as DSAP.
+// The number that a telegram to the point has as DSAP. A function of its own: its contract ties the discriminant to the definition.
 fn number_of(point: Point) -> u8
     ensures { result ≡ number_of point }
 {

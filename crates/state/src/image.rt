@@ -144,7 +144,7 @@ pub fn octets(s: State) -> [u8; 68]
     ]
 }
 
-// The state's octets at the front of the memory; what lies behind them stays.
+// The state's octets at the front of the memory; what lies behind them stays. The length is asked for as in saving.rt.
 pub fn save(s: State, mem: &mut [u8])
     requires { image_length ≤ length mem.old }
     ensures { mem.new ≡ image s ++ drop image_length mem.old }

@@ -35,7 +35,7 @@ fn double_at(mem: &[u8], i: usize) -> u32
     word::half(mem, i)
 }
 
-// The flags of an octet.
+// The flags of an octet. Bits by division here and below: the function for one bit is the rules', which stand above.
 fn flags_in(x: u8) -> Flags
     ensures { result ≡ flags_in x }
 {

@@ -1,5 +1,6 @@
 // Gap, send and tick.
-// Holds is asked of a plain &mut [u8]: it is broken between two saves, and that it holds again is no promise of a step but a theorem (steps/proofs/StaysUndamaged.antt).
+// Holds is asked of a plain &mut [u8]: it is broken between two saves, and that it holds again is no promise of a step but a theorem
+// (steps/proofs/StaysUndamaged.antt). Safe likewise, as in reading.rt.
 #![tactic(auto, using(crate::proofs::Stepping::still, crate::proofs::Ticking::tick_drops, crate::proofs::Ticking::tick_carries_over, crate::proofs::Ticking::tick_rests, crate::proofs::Ticking::tick_counts), unfolding(steps::specs::Bus::paused))]
 
 ghost use Rattle.std.specs.Prelude.{◌≡◌, unwrap_or};

@@ -2,7 +2,8 @@
 // good Data_Exchange, which nearly every telegram to the station is, a telegram that does not act, which is nearly every other one on
 // the line, Slave_Diag, which a master sends more often than the rest, and a repeat, which changes the watchdog alone, have ways of
 // their own.
-// Holds is asked of a plain &mut [u8]: it is broken between two saves, and that it holds again is no promise of a step but a theorem (steps/proofs/StaysUndamaged.antt).
+// Holds is asked of a plain &mut [u8]: it is broken between two saves, and that it holds again is no promise of a step but a theorem
+// (steps/proofs/StaysUndamaged.antt).
 ghost use Rattle.std.specs.Prelude.{◌≡◌, ◌≤◌, true, false, length, if◌then◌else◌};
 ghost use Rattle.state.specs.Layout.{image_length};
 ghost use Rattle.state.specs.Memory.{Holds, Changes};

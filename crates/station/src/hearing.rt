@@ -1,6 +1,7 @@
 // The bus's octet over the memory that holds the state: an octet reads and writes only the parts of the state that it needs.
 // Every step leaves the memory as the step on the unpacked state (`reading`) would leave it, packed again.
-// Holds is asked of a plain &mut [u8]: it is broken between two saves, and that it holds again is no promise of a step but a theorem (steps/proofs/StaysUndamaged.antt).
+// Holds is asked of a plain &mut [u8]: it is broken between two saves, and that it holds again is no promise of a step but a theorem
+// (steps/proofs/StaysUndamaged.antt).
 ghost use Rattle.std.specs.Prelude.{◌≡◌, ℕ, ◌≤◌, true, false, ◌&&◌, length};
 ghost use Rattle.telegram.specs.Reading.{status, takes_data};
 ghost use Rattle.state.specs.Layout.{image_length};

@@ -1,6 +1,7 @@
 // Each call as a step over the memory that holds its state; nothing of the memory is checked here. Each reads and writes only what it
 // needs of the state. One function for each, as in calls.rt.
-// Holds is asked of a plain &mut [u8]: it is broken between two saves, and that it holds again is no promise of a step but a theorem (steps/proofs/StaysUndamaged.antt).
+// Holds is asked of a plain &mut [u8]: it is broken between two saves, and that it holds again is no promise of a step but a theorem
+// (steps/proofs/StaysUndamaged.antt). Kinds and judgements are plain numbers, as in calls.rt.
 #![tactic(auto, using(crate::proofs::Stepping::still, crate::proofs::Stepping::answered), unfolding(steps::specs::Step::step_over))]
 
 ghost use Rattle.state.specs.Answer.{Meets};

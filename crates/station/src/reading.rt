@@ -107,7 +107,7 @@ pub fn request_by(reader: Reader) -> Request
     }
 }
 
-// The octets of Set_Prm from a place on.
+// The octets of Set_Prm from a place on. By the place and not by a slice of the buffer: no more than these is looked at.
 pub fn prm_at(mem: &[u8], from: usize) -> Prm
     requires { from + 8 ≤ length mem.now }
     ensures { result ≡ prm_at mem.now from }

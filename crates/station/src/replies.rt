@@ -108,7 +108,7 @@ fn header_at(header: Header, ident: u16, i: u8) -> u8
     }
 }
 
-// Octet i of a buffer of len octets, 0 past its end.
+// Octet i of a buffer of len octets, 0 past its end. By the place and not by a slice of the buffer: no more than this octet is looked at.
 fn octet_in(mem: &[u8], from: usize, len: u8, i: u8) -> u8
     requires { from + len ≤ length mem.now }
     ensures { result ≡ slice_index (part mem.now from len) i }

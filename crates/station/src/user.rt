@@ -1,5 +1,6 @@
 // The calls of the vat program over the memory that holds the state: each reads and writes the parts that it needs.
-// Holds is asked of a plain &mut [u8]: it is broken between two saves, and that it holds again is no promise of a step but a theorem (steps/proofs/StaysUndamaged.antt).
+// Holds is asked of a plain &mut [u8]: it is broken between two saves, and that it holds again is no promise of a step but a theorem
+// (steps/proofs/StaysUndamaged.antt). Kinds and judgements are plain numbers, as in calls.rt.
 #![tactic(auto, using(crate::proofs::Stepping::still), unfolding(steps::specs::User::take_outputs, steps::specs::User::read_octet, steps::specs::User::write_octet, steps::specs::User::hand_over, steps::specs::User::new_diagnosis, steps::specs::User::judge_parameters, steps::specs::User::judge_configuration, steps::specs::User::acknowledge_events))]
 
 ghost use Rattle.std.specs.Prelude.{◌≡◌, true, false, eqb, leb, IfOk, IfErr};

@@ -66,7 +66,7 @@ impl Reader {
         Reader::begun(Phase::Start, Kind::Sd1, 0)
     }
 
-    // Broken off: octets are ignored.
+    // Broken off: octets are ignored. Apart from start: two names for two states of the line.
     pub fn off() -> Reader
         ensures { result ≡ off }
     {
