@@ -11,7 +11,6 @@ use Rattle.buffers.specs.Roles.{fill_of, next_of, held_of, back_of, Permutation}
 use Rattle.buffers.specs.Number.{before, number_of, permutations, places_of, number_of4, permutations4, places_of4}
 use lib.Pointwise.{pointwise}
 use Rattle.std.specs.Cmp.Lexicographic.{same_text}
-use Rattle.std.proofs.lemmas.List.{get_or_past}
 use Rattle.std.proofs.lemmas.Bool.{and_parts}
 use Rattle.buffers.proofs.Below.{all_below, passes_below}
 use Rattle.buffers.proofs.Roles.{permutes, tested}
@@ -50,11 +49,6 @@ listed w (l ∷ table) h zero none e t =
     let r = and_parts (eqb (length l) w) (permutes w l) q in
     tested w l (eqb-true (length l) w r.0) r.1
 listed w (l ∷ table) h (suc n) none e t = listed w table (and_parts (is_permutation w l) (all_in (is_permutation w) table) h).1 n none e t
-
--- where what stands for none is the first, it is given at 0 and past the end
-pub first_listed : (table : List (List ℕ)) (n : ℕ) (none : List ℕ) → get_or table 0 none ≡ none → (n < length table → n ≡ 0) → get_or table n none ≡ none
-first_listed table zero none first only = first
-first_listed table (suc n) none first only = get_or_past table (suc n) none (grind (arith, only))
 
 -- ---- three roles
 
