@@ -37,11 +37,11 @@ says_none t x e = sym (ap (λ (u : Bool). cond u (Some x) None) e)
 pub says_room : (t : Bool) (x y : ℕ) → t ≡ true → y ≡ x → Some y ≡ cond t (Some x) None
 says_room t x y e f = ap Some f ∙ sym (ap (λ (u : Bool). cond u (Some x) None) e)
 
-told_room : (t : Bool) (x y : ℕ) → cond t (Some x) None ≡ Some y → (t ≡ true) × (y ≡ x)
+pub told_room : (t : Bool) (x y : ℕ) → cond t (Some x) None ≡ Some y → (t ≡ true) × (y ≡ x)
 told_room true x y e = (refl, cc)
 told_room false x y e = cc
 
-told_none : (t : Bool) (x : ℕ) → cond t (Some x) None ≡ None → t ≡ false
+pub told_none : (t : Bool) (x : ℕ) → cond t (Some x) None ≡ None → t ≡ false
 told_none true x e = cc
 told_none false x e = refl
 
@@ -98,12 +98,12 @@ unfolding surveyed
 found_says m k j x h = says_room (each_from (well_at m) k j) (room_from (lengths_in m) k j) x h.0 h.1
 
 -- and what is told is so
-says_found : (m : List ℕ) (k j x : ℕ) → surveyed m k j ≡ Some x → Found m k j x
+pub says_found : (m : List ℕ) (k j x : ℕ) → surveyed m k j ≡ Some x → Found m k j x
 unfolding surveyed
 says_found m k j x e = told_room (each_from (well_at m) k j) (room_from (lengths_in m) k j) x e
 
 -- the room is small where the octets are
-found_small : (m : List ℕ) (k j x : ℕ) → ((i : ℕ) → get_or m i 0 < 256) → Found m k j x → x ≤ 512 * j
+pub found_small : (m : List ℕ) (k j x : ℕ) → ((i : ℕ) → get_or m i 0 < 256) → Found m k j x → x ≤ 512 * j
 found_small m k j x small h =
     let u = rooms_small m k j small in
     let v : x ≡ room_from (lengths_in m) k j = h.1 in

@@ -13,7 +13,7 @@ unfolding rounded_up
 rounded_small n h = omega arith
 
 -- j channels from channel k on
-room_from_small : (z : Lengths) (k j : ℕ) → ((i : ℕ) → i < j → (s : Side) → z (k + i) s < 256) → room_from z k j ≤ 512 * j
+pub room_from_small : (z : Lengths) (k j : ℕ) → ((i : ℕ) → i < j → (s : Side) → z (k + i) s < 256) → room_from z k j ≤ 512 * j
 unfolding room_from
 room_from_small z k zero h = omega arith
 room_from_small z k (suc j) h =

@@ -52,6 +52,14 @@ impl<'a> Rows<'a> {
     }
 }
 
+// Channel n of a memory that has the rows, for a caller that holds it as a plain slice.
+pub fn load(mem: &[u8], n: usize) -> Channel
+    requires { (n < channels) × (rows_end ≤ length mem.now) }
+    ensures { result ≡ loaded mem.now n }
+{
+    Rows { octets: mem }.load(n)
+}
+
 // Channel n is c. A plain slice, since it is written (deeds.rt).
 pub fn save(c: Channel, n: usize, mem: &mut [u8])
     requires { (n < channels) × (rows_end ≤ length mem.old) }

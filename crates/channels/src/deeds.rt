@@ -1,10 +1,11 @@
 // What becomes of a channel. A request is open, so that the channel is occupied, exactly if the indication's count is not 0.
 // The functions that write ask for the rows one by one: a type over &mut would need a clause in each that the reference stays the same.
+// Those that read take a plain slice too: what their callers hold.
 ghost use Rattle.std.specs.Prelude.{◌≡◌, ◌+◌, ◌<◌, ◌≤◌, length};
 ghost use Rattle.channels.specs.Image.{channels, rows_end};
 ghost use Rattle.channels.specs.Deeds.{is_open, is_given, takes_response, is_set_up, filled, responded, freed, channel_in, filled_in, freed_in, responded_in, emptied};
 
-use crate::channel::{CHANNELS, Channel, INDICATION_COUNTS, Rows, save};
+use crate::channel::{CHANNELS, Channel, INDICATION_COUNTS, load, save};
 use octets::{clear_at, copy_at};
 
 // A request is open.
@@ -29,10 +30,11 @@ pub fn takes_response(c: Channel, k: usize) -> bool
 }
 
 // Whether there is a channel of that number, and it is set up.
-pub fn is_set_up(rows: Rows, n: u32) -> bool
-    ensures { result ≡ is_set_up rows.entry.octets.now n }
+pub fn is_set_up(mem: &[u8], n: u32) -> bool
+    requires { rows_end ≤ length mem.now }
+    ensures { result ≡ is_set_up mem.now n }
 {
-    n < 16 && rows.load(n as usize).indication_len != 0
+    n < 16 && load(mem, n as usize).indication_len != 0
 }
 
 // A channel that a request of so many octets filled: no response stands.
@@ -61,11 +63,12 @@ fn freed(mut c: Channel) -> Channel
 }
 
 // Channel n, where there is one of that number, and else one that is not set up.
-pub fn channel_in(rows: Rows, n: u8) -> Channel
-    ensures { result ≡ channel_in rows.entry.octets.now n }
+pub fn channel_in(mem: &[u8], n: u8) -> Channel
+    requires { rows_end ≤ length mem.now }
+    ensures { result ≡ channel_in mem.now n }
 {
     if n < 16 {
-        rows.load(n as usize)
+        load(mem, n as usize)
     } else {
         Channel::default()
     }
@@ -78,7 +81,7 @@ pub fn fill(mem: &mut [u8], n: u8, count: u8)
     ensures { mem.new ≡ filled_in mem.old n count }
 {
     if n < 16 {
-        let c = Rows { octets: &mem[..] }.load(n as usize);
+        let c = load(mem, n as usize);
         save(filled(c, count), n as usize, mem);
     }
 }
@@ -89,7 +92,7 @@ pub fn free(mem: &mut [u8], n: u8)
     ensures { mem.new ≡ freed_in mem.old n }
 {
     if n < 16 {
-        let c = Rows { octets: &mem[..] }.load(n as usize);
+        let c = load(mem, n as usize);
         save(freed(c), n as usize, mem);
     }
 }
@@ -99,7 +102,7 @@ pub fn respond(mem: &mut [u8], n: usize, at: usize, response: &[u8])
     requires { (n < channels) × (rows_end ≤ length mem.old) × (at + length response.now ≤ length mem.old) × (length response.now ≤ 255) }
     ensures { mem.new ≡ responded_in mem.old n at response.now }
 {
-    let c = Rows { octets: &mem[..] }.load(n);
+    let c = load(mem, n);
     copy_at(mem, at, response);
     save(responded(c, response.len() as u8), n, mem);
 }
