@@ -23,7 +23,7 @@ pub record Partly (end : Stepped) (t : State) (zs : List ℕ) (rest : List Beat)
   pub comes : run_beats t zs rest ≡ end
 
 module _ {end : Stepped} {t : State} {zs : List ℕ} where
-  partly_next : (b : Beat) {rest : List Beat} {u : State} {us : List ℕ} → Partly end t zs (b ∷ rest) → Steps (beat t zs b) u us → Partly end u us rest
+  pub partly_next : (b : Beat) {rest : List Beat} {u : State} {us : List ℕ} → Partly end t zs (b ∷ rest) → Steps (beat t zs b) u us → Partly end u us rest
   partly_next b {rest} {u} {us} p e = record {
     safe = safe_steps (beat t zs b) u us e (safe_beat t zs p.safe b);
     comes = (λ i. run_beats (e.states i) (e.leaves i) rest) ∙ p.comes;

@@ -11,7 +11,7 @@ module _ (r : Reader) (e : takes_data r ≡ true) where
   unfolding takes_data
   data_body = grind (arith, e)
 
-  data_room : r.at < r.count
+  pub data_room : r.at < r.count
   unfolding takes_data
   data_room = grind (arith, e)
 
