@@ -56,7 +56,11 @@ pub fn setup_of(given: Given, get_cfg: usize, channels: &[u8]) -> Result<Setup, 
     if 126 < given.address {
         return Err(Refusal::Address);
     }
-    if !(lengths_ok(given, get_cfg) & setting::lengths_ok(channels)) {
+    if !lengths_ok(given, get_cfg) {
+        return Err(Refusal::Length);
+    }
+    // Not joined with the test before it: this one is a loop, and a Start that is refused there does not pay for it.
+    if !setting::lengths_ok(channels) {
         return Err(Refusal::Length);
     }
     Ok(narrowed(given, get_cfg))
