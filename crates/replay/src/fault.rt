@@ -1,5 +1,5 @@
 // Why a line has no answer.
-use std::alloc::AllocError;
+use std::alloc::{AllocError, AllocFailed};
 use std::num::TryFromIntError;
 
 #[derive(Clone, Copy, Debug)]
@@ -10,6 +10,12 @@ pub enum Fault {
 
 impl From<AllocError> for Fault {
     fn from(_e: AllocError) -> Fault {
+        Fault::OutOfMemory
+    }
+}
+
+impl From<AllocFailed<u8>> for Fault {
+    fn from(_e: AllocFailed<u8>) -> Fault {
         Fault::OutOfMemory
     }
 }

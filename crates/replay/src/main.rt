@@ -17,11 +17,16 @@ mod call;
 mod fault;
 mod text;
 
+use begin::Station;
 use call::Call;
 use fault::Fault;
-use std::alloc::{AllocError, Global};
+use std::alloc::AllocError;
 use std::io::Read;
 use std::{fmt, io};
+use text::{MOST_WORDS, read_words};
+
+// The most octets of a text.
+const MOST_READ: usize = 65536;
 
 // What a call answers. A refusal's number is an octet at most; an answer below that would be none.
 #[derive(Clone, Copy)]
@@ -36,26 +41,23 @@ impl fmt::Display for Answer {
     }
 }
 
-// What the call of a line answers, None for a line to skip.
-fn answer_to(alloc: Global, memory: &mut Vec<u8>, words: &[&[u8]]) -> Result<Option<i64>, Fault> {
+// What the call of a line answers.
+fn answer_to(station: &mut Station, words: &[&[u8]]) -> Result<i64, Fault> {
     match words {
-        [] | [[b'#', ..], ..] => Ok(None),
-        [b"start", asked @ ..] => Ok(Some(begin::begin(alloc, memory, asked)?)),
-        _ => Ok(Some(Call::try_from(words)?.run(memory))),
+        [b"start", asked @ ..] => station.begin(asked),
+        _ => Ok(Call::try_from(words)?.run(&mut station.memory)),
     }
 }
 
 // One line: its call and what it says.
 fn one_line(
-    rt: &(impl Print + AllocGlobal),
-    memory: &mut Vec<u8>,
-    line: &[u8],
+    rt: &impl Print,
+    station: &mut Station,
+    words: &[&[u8]],
     number: usize,
 ) -> io::Result<()> {
-    let words = text::words_of(rt.alloc(), line)?;
-    match answer_to(rt.alloc(), memory, &words) {
-        Ok(Some(answer)) => println!(rt; "{}", Answer(answer)),
-        Ok(None) => Ok(()),
+    match answer_to(station, words) {
+        Ok(answer) => println!(rt; "{}", Answer(answer)),
         Err(Fault::NoCall) => println!(rt; "? line {number}"),
         Err(Fault::OutOfMemory) => Err(io::Error::from(AllocError)),
     }
@@ -63,18 +65,26 @@ fn one_line(
 
 // Every line of a text, on a memory that is empty before the first Start.
 fn replay(rt: &(impl Print + AllocGlobal), source: &[u8]) -> io::Result<()> {
-    let mut memory = Vec::new(rt.alloc());
+    let mut station = Station::new(rt.alloc())?;
+    let mut words = Vec::with_capacity(rt.alloc(), MOST_WORDS)?;
     for (line, number) in source.split(|octet| *octet == b'\n').zip(1..) {
-        one_line(rt, &mut memory, line, number)?;
+        read_words(line, &mut words)?;
+        if !words.is_empty() {
+            one_line(rt, &mut station, &words, number)?;
+        }
     }
     Ok(())
 }
 
-// What is read at once is all that is replayed, and the text says where there is more.
+// What is read at once is all that is replayed, and the text says where there is more. Its room has an octet to spare: where it is full,
+// `read_to_end` takes more, at the end too.
 fn main(rt: HostRuntime) -> io::Result<()> {
     let mut reader = rt.reader();
-    let mut source = Vec::new(rt.alloc());
-    reader.by_ref().take(65536).read_to_end(&mut source)?;
+    let mut source = Vec::with_capacity(rt.alloc(), MOST_READ + 1)?;
+    reader
+        .by_ref()
+        .take(MOST_READ as u64)
+        .read_to_end(&mut source)?;
     replay(&rt, &source)?;
     let mut more = Vec::new(rt.alloc());
     if 0 < reader.take(1).read_to_end(&mut more)? {

@@ -1,12 +1,41 @@
 // The words of a line, and the numbers and octets that they stand for.
 use crate::fault::Fault;
-use std::alloc::{AllocError, Global};
+use std::alloc::AllocError;
 
-// The words of a line, none of them empty. Every octet up to 32 is a space, so what ends a line in other systems is one too.
-pub fn words_of(alloc: Global, line: &[u8]) -> Result<Vec<&[u8]>, AllocError> {
-    line.split(|octet| *octet <= 32)
-        .filter(|word| !word.is_empty())
-        .collect(alloc)
+// The most words of a call, and one more: a line that has these has too many, and what follows is not looked at.
+pub const MOST_WORDS: usize = 12;
+
+// The most octets of a row.
+pub const MOST_OCTETS: usize = 255;
+
+// Whether an octet is a space: every one up to 32, so what ends a line in other systems is one too.
+fn is_space(octet: u8) -> bool {
+    octet <= 32
+}
+
+// The first word and what stands behind it, none where there is no word.
+fn first_word(text: &[u8]) -> Option<(&[u8], &[u8])> {
+    let begin = text.iter().position(|octet| !is_space(*octet))?;
+    let (_, found) = text.split_at(begin);
+    let end = found.iter().position(|octet| is_space(*octet));
+    Some(found.split_at(end.unwrap_or(found.len())))
+}
+
+// The words of a line, at most MOST_WORDS of them. A line to skip, one without words or whose first one begins with #, gives none.
+pub fn read_words<'a>(line: &'a [u8], words: &mut Vec<&'a [u8]>) -> Result<(), AllocError> {
+    words.clear();
+    let mut rest = line;
+    for at in 0..MOST_WORDS {
+        let Some((word, behind)) = first_word(rest) else {
+            break;
+        };
+        if at == 0 && matches!(word, [b'#', ..]) {
+            break;
+        }
+        words.push(word)?;
+        rest = behind;
+    }
+    Ok(())
 }
 
 // A word of decimal digits whose value fits 32 bits. No sign: `parse` would take a +.
@@ -34,11 +63,16 @@ pub fn octet_of(word: &[u8]) -> Result<u8, Fault> {
 }
 
 // A word of pairs of hexadecimal digits, or - for none: at most 255 octets, what is longer is cut there.
-pub fn octets_of(alloc: Global, word: &[u8]) -> Result<Vec<u8>, Fault> {
+pub fn read_octets(word: &[u8], octets: &mut Vec<u8>) -> Result<(), Fault> {
+    octets.clear();
     if matches!(word, b"-") {
-        return Ok(Vec::new(alloc));
+        return Ok(());
     }
-    let mut octets: Vec<u8> = word.chunks(2).map(octet_of).try_collect(alloc)?;
-    octets.truncate(255);
-    Ok(octets)
+    for digits in word.chunks(2) {
+        let octet = octet_of(digits)?;
+        if octets.len() < MOST_OCTETS {
+            octets.push(octet)?;
+        }
+    }
+    Ok(())
 }
