@@ -88,7 +88,7 @@ fn main(rt: HostRuntime) -> io::Result<()> {
     replay(&rt, &source)?;
     let mut more = Vec::new(rt.alloc());
     if 0 < reader.take(1).read_to_end(&mut more)? {
-        println!(rt; "? longer than 65536 octets")?;
+        println!(rt; "? longer than {MOST_READ} octets")?;
     }
     Ok(())
 }

@@ -62,7 +62,7 @@ pub fn octet_of(word: &[u8]) -> Result<u8, Fault> {
     }
 }
 
-// A word of pairs of hexadecimal digits, or - for none: at most 255 octets, what is longer is cut there.
+// A word of pairs of hexadecimal digits, or - for none: at most MOST_OCTETS octets, what is longer is cut there.
 pub fn read_octets(word: &[u8], octets: &mut Vec<u8>) -> Result<(), Fault> {
     octets.clear();
     if matches!(word, b"-") {
